@@ -1,0 +1,138 @@
+//! What a run of the program says, and the status that it ends with.
+
+use std::alloc::{AllocError, Global};
+use thiserror::Error;
+
+/// How the program ends: 0 the requirement holds, 1 it doesn't, 2 undecided, 3 a source is refused,
+/// 4 the case is refused, 5 the words are refused, 6 a read fault, 7 a write fault, 8 a trace or a
+/// certificate is refused, 9 want of memory.
+pub type Status = u8;
+
+pub const WRITE_FAULT: Status = 7;
+pub const NO_MEMORY: Status = 9;
+
+/// A text for the sink, and the status that goes with it.
+#[derive(Debug, Drop)]
+pub enum Answer {
+    Report(Report),
+    Refusal(Refusal),
+}
+
+/// The report of a replay.
+#[derive(Debug, Drop)]
+pub struct Report {
+    /// The case's name.
+    pub case: String,
+    pub end: End,
+}
+
+/// How a replay ended.
+#[derive(Clone, Copy, Debug, PartialEq, Eq)]
+pub enum End {
+    /// Each of so many scans kept the requirement.
+    Kept(u64),
+    /// The scan of this number, from 1, is the first that broke it.
+    Broken(u64),
+}
+
+/// Why there is no report. Each is one line for the sink.
+#[derive(Debug, Drop)]
+pub enum Refusal {
+    /// The words have none of the forms.
+    Words,
+    /// The file can't be read.
+    Unread { file: String },
+    /// The file isn't of the form that is built.
+    Unbuilt { part: Part, file: String },
+}
+
+/// What a file is for.
+#[derive(Clone, Copy, Debug, PartialEq, Eq)]
+pub enum Part {
+    Case,
+    Source,
+    Trace,
+}
+
+/// Why a command stops before its report.
+#[derive(Debug, Drop, Error)]
+pub enum Stop {
+    #[error("the input is refused")]
+    Refused(Refusal),
+    #[error("out of memory")]
+    NoMemory,
+}
+
+impl From<AllocError> for Stop {
+    fn from(_error: AllocError) -> Self {
+        Stop::NoMemory
+    }
+}
+
+impl Answer {
+    pub fn status(&self) -> Status {
+        match self {
+            Answer::Report(report) => report.end.status(),
+            Answer::Refusal(refusal) => refusal.status(),
+        }
+    }
+
+    /// The lines for the sink, each ended by a line feed.
+    pub fn text(&self, alloc: Global) -> Result<String, AllocError> {
+        match self {
+            Answer::Report(report) => report.text(alloc),
+            Answer::Refusal(refusal) => refusal.line(alloc),
+        }
+    }
+}
+
+impl End {
+    fn status(self) -> Status {
+        match self {
+            End::Kept(_) => 0,
+            End::Broken(_) => 1,
+        }
+    }
+}
+
+impl Report {
+    fn text(&self, alloc: Global) -> Result<String, AllocError> {
+        let case = self.case.as_str();
+        match self.end {
+            End::Kept(scans) => format!(in alloc;
+                "PLCV 1\ncase {case}\npattern invariant\nreplay kept\nscans {scans}\n"
+            ),
+            End::Broken(scan) => format!(in alloc;
+                "PLCV 1\ncase {case}\npattern invariant\nreplay broken\nscan {scan}\ncause pattern\n"
+            ),
+        }
+    }
+}
+
+impl Refusal {
+    fn status(&self) -> Status {
+        match self {
+            Refusal::Words => 5,
+            Refusal::Unread { .. } => 6,
+            Refusal::Unbuilt { part, .. } => part.status(),
+        }
+    }
+
+    fn line(&self, alloc: Global) -> Result<String, AllocError> {
+        match self {
+            Refusal::Words => String::from_str(alloc, "plcv: words\n"),
+            Refusal::Unread { file } => format!(in alloc; "plcv: read {file}\n"),
+            Refusal::Unbuilt { file, .. } => format!(in alloc; "plcv: form {file}\n"),
+        }
+    }
+}
+
+impl Part {
+    fn status(self) -> Status {
+        match self {
+            Part::Source => 3,
+            Part::Case => 4,
+            Part::Trace => 8,
+        }
+    }
+}

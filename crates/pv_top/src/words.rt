@@ -1,0 +1,20 @@
+//! The forms of words that the program has.
+
+/// A command with its words.
+#[derive(Clone, Copy, Debug, PartialEq, Eq)]
+pub enum Command<'a> {
+    /// `replay CASE TRACE`: replays the trace on the case's block.
+    Replay { case: &'a str, trace: &'a str },
+}
+
+/// The command that the words spell, if they have one of the forms. Nothing stands before or
+/// after it: there are no options.
+pub fn read_words(words: &[String]) -> Option<Command<'_>> {
+    match words {
+        [verb, case, trace] if verb.as_str() == "replay" => Some(Command::Replay {
+            case: case.as_str(),
+            trace: trace.as_str(),
+        }),
+        _ => None,
+    }
+}
