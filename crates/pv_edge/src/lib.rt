@@ -5,11 +5,11 @@
 #![tactic(auto)]
 
 pub mod made;
-pub mod memory;
+pub mod offer;
 pub mod outside;
 pub mod words;
 
 pub use made::text;
-pub use memory::{MemFiles, MemSink};
+pub use offer::write_all;
 pub use outside::{FileFault, Files, Sink, SinkFault};
 pub use words::Text;

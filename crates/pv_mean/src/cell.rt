@@ -1,6 +1,9 @@
 //! The cell table of a block.
+ghost use Rattle.std.specs.Prelude.{◌≡◌, IfOk};
+ghost use Rattle.pv_mean.specs.Cells.{cell_of, cells_of, role_of};
+ghost use Rattle.pv_mean.specs.Values.{value, Value};
 
-use pv_tree::{Text, make_text};
+use pv_edge::{Text, text};
 use pv_tree::{Block, DeclType, Section, Ty, Var};
 use std::alloc::{AllocError, Global};
 
@@ -27,31 +30,37 @@ pub struct Cell {
 }
 
 /// The cells of a block, one for each variable in the order of the declarations. A cell without a
-/// declared start value starts at zero.
-pub fn cells(alloc: Global, block: &Block) -> Result<Vec<Cell>, AllocError> {
+/// declared start value starts at zero. The one error is want of memory.
+pub fn cells(alloc: Global, block: &Block) -> Result<Vec<Cell>, AllocError>
+    ensures { IfOk result (λ cells. cells.items ≡ cells_of block.now) }
+{
     let mut table = Vec::with_capacity(alloc, block.interface.vars.len())?;
     for var in &block.interface.vars {
-        table.push(cell_of(alloc, var)?)?;
+        table.push(make_cell(alloc, var)?)?;
     }
     Ok(table)
 }
 
-fn cell_of(alloc: Global, var: &Var) -> Result<Cell, AllocError> {
+fn make_cell(alloc: Global, var: &Var) -> Result<Cell, AllocError>
+    ensures { IfOk result (λ cell. cell ≡ cell_of var.now) }
+{
     let DeclType::Plain(ty) = var.ty;
     let start = match &var.start {
         Some(literal) => literal.value,
         None => 0,
     };
     Ok(Cell {
-        path: make_text(alloc, var.name.spelled.bytes())?,
+        path: text(alloc, var.name.spelled.bytes())?,
         ty,
         start,
-        role: role_of(var.section),
+        role: make_role(var.section),
         bound: None,
     })
 }
 
-fn role_of(section: Section) -> Role {
+fn make_role(section: Section) -> Role
+    ensures { result ≡ role_of section }
+{
     match section {
         Section::Input => Role::Input,
         Section::Output | Section::Static => Role::Kept,

@@ -1,9 +1,9 @@
 //! The case file: one JSON object that names the sources, the entry block, the requirement and the
 //! limits.
 
+use pv_tree::ReadFault;
 use serde_json::Value;
-use std::alloc::{AllocError, Global};
-use thiserror::Error;
+use std::alloc::Global;
 
 /// A case of the form that is built today: one SCL source, an invariant, no parameters.
 #[derive(Debug, Drop)]
@@ -32,20 +32,6 @@ pub struct Limits {
     pub region_words: u64,
 }
 
-#[derive(Debug, PartialEq, Eq, Drop, Error)]
-pub enum CaseFault {
-    #[error("the case isn't of the form")]
-    NotOfForm,
-    #[error("out of memory")]
-    NoMemory,
-}
-
-impl From<AllocError> for CaseFault {
-    fn from(_error: AllocError) -> Self {
-        CaseFault::NoMemory
-    }
-}
-
 /// The longest text value of a case, in bytes.
 const TEXT_LIMIT: usize = 4_194_304;
 /// The longest name of a case, in bytes.
@@ -53,20 +39,20 @@ const NAME_LIMIT: usize = 64;
 
 /// Reads a case. It is NotOfForm where the bytes are no JSON object with exactly the members of the
 /// form, each obeying its rule; of a member that stands twice the last one counts.
-pub fn read_case(alloc: Global, bytes: &[u8]) -> Result<Case, CaseFault> {
+pub fn read_case(alloc: Global, bytes: &[u8]) -> Result<Case, ReadFault> {
     let Ok(text) = str::from_utf8(bytes) else {
-        return Err(CaseFault::NotOfForm);
+        return Err(ReadFault::NotOfForm);
     };
     match Value::from_str(alloc, text) {
         Ok(value) => case_of(alloc, &value),
-        Err(error) if error.is_memory() => Err(CaseFault::NoMemory),
-        Err(_) => Err(CaseFault::NotOfForm),
+        Err(error) if error.is_memory() => Err(ReadFault::NoMemory),
+        Err(_) => Err(ReadFault::NotOfForm),
     }
 }
 
-fn case_of(alloc: Global, value: &Value) -> Result<Case, CaseFault> {
+fn case_of(alloc: Global, value: &Value) -> Result<Case, ReadFault> {
     let Some(parts) = parts_of(value) else {
-        return Err(CaseFault::NotOfForm);
+        return Err(ReadFault::NotOfForm);
     };
     Ok(Case {
         name: String::from_str(alloc, parts.name)?,

@@ -1,13 +1,11 @@
 //! The command `replay CASE TRACE`.
 
-use crate::answer::{End, Part, Refusal, Report, Stop};
-use crate::case::{Case, CaseFault, read_case};
-use crate::program::{Assignment, Term, execute, place, program_of, term_of, value_of};
-use crate::trace::{next_scan, scans};
+use crate::answer::{Part, Refusal, Report, Stop};
+use crate::case::read_case;
+use crate::machine::machine_of;
 use pv_edge::{FileFault, Files};
-use pv_mean::{Cell, Role, cells};
-use pv_tree::{Block, ReadFault, read_block, read_expression, read_name, scope_of};
-use std::alloc::{AllocError, Global};
+use pv_tree::ReadFault;
+use std::alloc::Global;
 
 /// Replays the trace on the case's block, scan by scan, up to the first that breaks the invariant.
 /// The case is read and refused first, then the source, then the trace.
@@ -19,10 +17,11 @@ pub fn replay<F: Files>(
 ) -> Result<Report, Stop> {
     let bytes = read(alloc, files, case_file)?;
     let case = accept(alloc, read_case(alloc, &bytes), Part::Case, case_file)?;
-    let bytes = read(alloc, files, case.file.as_str())?;
-    let machine = accept(alloc, machine_of(alloc, &case, &bytes), Part::Source, case.file.as_str())?;
+    let source = case.file.as_str();
+    let bytes = read(alloc, files, source)?;
+    let machine = accept(alloc, machine_of(alloc, &case, &bytes), Part::Source, source)?;
     let bytes = read(alloc, files, trace_file)?;
-    let end = accept(alloc, machine.run(alloc, &bytes), Part::Trace, trace_file)?;
+    let end = accept(alloc, machine.replay(alloc, &bytes), Part::Trace, trace_file)?;
     Ok(Report {
         case: case.name,
         end,
@@ -37,5 +36,22 @@ fn read<F: Files>(alloc: Global, files: &mut F, name: &str) -> Result<Vec<u8>, S
             Err(Stop::Refused(Refusal::Unread { file }))
         }
         Err(FileFault::NoMemory) => Err(Stop::NoMemory),
+    }
+}
+
+/// What was read from a file, or the refusal of its form.
+fn accept<T: Drop>(
+    alloc: Global,
+    found: Result<T, ReadFault>,
+    part: Part,
+    name: &str,
+) -> Result<T, Stop> {
+    match found {
+        Ok(value) => Ok(value),
+        Err(ReadFault::NotOfForm) => {
+            let file = String::from_str(alloc, name)?;
+            Err(Stop::Refused(Refusal::Unbuilt { part, file }))
+        }
+        Err(ReadFault::NoMemory) => Err(Stop::NoMemory),
     }
 }

@@ -4,7 +4,6 @@
 //! read today is one SCL function block over BOOL variables, whose only dropped text is white space.
 #![tactic(auto)]
 
-mod edge;
 mod fault;
 mod lex;
 mod name;
@@ -14,7 +13,7 @@ mod scope;
 mod tree;
 mod words;
 
-pub use edge::{Text, make_text};
+
 pub use fault::ReadFault;
 pub use name::{Name, read_name};
 pub use parse::{read_block, read_expression};

@@ -1,6 +1,6 @@
 //! Names of blocks and variables.
 
-use crate::edge::Text;
+use pv_edge::Text;
 use crate::fault::ReadFault;
 use std::alloc::Global;
 

@@ -1,0 +1,6 @@
+pub mod Cells
+pub mod Frames
+pub mod Values
+pub mod Statements
+pub mod Scans
+pub mod Runs

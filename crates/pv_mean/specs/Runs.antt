@@ -1,0 +1,20 @@
+-- A run of a block: the scans over a list of inputs, up to the first that isn't done.
+use Rattle.std.specs.Prelude.{List, [], ◌∷◌}
+use Rattle.pv_tree.specs.declared.tree.Block.{Block}
+use Rattle.pv_mean.specs.Cells.{cells_of}
+use Rattle.pv_mean.specs.Frames.{Image, Input, start_image}
+use Rattle.pv_mean.specs.Statements.{Ending, normal}
+use Rattle.pv_mean.specs.Scans.{Scan, scan, next_image}
+
+-- the scans that follow a scan, where it is done
+abbrev pub after : Block → Ending → (Image → List Scan) → List Scan
+after block (normal frame) more = more (next_image block frame)
+
+-- the scans from an image on
+abbrev pub run_from : Block → Image → List Input → List Scan
+run_from block image [] = []
+run_from block image (input ∷ inputs) = let s = scan block image input in s ∷ after block s.ending (λ next. run_from block next inputs)
+
+-- the run of the block over the inputs
+abbrev pub run : Block → List Input → List Scan
+run block inputs = run_from block (start_image (cells_of block)) inputs
