@@ -1,4 +1,7 @@
 //! How a whole text is handed to a sink.
+ghost use Rattle.std.specs.Prelude.{◌≡◌, ◌≤◌, ◌<◌, ℕ, List, Option, IfOk, IfErr, IfSome, IsErr, IsErrOf, OnOk, OnErr, Some, None, length, take};
+ghost use Rattle.pv_edge.specs.Faults.{HasRisen};
+ghost use Rattle.pv_edge.specs.Sink.{Takes, TakesPart};
 
 use crate::outside::{Sink, SinkFault};
 
@@ -6,13 +9,19 @@ use crate::outside::{Sink, SinkFault};
 ///
 /// `Failed` comes where a call of the sink failed or took nothing.
 pub fn write_all<S: Sink>(out: &mut S, bytes: &[u8]) -> Result<(), SinkFault>
+    ensures ok { OnOk result (Takes bytes.now (S.taken out.old) (S.taken out.new)) }
+    ensures err { OnErr result (TakesPart bytes.now (S.taken out.old) (S.taken out.new)) }
+    ensures failed { IsErrOf result SinkFault.Failed → HasRisen (S.faults out.old) (S.faults out.new) }
+    ensures never_falls { S.faults out.old ≤ S.faults out.new }
 {
     let mut rest = bytes;
-    for _ in 0..u32::MAX {
-        if rest.is_empty() { return Ok(()); }
+    while !rest.is_empty() {
         match out.write(rest) {
             Ok(0) => return Err(SinkFault::Failed),
-            Ok(n) => rest = &rest[n..],
+            Ok(n) => {
+                let (_, left) = rest.split_at(n);
+                rest = left;
+            }
             Err(fault) => return Err(fault),
         }
     }

@@ -1,6 +1,7 @@
--- The cell table of a block: a cell for each variable, in the order of the declarations (S7-SCL manual, block variables).
-use Rattle.std.specs.Prelude.{◌≡◌, ◌==◌, List, map, filter, length, Bool, true, false, ℤ, pos, Option, Some, None, bytes_eq}
-use Rattle.pv_tree.specs.declared.tree.Ty.{Ty}
+-- The cell table of a block: a cell for each variable, in the order of the declarations (S7-SCL manual, declarations of a block).
+use Rattle.std.specs.Prelude.{List, map, Bool, true, false, ℕ, ℤ, pos, Option, Some, None, bytes_eq}
+use Rattle.std.specs.Str.{str_to_ascii_lowercase}
+use Rattle.pv_word.specs.declared.types.Ty.{Ty}
 use Rattle.pv_tree.specs.declared.tree.DeclType.{DeclType}
 use Rattle.pv_tree.specs.declared.tree.DeclType.TheVariants.{Plain}
 use Rattle.pv_tree.specs.declared.tree.Section.{Section}
@@ -33,10 +34,14 @@ cell_of v = record { path = v.name.spelled; ty = type_of v.ty; start = start_of 
 abbrev pub cells_of : Block → List Cell
 cells_of block = map cell_of block.interface.vars.items
 
+-- a path without regard to case
+abbrev pub key_of_path : Cell → List ℕ
+key_of_path c = str_to_ascii_lowercase c.path
+
+-- the cell has the path of this key
+abbrev pub has_key : List ℕ → Cell → Bool
+has_key key c = bytes_eq key (key_of_path c)
+
 abbrev pub is_input : Role → Bool
 is_input Input = true
 is_input Kept = false
-
-abbrev pub is_kept : Role → Bool
-is_kept Input = false
-is_kept Kept = true

@@ -1,8 +1,8 @@
--- Images and frames. An image has the values of the kept cells, an input those of the input cells, and a frame, which a
--- scan works on, those of all cells, each in the order of the table.
-use Rattle.std.specs.Prelude.{List, [], ◌∷◌, map, filter, length, ℕ, ℤ, pos, if◌then◌else◌}
+-- Images, inputs and frames. An image has the values of the kept cells, an input those of the input cells, and a frame, which
+-- a scan works on, those of all cells, each in the order of the table.
+use Rattle.std.specs.Prelude.{List, [], ◌∷◌, map, filter, length, not, ℕ, ℤ, pos, if◌then◌else◌}
 use Rattle.pv_mean.specs.declared.cell.Cell.{Cell}
-use Rattle.pv_mean.specs.Cells.{is_input, is_kept}
+use Rattle.pv_mean.specs.Cells.{is_input}
 
 abbrev pub Image : Type 0
 Image = List ℤ
@@ -13,32 +13,29 @@ Input = List ℤ
 abbrev pub Frame : Type 0
 Frame = List ℤ
 
--- the first of a list of values, and the rest
+-- the first of the values, and the others
 abbrev pub first : List ℤ → ℤ
 first [] = pos 0
 first (v ∷ vs) = v
 
-abbrev pub rest : List ℤ → List ℤ
-rest [] = []
-rest (v ∷ vs) = vs
+abbrev pub others : List ℤ → List ℤ
+others [] = []
+others (v ∷ vs) = vs
 
--- how many values an image and an input have
-abbrev pub image_len : List Cell → ℕ
-image_len cells = length (filter (λ c. is_kept c.role) cells)
-
+-- how many values an input has
 abbrev pub input_len : List Cell → ℕ
 input_len cells = length (filter (λ c. is_input c.role) cells)
 
 -- the image before the first scan
 abbrev pub start_image : List Cell → Image
-start_image cells = map (λ c. c.start) (filter (λ c. is_kept c.role) cells)
+start_image cells = map (λ c. c.start) (filter (λ c. not (is_input c.role)) cells)
 
 -- the frame at a scan's beginning: the image and the input stand in their cells
 abbrev pub begin : List Cell → Image → Input → Frame
 begin [] image input = []
-begin (c ∷ cs) image input = if is_input c.role then first input ∷ begin cs image (rest input) else first image ∷ begin cs (rest image) input
+begin (c ∷ cs) image input = if is_input c.role then first input ∷ begin cs image (others input) else first image ∷ begin cs (others image) input
 
 -- the image that a frame leaves: the values of the kept cells
 abbrev pub image_of : List Cell → Frame → Image
 image_of [] frame = []
-image_of (c ∷ cs) frame = if is_kept c.role then first frame ∷ image_of cs (rest frame) else image_of cs (rest frame)
+image_of (c ∷ cs) frame = if is_input c.role then image_of cs (others frame) else first frame ∷ image_of cs (others frame)

@@ -6,14 +6,14 @@ use Rattle.pv_mean.specs.Frames.{Image, Input, start_image}
 use Rattle.pv_mean.specs.Statements.{Ending, normal}
 use Rattle.pv_mean.specs.Scans.{Scan, scan, next_image}
 
--- the scans that follow a scan, where it is done
+-- the scans that follow one that is done
 abbrev pub after : Block → Ending → (Image → List Scan) → List Scan
 after block (normal frame) more = more (next_image block frame)
 
 -- the scans from an image on
 abbrev pub run_from : Block → Image → List Input → List Scan
 run_from block image [] = []
-run_from block image (input ∷ inputs) = let s = scan block image input in s ∷ after block s.ending (λ next. run_from block next inputs)
+run_from block image (input ∷ inputs) = scan block image input ∷ after block (scan block image input).ending (λ next. run_from block next inputs)
 
 -- the run of the block over the inputs
 abbrev pub run : Block → List Input → List Scan

@@ -1,25 +1,22 @@
 -- One scan of a block (the scan cycle of a programmable controller, as PLCverif models it): image and input are put into
 -- their cells, the block runs to its end, and the kept cells' end values are the next image.
-use Rattle.std.specs.Prelude.{List}
-use Rattle.pv_tree.specs.declared.tree.Stmt.{Stmt}
-use Rattle.pv_tree.specs.declared.tree.Body.{Body}
-use Rattle.pv_tree.specs.declared.tree.Body.TheVariants.{Scl}
 use Rattle.pv_tree.specs.declared.tree.Block.{Block}
+use Rattle.pv_tree.specs.Scope.{statements_of}
 use Rattle.pv_mean.specs.Cells.{cells_of}
 use Rattle.pv_mean.specs.Frames.{Frame, Image, Input, begin, image_of}
 use Rattle.pv_mean.specs.Statements.{Ending, run_list}
 
-abbrev pub statements_of : Body → List Stmt
-statements_of (Scl statements) = statements.items
-
--- a scan: the frame at its beginning and how its statements ended. It is done where they ended normally
+-- the frame at its beginning, and how its statements ended. It is done where they ended normally
 pub record Scan : Type 0 where
   pub beginning : Frame
   pub ending : Ending
 
 abbrev pub scan : Block → Image → Input → Scan
-scan block image input = let frame = begin (cells_of block) image input in record { beginning = frame; ending = run_list (cells_of block) (statements_of block.body) frame }
+scan block image input = record {
+    beginning = begin (cells_of block) image input;
+    ending = run_list (cells_of block) (statements_of block.body) (begin (cells_of block) image input);
+}
 
--- the image that a frame leaves for the next scan
+-- the image that a scan leaves for the next one
 abbrev pub next_image : Block → Frame → Image
 next_image block frame = image_of (cells_of block) frame

@@ -1,14 +1,22 @@
 //! A block as it is replayed: its names are cell numbers, found once before the first scan.
+ghost use Rattle.std.specs.Prelude.{ℕ, ◌≡◌, ◌<◌, ◌≤◌, length, slice_index_or, slice_set, IfOk, OnOk, IfSome, pos};
+ghost use Rattle.pv_word.specs.declared.types.Ty.TheVariants.{Bool};
+ghost use Rattle.pv_word.specs.Types.{InRange};
+ghost use Rattle.pv_tree.specs.Scope.{key_of, statements_of};
+ghost use Rattle.pv_mean.specs.Frames.{input_len, begin, image_of};
+ghost use Rattle.pv_top.specs.declared.program.Assignment.{Assignment};
+ghost use Rattle.pv_top.specs.Programs.{IsTerm, value_in, AreBools, IsAssignment, run_program, IsTermOf, IsAssignmentOf, IsProgramOf, IsNumberAmong};
 
 use pv_mean::{Cell, Role};
 use pv_tree::{BinaryOp, Block, Body, Expr, Operand, ReadFault, Root, Scope, Stmt, UnaryOp};
+use pv_word::Ty;
 use std::alloc::Global;
 
 /// An expression over the cells of a frame.
 #[derive(Drop)]
 pub enum Term {
     Constant(i128),
-    Cell(usize),
+    Load(usize),
     Not(Box<Term>),
     And(Box<Term>, Box<Term>),
     Or(Box<Term>, Box<Term>),
@@ -26,8 +34,20 @@ pub fn program_of(
     alloc: Global,
     scope: &Scope,
     block: &Block,
-) -> Result<Vec<Assignment>, ReadFault> {
+) -> Result<Vec<Assignment>, ReadFault>
+    ensures { IfOk result (λ program. IsProgramOf scope.now (statements_of block.now.body) program.items) }
+{
     let Body::Scl(statements) = &block.body;
+    assignments_of(alloc, scope, statements)
+}
+
+fn assignments_of(
+    alloc: Global,
+    scope: &Scope,
+    statements: &[Stmt],
+) -> Result<Vec<Assignment>, ReadFault>
+    ensures { IfOk result (λ program. IsProgramOf scope.now statements.now program.items) }
+{
     let mut program = Vec::with_capacity(alloc, statements.len())?;
     for statement in statements {
         program.push(assignment_of(alloc, scope, statement)?)?;
@@ -39,7 +59,9 @@ fn assignment_of(
     alloc: Global,
     scope: &Scope,
     statement: &Stmt,
-) -> Result<Assignment, ReadFault> {
+) -> Result<Assignment, ReadFault>
+    ensures { IfOk result (λ a. IsAssignmentOf scope.now statement.now a) }
+{
     let Stmt::Assign { target, value, .. } = statement;
     let target = cell_of(scope, target)?;
     let value = term_of(alloc, scope, value)?;
@@ -47,10 +69,12 @@ fn assignment_of(
 }
 
 /// The term of an expression. NotOfForm where a name isn't declared.
-pub fn term_of(alloc: Global, scope: &Scope, expr: &Expr) -> Result<Term, ReadFault> {
+pub fn term_of(alloc: Global, scope: &Scope, expr: &Expr) -> Result<Term, ReadFault>
+    ensures { IfOk result (λ term. IsTermOf scope.now expr.now term) }
+{
     match expr {
-        Expr::Lit { value, .. } => Ok(Term::Constant(*value)),
-        Expr::Read(operand) => Ok(Term::Cell(cell_of(scope, operand)?)),
+        Expr::Lit { value, .. } => constant(*value),
+        Expr::Read(operand) => Ok(Term::Load(cell_of(scope, operand)?)),
         Expr::Unary { op, arg, .. } => {
             let arg = Box::new(alloc, term_of(alloc, scope, arg)?)?;
             match op {
@@ -71,27 +95,54 @@ pub fn term_of(alloc: Global, scope: &Scope, expr: &Expr) -> Result<Term, ReadFa
     }
 }
 
-fn cell_of(scope: &Scope, operand: &Operand) -> Result<usize, ReadFault> {
+/// The term of a literal. NotOfForm where it is no value of BOOL.
+fn constant(value: i128) -> Result<Term, ReadFault>
+    ensures { IfOk result (λ term. (term ≡ Term.Constant value) × InRange Bool value) }
+{
+    if pv_word::in_range(Ty::Bool, value) {
+        Ok(Term::Constant(value))
+    } else {
+        Err(ReadFault::NotOfForm)
+    }
+}
+
+/// The number of the operand's cell. NotOfForm where its name isn't declared.
+fn cell_of(scope: &Scope, operand: &Operand) -> Result<usize, ReadFault>
+    ensures { IfOk result (λ n. IsNumberAmong scope.now (key_of operand.now) n) }
+{
     let Root::Local { name, .. } = &operand.root;
-    match scope.find(name.key.bytes()) {
-        Some(number) => Ok(number as usize),
+    match scope.find(name) {
+        Some(number) => Ok(number),
         None => Err(ReadFault::NotOfForm),
     }
 }
 
 /// The value of a term in a frame.
-pub fn value_of(term: &Term, frame: &[i128]) -> i128 {
+pub fn value_of(term: &Term, frame: &[i128]) -> i128
+    requires term { IsTerm (length frame.now) term.now }
+    requires bools { AreBools frame.now }
+    ensures value { result ≡ value_in frame.now term.now }
+    ensures range { InRange Bool result }
+{
     match term {
         Term::Constant(value) => *value,
-        Term::Cell(number) => frame[*number],
-        Term::Not(arg) => 1 - value_of(arg, frame),
-        Term::And(left, right) => value_of(left, frame) & value_of(right, frame),
-        Term::Or(left, right) => value_of(left, frame) | value_of(right, frame),
+        Term::Load(number) => frame[*number],
+        Term::Not(arg) => pv_word::not(Ty::Bool, value_of(arg, frame)),
+        Term::And(left, right) => {
+            pv_word::and(Ty::Bool, value_of(left, frame), value_of(right, frame))
+        }
+        Term::Or(left, right) => {
+            pv_word::or(Ty::Bool, value_of(left, frame), value_of(right, frame))
+        }
     }
 }
 
 /// Puts the input's values into the input cells, in table order.
-pub fn place(cells: &[Cell], input: &[i128], frame: &mut [i128]) {
+pub fn place(cells: &[Cell], input: &[i128], frame: &mut [i128])
+    requires cells { length frame.old ≡ length cells.now }
+    requires inputs { length input.now ≡ input_len cells.now }
+    ensures { frame.new ≡ begin cells.now (image_of cells.now frame.old) input.now }
+{
     let mut next = 0;
     for (number, cell) in cells.iter().enumerate() {
         if cell.role == Role::Input {
@@ -102,8 +153,22 @@ pub fn place(cells: &[Cell], input: &[i128], frame: &mut [i128]) {
 }
 
 /// Runs the assignments in order.
-pub fn execute(program: &[Assignment], frame: &mut [i128]) {
+pub fn execute(program: &[Assignment], frame: &mut [i128])
+    requires program { (k : ℕ) (a : Assignment) → k < length program.now → IsAssignment (length frame.old) (slice_index_or program.now k a) }
+    requires bools { AreBools frame.old }
+    ensures frame { frame.new ≡ run_program program.now frame.old }
+    ensures bools { AreBools frame.new }
+{
     for assignment in program {
-        frame[assignment.target] = value_of(&assignment.value, frame);
+        assign(assignment, frame);
     }
+}
+
+fn assign(assignment: &Assignment, frame: &mut [i128])
+    requires assignment { IsAssignment (length frame.old) assignment.now }
+    requires bools { AreBools frame.old }
+    ensures frame { frame.new ≡ slice_set frame.old assignment.now.target (value_in frame.old assignment.now.value) }
+    ensures bools { AreBools frame.new }
+{
+    frame[assignment.target] = value_of(&assignment.value, frame);
 }

@@ -1,12 +1,7 @@
 //! The trees of sources: blocks, declarations, statements and expressions.
 use crate::name::Name;
 use crate::place::Place;
-
-/// A simple type.
-#[derive(Clone, Copy, PartialEq, Eq, Debug)]
-pub enum Ty {
-    Bool,
-}
+use pv_word::Ty;
 
 /// An expression.
 #[derive(Drop)]
