@@ -1,5 +1,5 @@
 -- A block whose names are numbers of cells, as the interpreter has it. No public clause cites this.
-use Rattle.std.specs.Prelude.{◌≡◌, ◌<◌, ℕ, List, [], ◌∷◌, length, map, ℤ, pos, slice_index_or, slice_set, position, bytes_eq, Some}
+use Rattle.std.specs.Prelude.{◌≡◌, ◌<◌, ℕ, List, [], ◌∷◌, length, map, ℤ, pos, slice_index_or, slice_set, position, bytes_eq, Some, All}
 use Rattle.pv_word.specs.declared.types.Ty.TheVariants.{Bool}
 use Rattle.pv_word.specs.Types.{InRange, and_of, or_of, not_of}
 use Rattle.pv_tree.specs.declared.tree.Expr.{Expr}
@@ -60,5 +60,5 @@ pub record IsAssignmentOf (keys : List (List ℕ)) (s : Stmt) (a : Assignment) :
 
 -- the program does what the statements do
 pub record IsProgramOf (keys : List (List ℕ)) (ss : List Stmt) (program : List Assignment) : Type 0 where
-  pub within : (k : ℕ) (a : Assignment) → k < length program → IsAssignment (length keys) (slice_index_or program k a)
+  pub within : All (IsAssignment (length keys)) program
   pub same : (cells : List Cell) (frame : Frame) → keys_of_cells cells ≡ keys → length frame ≡ length cells → run_list cells ss frame ≡ normal (run_program program frame)

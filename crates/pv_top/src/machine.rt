@@ -1,14 +1,26 @@
-//! The machine of a case: the entry block with its names found, and the requirement.
+//! A block that is ready to be replayed: its cells, its statements with their names found, and the
+//! invariant.
+ghost use Rattle.std.specs.Prelude.{◌≡◌, ◌≤◌, length, ℕ, ℤ, List, IfOk, IsErrOf, OnTrue, All};
+ghost use Rattle.pv_word.specs.declared.types.Ty.TheVariants.{Bool};
+ghost use Rattle.pv_word.specs.Types.{InRange};
+ghost use Rattle.pv_tree.specs.declared.tree.Block.{Block};
+ghost use Rattle.pv_tree.specs.declared.tree.Expr.{Expr};
+ghost use Rattle.pv_mean.specs.Cells.{cells_of};
+ghost use Rattle.pv_mean.specs.Frames.{input_len, image_of};
+ghost use Rattle.pv_mean.specs.Runs.{run, run_from};
+ghost use Rattle.pv_top.specs.Traces.{AreScans, scans_text, trace_text};
+ghost use Rattle.pv_top.specs.Programs.{AreBools};
+ghost use Rattle.pv_top.specs.Machines.{IsMachineOf, IsSound, end_after};
 
 use crate::answer::End;
-use crate::case::Case;
 use crate::program::{Assignment, Term, execute, place, program_of, term_of, value_of};
 use crate::trace::{next_scan, scans};
 use pv_mean::{Cell, Role, cells};
-use pv_tree::{Block, ReadFault, read_block, read_expression, read_name, scope_of};
+use pv_tree::{Block, Expr, ReadFault, scope_of};
+use pv_word::Ty;
 use std::alloc::{AllocError, Global};
 
-/// A block that is ready to be replayed.
+/// A block and an invariant over it.
 #[derive(Drop)]
 pub struct Machine {
     cells: Vec<Cell>,
@@ -16,48 +28,79 @@ pub struct Machine {
     invariant: Term,
 }
 
-/// Reads the source and makes the machine of the case. NotOfForm where the source isn't of the form,
-/// its block isn't the case's entry, or the case's invariant is no expression over its variables.
-pub fn machine_of(alloc: Global, case: &Case, source: &[u8]) -> Result<Machine, ReadFault> {
-    let block = read_block(alloc, 0, source)?;
-    let entry = read_name(alloc, case.entry.as_bytes())?;
-    if block.name.key.bytes() != entry.key.bytes() {
-        return Err(ReadFault::NotOfForm);
-    }
-    let invariant = read_expression(alloc, 0, case.invariant.as_bytes())?;
-    let scope = scope_of(alloc, &block)?;
-    Ok(Machine {
-        cells: cells(alloc, &block)?,
-        program: program_of(alloc, &scope, &block)?,
-        invariant: term_of(alloc, &scope, &invariant)?,
-    })
-}
-
 impl Machine {
+    /// The machine of a block. NotOfForm where a name of the block or of the invariant isn't declared,
+    /// or a variable isn't a BOOL.
+    pub fn make(alloc: Global, block: &Block, invariant: &Expr) -> Result<Machine, ReadFault>
+        ensures { IfOk result (λ m. IsMachineOf block.now invariant.now m) }
+    {
+        let scope = scope_of(alloc, block)?;
+        let cells = cells(alloc, block)?;
+        if !are_bools(&cells) {
+            return Err(ReadFault::NotOfForm);
+        }
+        Ok(Machine {
+            cells,
+            program: program_of(alloc, &scope, block)?,
+            invariant: term_of(alloc, &scope, invariant)?,
+        })
+    }
+
     /// Replays a trace from the start image, up to the first scan that breaks the invariant.
     /// NotOfForm where the bytes are no trace of the block.
-    pub fn replay(&self, alloc: Global, trace: &[u8]) -> Result<End, ReadFault> {
-        let inputs = self.cells.iter().filter(|cell| cell.role == Role::Input).count();
-        let mut input = vec![in alloc; 0; inputs]?;
+    pub fn replay(&self, alloc: Global, trace: &[u8]) -> Result<End, ReadFault>
+        requires { IsSound self.now }
+        ensures ok { (block : Block) (a : Expr) (inputs : List (List ℤ)) → IsMachineOf block a self.now
+            → AreScans (input_len (cells_of block)) inputs → trace.now ≡ trace_text inputs
+            → IfOk result (λ end. end ≡ end_after 0 block a (run block inputs)) }
+        ensures read { (block : Block) (a : Expr) → IsMachineOf block a self.now
+            → IfOk result (λ _. (inputs : List (List ℤ)) × AreScans (input_len (cells_of block)) inputs × (trace.now ≡ trace_text inputs)) }
+        ensures refused { (block : Block) (a : Expr) (inputs : List (List ℤ)) → IsMachineOf block a self.now
+            → AreScans (input_len (cells_of block)) inputs → trace.now ≡ trace_text inputs
+            → IsErrOf result ReadFault.NotOfForm → ⊥ }
+    {
+        let mut input = vec![in alloc; 0; count_inputs(&self.cells)]?;
         let Some(lines) = scans(trace, &mut input) else {
             return Err(ReadFault::NotOfForm);
         };
-        let mut frame = self.start_frame(alloc)?;
+        let mut frame = start_frame(alloc, &self.cells)?;
+        Ok(self.run(lines, &mut input, &mut frame))
+    }
+
+    /// Replays the scans of the lines from the frame on.
+    fn run(&self, lines: &[u8], input: &mut [i128], frame: &mut [i128]) -> End {
         let mut rest = lines;
         let mut scan = 0;
-        while let Some(next) = next_scan(rest, &mut input) {
+        while let Some(next) = next_scan(rest, input) {
             scan += 1;
-            place(&self.cells, &input, &mut frame);
-            execute(&self.program, &mut frame);
-            if value_of(&self.invariant, &frame) != 1 {
-                return Ok(End::Broken(scan));
+            if !self.keeps(input, frame) {
+                return End::Broken(scan);
             }
             rest = next;
         }
-        Ok(End::Kept(scan))
+        End::Kept(scan)
     }
 
-    fn start_frame(&self, alloc: Global) -> Result<Vec<i128>, AllocError> {
-        self.cells.iter().map(|cell| cell.start).collect(alloc)
+    /// One scan: whether the invariant holds at its end, which the frame then has.
+    fn keeps(&self, input: &[i128], frame: &mut [i128]) -> bool {
+        place(&self.cells, input, frame);
+        execute(&self.program, frame);
+        value_of(&self.invariant, frame) == 1
     }
+}
+
+fn are_bools(cells: &[Cell]) -> bool {
+    cells
+        .iter()
+        .all(|cell| cell.ty == Ty::Bool && pv_word::in_range(Ty::Bool, cell.start))
+}
+
+fn count_inputs(cells: &[Cell]) -> usize
+    ensures { result ≡ input_len cells.now }
+{
+    cells.iter().filter(|cell| cell.role == Role::Input).count()
+}
+
+fn start_frame(alloc: Global, cells: &[Cell]) -> Result<Vec<i128>, AllocError> {
+    cells.iter().map(|cell| cell.start).collect(alloc)
 }

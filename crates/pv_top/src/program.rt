@@ -1,10 +1,9 @@
 //! A block as it is replayed: its names are cell numbers, found once before the first scan.
-ghost use Rattle.std.specs.Prelude.{ℕ, ◌≡◌, ◌<◌, ◌≤◌, length, slice_index_or, slice_set, IfOk, OnOk, IfSome, pos};
+ghost use Rattle.std.specs.Prelude.{◌≡◌, length, slice_set, IfOk, All};
 ghost use Rattle.pv_word.specs.declared.types.Ty.TheVariants.{Bool};
 ghost use Rattle.pv_word.specs.Types.{InRange};
 ghost use Rattle.pv_tree.specs.Scope.{key_of, statements_of};
 ghost use Rattle.pv_mean.specs.Frames.{input_len, begin, image_of};
-ghost use Rattle.pv_top.specs.declared.program.Assignment.{Assignment};
 ghost use Rattle.pv_top.specs.Programs.{IsTerm, value_in, AreBools, IsAssignment, run_program, IsTermOf, IsAssignmentOf, IsProgramOf, IsNumberAmong};
 
 use pv_mean::{Cell, Role};
@@ -154,7 +153,7 @@ pub fn place(cells: &[Cell], input: &[i128], frame: &mut [i128])
 
 /// Runs the assignments in order.
 pub fn execute(program: &[Assignment], frame: &mut [i128])
-    requires program { (k : ℕ) (a : Assignment) → k < length program.now → IsAssignment (length frame.old) (slice_index_or program.now k a) }
+    requires program { All (IsAssignment (length frame.old)) program.now }
     requires bools { AreBools frame.old }
     ensures frame { frame.new ≡ run_program program.now frame.old }
     ensures bools { AreBools frame.new }

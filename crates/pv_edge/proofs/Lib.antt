@@ -1,3 +1,0 @@
-pub mod Entry
-pub mod Taking
-pub mod Known

@@ -1,5 +1,0 @@
-pub mod Faults
-pub mod Calls
-pub mod Files
-pub mod Entries
-pub mod Sink

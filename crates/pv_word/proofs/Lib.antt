@@ -1,5 +1,0 @@
-pub mod BitLaws
-pub mod Congruence
-pub mod DivisionLaws
-pub mod TypeLaws
-pub mod WrapLaws

@@ -1,5 +1,0 @@
-pub mod Bits
-pub mod Division
-pub mod Range
-pub mod Types
-pub mod Wrap
