@@ -1,0 +1,10 @@
+//! Places in sources.
+
+/// A place in a source.
+#[derive(Clone, Copy, PartialEq, Eq, Debug)]
+pub struct Place {
+    /// The number of the source, from 0 in the order of the case.
+    pub file: u32,
+    /// The number of bytes of the source before the place.
+    pub offset: u32,
+}
