@@ -1,7 +1,6 @@
 //! The cell table of a block.
 ghost use Rattle.std.specs.Prelude.{◌≡◌, IfOk};
-ghost use Rattle.pv_mean.specs.Cells.{cell_of, cells_of, role_of};
-ghost use Rattle.pv_mean.specs.Values.{value, Value};
+ghost use Rattle.pv_mean.specs.Cells.{cell_of, cells_of, role_of, is_input};
 
 use pv_edge::{Text, text};
 use pv_tree::{Block, DeclType, Section, Ty, Var};
@@ -14,6 +13,18 @@ pub enum Role {
     Input,
     /// Keeps its value from one scan's end to the next scan's beginning.
     Kept,
+}
+
+impl Role {
+    /// Whether the cell takes a value from each scan's input.
+    pub fn is_input(self) -> bool
+        ensures { result ≡ is_input self }
+    {
+        match self {
+            Role::Input => true,
+            Role::Kept => false,
+        }
+    }
 }
 
 /// A place for one value.

@@ -1,2 +1,3 @@
 mod TraceLemmas
 mod ProgramLemmas
+mod PlaceLemmas

@@ -1,6 +1,7 @@
 -- Programs with numbered cells mean what their statements mean.
-use Rattle.std.proofs.Common.{◌≡◌, ◌++◌, ◌+◌, ℕ, zero, suc, ◌<◌, List, [], ◌∷◌, length, map, ℤ, pos, true, false, bytes_eq, get_or, set, refl, ap, sym, subst, ◌∙◌, arith, Some}
+use Rattle.std.proofs.Common.{◌≡◌, ◌++◌, ◌+◌, ℕ, zero, suc, ◌<◌, List, [], ◌∷◌, length, map, ℤ, pos, true, false, bytes_eq, get_or, set, take, refl, ap, sym, subst, ◌∙◌, arith, Some}
 use Rattle.std.specs.Prelude.{position, All, slice_set}
+use Rattle.std.proofs.Math.Seq.{take-suc}
 use Rattle.std.proofs.lemmas.List.Quantifiers.{position-Some}
 use Rattle.std.proofs.lemmas.List.Elements.{All-push}
 use Rattle.std.proofs.lemmas.List.{length-map, length-set, get_or-set_same, get_or-set_other}
@@ -23,7 +24,7 @@ use Rattle.pv_mean.proofs.Numbers.{IsNumber, value_at-number, with_value_at-numb
 use Rattle.pv_mean.proofs.Lists.{run_list-append}
 use Rattle.pv_top.specs.declared.program.Term.{Term, Constant, Load, Not', And', Or'}
 use Rattle.pv_top.specs.declared.program.Assignment.{Assignment}
-use Rattle.pv_top.specs.Programs.{IsTerm, value_in, IsAssignment, run_program, keys_of_cells, IsNumberAmong, IsTermOf, IsAssignmentOf, IsProgramOf}
+use Rattle.pv_top.specs.Programs.{IsTerm, value_in, IsAssignment, run_program, keys_of_cells, IsNumberAmong, IsTermOf, IsAssignmentOf, IsProgramOf, target_of, source_of}
 
 -- the number of a key is that of a cell
 pub number_within : (keys : List (List ℕ)) (key : List ℕ) (n : ℕ) → IsNumberAmong keys key n → n < length keys
@@ -85,7 +86,7 @@ assignment keys target place e n t is of = record {
 
 pub length-run_program : (program : List Assignment) (frame : Frame) → length (run_program program frame) ≡ length frame
 length-run_program [] frame = refl
-length-run_program (a ∷ as) frame = length-run_program as (slice_set frame a.target (value_in frame a.value)) ∙ length-set frame a.target (value_in frame a.value)
+length-run_program (a ∷ more) frame = length-run_program more (slice_set frame a.target (value_in frame a.value)) ∙ length-set frame a.target (value_in frame a.value)
 
 run_program-push : (program : List Assignment) (a : Assignment) (frame : Frame) → run_program (program ++ a ∷ []) frame ≡ slice_set (run_program program frame) a.target (value_in (run_program program frame) a.value)
 run_program-push [] a frame = refl
@@ -105,3 +106,16 @@ program_more keys ss program s a so_far one = record {
         ∙ ap (λ e. go_on e (λ f. normal f)) (one.same cells front same len_front)
         ∙ ap normal (sym (run_program-push program a frame));
 }
+
+-- the step of the loop over the statements
+pub program_step : (keys : List (List ℕ)) (all : List Stmt) (i : ℕ) (program longer : List Assignment) (s : Stmt) (a : Assignment) → i < length all → s ≡ get_or all i s → longer ≡ program ++ a ∷ [] → IsProgramOf keys (take i all) program → IsAssignmentOf keys s a → IsProgramOf keys (take (i + 1) all) longer
+program_step keys all i program longer s a lt is grown so_far one =
+    let next : i + 1 ≡ suc i = omega arith in
+    let taken : take (i + 1) all ≡ take i all ++ s ∷ [] = ap (λ n. take n all) next ∙ take-suc all i s lt ∙ ap (λ x. take i all ++ x ∷ []) (sym is) in
+    let P : List Stmt → Type 0 = λ ss. IsProgramOf keys ss longer in
+    let Q : List Assignment → Type 0 = λ p. IsProgramOf keys (take i all ++ s ∷ []) p in
+    subst P (sym taken) (subst Q (sym grown) (program_more keys (take i all) program s a so_far one))
+
+-- the assignment of a statement
+pub assigned : (keys : List (List ℕ)) (s : Stmt) (n : ℕ) (t : Term) → IsNumberAmong keys (key_of (target_of s)) n → IsTermOf keys (source_of s) t → IsAssignmentOf keys s (record { target = n; value = t })
+assigned keys (Assign target place e) n t is of = assignment keys target place e n t is of

@@ -84,7 +84,7 @@ read_more text values rest after v so_far bit e = record {
 }
 
 -- a bit is an i128
-stored : (v : ℤ) → IsBit v → to_z w128 (of_z w128 v) ≡ v
+pub stored : (v : ℤ) → IsBit v → to_z w128 (of_z w128 v) ≡ v
 stored v (inl e) = let P : ℤ → Type 0 = λ z. to_z w128 (of_z w128 z) ≡ z in subst P (sym e) refl
 stored v (inr e) = let P : ℤ → Type 0 = λ z. to_z w128 (of_z w128 z) ≡ z in subst P (sym e) refl
 

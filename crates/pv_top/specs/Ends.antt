@@ -1,5 +1,5 @@
--- How a replay ends, by the scans of a run: each keeps the invariant, or one is the first that breaks it.
-use Rattle.std.specs.Prelude.{◌≡◌, ◌+◌, ◌==◌, ℕ, suc, List, [], ◌∷◌, length, Bool, true, false, not, ℤ, pos, int_eq, if◌then◌else◌}
+-- How a replay ends, by the scans of its run: each keeps the invariant, or one is the first that breaks it.
+use Rattle.std.specs.Prelude.{◌≡◌, ◌+◌, ◌<◌, ◌≤◌, ℕ, List, length, ◌++◌, ◌∷◌, Bool, true, false, not, ℤ, pos, int_eq, AllByRecursion}
 use Rattle.pv_tree.specs.declared.tree.Expr.{Expr}
 use Rattle.pv_tree.specs.declared.tree.Block.{Block}
 use Rattle.pv_mean.specs.Cells.{cells_of}
@@ -17,7 +17,10 @@ is_true (number v) = int_eq v (pos 1)
 abbrev pub fails : Block → Expr → Ending → Bool
 fails block a (normal frame) = not (is_true (value (cells_of block) frame a))
 
--- the end of a replay after n scans that keep the invariant
-abbrev pub end_after : ℕ → Block → Expr → List Scan → End
-end_after n block a [] = Kept n
-end_after n block a (s ∷ ss) = if fails block a s.ending then Broken (n + 1) else end_after (n + 1) block a ss
+abbrev pub Keeps : Block → Expr → Scan → Type 0
+Keeps block a s = fails block a s.ending ≡ false
+
+-- kept: each of the n scans keeps the invariant. Broken: those before the n-th, counted from 1, keep it, and the n-th fails
+abbrev pub IsEnd : Block → Expr → List Scan → End → Type 0
+IsEnd block a scans (Kept n) = (n ≡ length scans) × AllByRecursion (Keeps block a) scans
+IsEnd block a scans (Broken n) = (before : List Scan) × (s : Scan) × (later : List Scan) × (scans ≡ before ++ s ∷ later) × (n ≡ length before + 1) × AllByRecursion (Keeps block a) before × (fails block a s.ending ≡ true)

@@ -1,3 +1,4 @@
 pub mod Traces
 pub mod Programs
 pub mod Ends
+pub mod Machines

