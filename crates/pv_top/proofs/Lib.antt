@@ -1,3 +1,4 @@
 mod TraceLemmas
 mod ProgramLemmas
 mod PlaceLemmas
+mod MachineLemmas

@@ -172,6 +172,14 @@ ended lines width rest so_far e = (so_far.scans, so_far.are_scans, so_far.split 
 scan_or_end : (x y : List ℕ) → codes "scan" ++ x ≡ codes "end\n" ++ y → ⊥
 scan_or_end x y e = let differ : true ≡ false = ap (λ l. get_or l 0 0 == 115) e in absurd (false≢true (sym differ))
 
+-- a line of a scan is read in one way
+pub same_line : (u w : List ℤ) (x y : List ℕ) → AreBits u → IsScan (length u) w → scan_text u ++ x ≡ scan_text w ++ y → SameScan u w x y
+same_line u w x y bits scan e =
+    let inner : (flat_map value_text u ++ 10 ∷ []) ++ x ≡ (flat_map value_text w ++ 10 ∷ []) ++ y = behind _ _ e in
+    let plain : flat_map value_text u ++ (10 ∷ x) ≡ flat_map value_text w ++ (10 ∷ y) = sym (append_assoc (flat_map value_text u) (10 ∷ []) x) ∙ inner ∙ append_assoc (flat_map value_text w) (10 ∷ []) y in
+    let same = same_scan u w (10 ∷ x) (10 ∷ y) bits scan plain in
+    record { values = same.values; rest = ap (λ l. drop 1 l) same.rest }
+
 -- where no scan follows those that were read, and the lines are those of a trace, the rest is its end
 pub ends_alike : (width : ℕ) (read all : List (List ℤ)) (rest : List ℕ) → AreScans width read → AreScans width all → ((values : List ℤ) (r : List ℕ) → IsScan width values → rest ≡ scan_text values ++ r → ⊥) → flat_map scan_text read ++ rest ≡ scans_text all → rest ≡ codes "end\n"
 ends_alike width [] [] rest read_ok all_ok stuck e = e
@@ -179,11 +187,35 @@ ends_alike width [] (w ∷ ws) rest read_ok all_ok stuck e = absurd (stuck w (sc
 ends_alike width (u ∷ us) [] rest read_ok all_ok stuck e = absurd (scan_or_end _ [] e)
 ends_alike width (u ∷ us) (w ∷ ws) rest read_ok all_ok stuck e =
     let lined : scan_text u ++ (flat_map scan_text us ++ rest) ≡ scan_text w ++ scans_text ws = sym (append_assoc (scan_text u) (flat_map scan_text us) rest) ∙ e ∙ append_assoc (scan_text w) (flat_map scan_text ws) (codes "end\n") in
-    let inner : (flat_map value_text u ++ 10 ∷ []) ++ (flat_map scan_text us ++ rest) ≡ (flat_map value_text w ++ 10 ∷ []) ++ scans_text ws = behind _ _ lined in
-    let plain : flat_map value_text u ++ (10 ∷ (flat_map scan_text us ++ rest)) ≡ flat_map value_text w ++ (10 ∷ scans_text ws) = sym (append_assoc (flat_map value_text u) (10 ∷ []) (flat_map scan_text us ++ rest)) ∙ inner ∙ append_assoc (flat_map value_text w) (10 ∷ []) (scans_text ws) in
-    let same = same_scan u w (10 ∷ (flat_map scan_text us ++ rest)) (10 ∷ scans_text ws) read_ok.0.1 (all_ok.0.0 ∙ sym read_ok.0.0, all_ok.0.1) plain in
-    let further : flat_map scan_text us ++ rest ≡ scans_text ws = tail_of same.rest in
-    ends_alike width us ws rest read_ok.1 all_ok.1 stuck further
-  where
-  tail_of : {x y : List ℕ} → 10 ∷ x ≡ 10 ∷ y → x ≡ y
-  tail_of h = ap (λ l. drop 1 l) h
+    let same = same_line u w (flat_map scan_text us ++ rest) (scans_text ws) read_ok.0.1 (all_ok.0.0 ∙ sym read_ok.0.0, all_ok.0.1) lined in
+    ends_alike width us ws rest read_ok.1 all_ok.1 stuck same.rest
+
+-- the first of the scans that the lines are
+pub record IsNextScan (width : ℕ) (all : List (List ℤ)) (values : List ℤ) (next : List ℕ) : Type 0 where
+  pub later : List (List ℤ)
+  pub split : all ≡ values ∷ later
+  pub scans : AreScans width later
+  pub text : next ≡ scans_text later
+
+pub next_is : (width : ℕ) (all : List (List ℤ)) (lines next : List ℕ) (values : List ℤ) → AreScans width all → lines ≡ scans_text all → length values ≡ width → AreBits values → lines ≡ scan_text values ++ next → IsNextScan width all values next
+next_is width [] lines next values ok e len bits here = absurd (scan_or_end _ [] (sym here ∙ e))
+next_is width (w ∷ ws) lines next values ok e len bits here =
+    let lined : scan_text values ++ next ≡ scan_text w ++ scans_text ws = sym here ∙ e ∙ append_assoc (scan_text w) (flat_map scan_text ws) (codes "end\n") in
+    let same = same_line values w next (scans_text ws) bits (ok.0.0 ∙ sym len, ok.0.1) lined in
+    record { later = ws; split = ap (λ v. v ∷ ws) (sym same.values); scans = ok.1; text = same.rest }
+
+-- where no scan comes next, none is left
+pub none_left : (width : ℕ) (all : List (List ℤ)) (lines : List ℕ) → AreScans width all → lines ≡ scans_text all → ((values : List ℤ) (r : List ℕ) → IsScan width values → lines ≡ scan_text values ++ r → ⊥) → all ≡ []
+none_left width [] lines ok e stuck = refl
+none_left width (w ∷ ws) lines ok e stuck = absurd (stuck w (scans_text ws) ok.0 (e ∙ append_assoc (scan_text w) (flat_map scan_text ws) (codes "end\n")))
+
+-- at most one list of scans has a text
+pub one_reading : (width : ℕ) (us ws : List (List ℤ)) → AreScans width us → AreScans width ws → scans_text us ≡ scans_text ws → us ≡ ws
+one_reading width [] ws us_ok ws_ok e = sym (none_left width ws (codes "end\n") ws_ok e (λ values r scan h. scan_or_end _ [] (sym h)))
+one_reading width (u ∷ us) ws us_ok ws_ok e =
+    let first = next_is width ws (scans_text ws) (scans_text us) u ws_ok refl us_ok.0.0 us_ok.0.1 (sym e ∙ append_assoc (scan_text u) (flat_map scan_text us) (codes "end\n")) in
+    ap (λ l. u ∷ l) (one_reading width us first.later us_ok.1 first.scans first.text) ∙ sym first.split
+
+-- behind the head of a trace
+pub behind_head : (x y : List ℕ) → codes "PLCVTRACE 1\nparams\n" ++ x ≡ codes "PLCVTRACE 1\nparams\n" ++ y → x ≡ y
+behind_head x y e = ap (λ l. drop 19 l) e

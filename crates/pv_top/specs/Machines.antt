@@ -1,5 +1,5 @@
 -- A block as the machine of the interpreter has it. No public clause cites this but `Ends`.
-use Rattle.std.specs.Prelude.{◌≡◌, ◌+◌, ℕ, List, [], ◌∷◌, Bool, not, ℤ, pos, int_eq, All, if◌then◌else◌}
+use Rattle.std.specs.Prelude.{◌≡◌, ◌+◌, ℕ, List, [], ◌∷◌, length, ℤ, All, if◌then◌else◌}
 use Rattle.pv_word.specs.declared.types.Ty.TheVariants.{Bool as BoolType}
 use Rattle.pv_word.specs.Types.{InRange}
 use Rattle.pv_tree.specs.declared.tree.Expr.{Expr}
@@ -11,7 +11,7 @@ use Rattle.pv_mean.specs.Scans.{Scan}
 use Rattle.pv_top.specs.declared.answer.End.{End}
 use Rattle.pv_top.specs.declared.answer.End.TheVariants.{Kept, Broken}
 use Rattle.pv_top.specs.declared.machine.Machine.{Machine}
-use Rattle.pv_top.specs.Programs.{IsTermOf, IsProgramOf}
+use Rattle.pv_top.specs.Programs.{IsTerm, IsAssignment, AreBools, IsTermOf, IsProgramOf}
 use Rattle.pv_top.specs.Ends.{fails}
 
 -- the start values are values of BOOL
@@ -24,6 +24,13 @@ pub record IsMachineOf (block : Block) (a : Expr) (m : Machine) : Type 0 where
   pub starts : All StartsInBool (cells_of block)
   pub program : IsProgramOf (keys_of block.interface.vars.items) (statements_of block.body) m.program.items
   pub invariant : IsTermOf (keys_of block.interface.vars.items) a m.invariant
+
+-- a frame that the machine can go on with
+pub record IsReady (m : Machine) (frame : List ℤ) : Type 0 where
+  pub cells : length frame ≡ length m.cells.items
+  pub program : All (IsAssignment (length frame)) m.program.items
+  pub invariant : IsTerm (length frame) m.invariant
+  pub bools : AreBools frame
 
 -- the end of a replay of these scans behind n that keep the invariant
 abbrev pub end_after : ℕ → Block → Expr → List Scan → End

@@ -1,16 +1,17 @@
 //! A block that is ready to be replayed: its cells, its statements with their names found, and the
 //! invariant.
-ghost use Rattle.std.specs.Prelude.{◌≡◌, ◌≤◌, length, ℕ, ℤ, List, IfOk, IsErrOf, OnTrue, All};
-ghost use Rattle.pv_word.specs.declared.types.Ty.TheVariants.{Bool};
-ghost use Rattle.pv_word.specs.Types.{InRange};
+ghost use Rattle.std.specs.Prelude.{◌≡◌, length, map, ℕ, ℤ, pos, List, IfOk, All};
+ghost use Rattle.std.specs.Bool.{OnTrue};
+ghost use Rattle.std.specs.Ordering.{int_eq};
 ghost use Rattle.pv_tree.specs.declared.tree.Block.{Block};
 ghost use Rattle.pv_tree.specs.declared.tree.Expr.{Expr};
 ghost use Rattle.pv_mean.specs.Cells.{cells_of};
-ghost use Rattle.pv_mean.specs.Frames.{input_len, image_of};
+ghost use Rattle.pv_mean.specs.Frames.{input_len, begin, image_of};
 ghost use Rattle.pv_mean.specs.Runs.{run, run_from};
 ghost use Rattle.pv_top.specs.Traces.{AreScans, scans_text, trace_text};
-ghost use Rattle.pv_top.specs.Programs.{AreBools};
-ghost use Rattle.pv_top.specs.Machines.{IsMachineOf, end_after};
+ghost use Rattle.pv_top.specs.Programs.{AreBools, value_in, run_program};
+ghost use Rattle.pv_top.specs.Ends.{IsEnd};
+ghost use Rattle.pv_top.specs.Machines.{IsMachineOf, IsReady, StartsInBool, end_after};
 
 use crate::answer::End;
 use crate::program::{Assignment, Term, execute, place, program_of, term_of, value_of};
@@ -30,34 +31,32 @@ pub struct Machine {
 
 impl Machine {
     /// The machine of a block. NotOfForm where a name of the block or of the invariant isn't declared,
-    /// or a variable isn't a BOOL.
+    /// or a variable's start value is none of BOOL.
     pub fn make(alloc: Global, block: &Block, invariant: &Expr) -> Result<Machine, ReadFault>
+        ensures { IfOk result (λ m. IsMachineOf block.now invariant.now m) }
     {
         let scope = scope_of(alloc, block)?;
         let cells = cells(alloc, block)?;
-        if !are_bools(&cells) {
+        if !start_in_bool(&cells) {
             return Err(ReadFault::NotOfForm);
         }
+        let program = program_of(alloc, &scope, block)?;
+        let invariant = term_of(alloc, &scope, invariant)?;
         Ok(Machine {
             cells,
-            program: program_of(alloc, &scope, block)?,
-            invariant: term_of(alloc, &scope, invariant)?,
+            program,
+            invariant,
         })
     }
 
-    /// Replays a trace from the start image, up to the first scan that breaks the invariant.
-    /// NotOfForm where the bytes are no trace of the block.
-    pub fn replay(&self, alloc: Global, trace: &[u8]) -> Result<End, ReadFault> {
-        let mut input = vec![in alloc; 0; count_inputs(&self.cells)]?;
-        let Some(lines) = scans(trace, &mut input) else {
-            return Err(ReadFault::NotOfForm);
-        };
-        let mut frame = start_frame(alloc, &self.cells)?;
-        Ok(self.run(lines, &mut input, &mut frame))
-    }
-
-    /// Replays the scans of the lines from the frame on.
-    fn run(&self, lines: &[u8], input: &mut [i128], frame: &mut [i128]) -> End {
+    /// Replays the scans of the lines from the frame on, up to the first that breaks the invariant.
+    fn run(&self, lines: &[u8], input: &mut [i128], frame: &mut [i128]) -> End
+        requires ready { IsReady self.now frame.old }
+        requires inputs { length input.old ≡ input_len self.now.cells.items }
+        ensures { (block : Block) (a : Expr) (scans : List (List ℤ)) → IsMachineOf block a self.now
+            → AreScans (length input.old) scans → lines.now ≡ scans_text scans
+            → result ≡ end_after 0 block a (run_from block (image_of (cells_of block) frame.old) scans) }
+    {
         let mut rest = lines;
         let mut scan = 0;
         while let Some(next) = next_scan(rest, input) {
@@ -71,17 +70,26 @@ impl Machine {
     }
 
     /// One scan: whether the invariant holds at its end, which the frame then has.
-    fn keeps(&self, input: &[i128], frame: &mut [i128]) -> bool {
+    fn keeps(&self, input: &[i128], frame: &mut [i128]) -> bool
+        requires ready { IsReady self.now frame.old }
+        requires inputs { length input.now ≡ input_len self.now.cells.items }
+        requires bools { AreBools input.now }
+        ensures frame { frame.new ≡ run_program self.now.program.items (begin self.now.cells.items (image_of self.now.cells.items frame.old) input.now) }
+        ensures value { result ≡ int_eq (value_in frame.new self.now.invariant) (pos 1) }
+        ensures ready { IsReady self.now frame.new }
+    {
         place(&self.cells, input, frame);
         execute(&self.program, frame);
         value_of(&self.invariant, frame) == 1
     }
 }
 
-fn are_bools(cells: &[Cell]) -> bool {
+fn start_in_bool(cells: &[Cell]) -> bool
+    ensures { OnTrue result (All StartsInBool cells.now) }
+{
     cells
         .iter()
-        .all(|cell| cell.ty == Ty::Bool && pv_word::in_range(Ty::Bool, cell.start))
+        .all(|cell| pv_word::in_range(Ty::Bool, cell.start))
 }
 
 fn count_inputs(cells: &[Cell]) -> usize
@@ -90,6 +98,30 @@ fn count_inputs(cells: &[Cell]) -> usize
     cells.iter().filter(|cell| cell.role.is_input()).count()
 }
 
-fn start_frame(alloc: Global, cells: &[Cell]) -> Result<Vec<i128>, AllocError> {
+fn start_frame(alloc: Global, cells: &[Cell]) -> Result<Vec<i128>, AllocError>
+    ensures { IfOk result (λ frame. frame.items ≡ map (λ c. c.start) cells.now) }
+{
     cells.iter().map(|cell| cell.start).collect(alloc)
+}
+
+/// Replays a trace on a block from the start image, up to the first scan that breaks the invariant.
+///
+/// NotOfForm where a name of the block or of the invariant isn't declared, a start value is none of
+/// BOOL, or the bytes are no trace of the block.
+pub fn replay_block(
+    alloc: Global,
+    block: &Block,
+    invariant: &Expr,
+    trace: &[u8],
+) -> Result<End, ReadFault>
+    ensures { IfOk result (λ end. (inputs : List (List ℤ)) × AreScans (input_len (cells_of block.now)) inputs
+        × (trace.now ≡ trace_text inputs) × IsEnd block.now invariant.now (run block.now inputs) end) }
+{
+    let machine = Machine::make(alloc, block, invariant)?;
+    let mut input = vec![in alloc; 0; count_inputs(&machine.cells)]?;
+    let Some(lines) = scans(trace, &mut input) else {
+        return Err(ReadFault::NotOfForm);
+    };
+    let mut frame = start_frame(alloc, &machine.cells)?;
+    Ok(machine.run(lines, &mut input, &mut frame))
 }

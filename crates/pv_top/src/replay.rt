@@ -2,9 +2,9 @@
 
 use crate::answer::{Part, Refusal, Report, Stop};
 use crate::case::{Case, read_case};
-use crate::machine::Machine;
+use crate::machine::replay_block;
 use pv_edge::{FileFault, Files};
-use pv_tree::{ReadFault, read_block, read_expression, read_name};
+use pv_tree::{Block, Expr, ReadFault, read_block, read_expression, read_name, scope_of};
 use std::alloc::Global;
 
 /// Replays the trace on the case's block, scan by scan, up to the first that breaks the invariant.
@@ -19,25 +19,33 @@ pub fn replay<F: Files>(
     let case = accept(alloc, read_case(alloc, &bytes), Part::Case, case_file)?;
     let source = case.file.as_str();
     let bytes = read(alloc, files, source)?;
-    let machine = accept(alloc, machine_of(alloc, &case, &bytes), Part::Source, source)?;
+    let (block, invariant) = accept(alloc, requirement_of(alloc, &case, &bytes), Part::Source, source)?;
     let bytes = read(alloc, files, trace_file)?;
-    let end = accept(alloc, machine.replay(alloc, &bytes), Part::Trace, trace_file)?;
+    let replayed = replay_block(alloc, &block, &invariant, &bytes);
+    let end = accept(alloc, replayed, Part::Trace, trace_file)?;
     Ok(Report {
         case: case.name,
         end,
     })
 }
 
-/// Reads the source and makes the machine of the case. NotOfForm where the source isn't of the form,
-/// its block isn't the case's entry, or the case's invariant is no expression over its variables.
-fn machine_of(alloc: Global, case: &Case, source: &[u8]) -> Result<Machine, ReadFault> {
+/// The block of the source and the case's invariant. NotOfForm where the source isn't of the form, its
+/// block isn't the case's entry or breaks a rule on names, or the case's invariant is no expression
+/// over its variables.
+fn requirement_of(
+    alloc: Global,
+    case: &Case,
+    source: &[u8],
+) -> Result<(Block, Expr), ReadFault> {
     let block = read_block(alloc, 0, source)?;
     let entry = read_name(alloc, case.entry.as_bytes())?;
-    if !block.name.same(&entry) {
-        return Err(ReadFault::NotOfForm);
-    }
     let invariant = read_expression(alloc, 0, case.invariant.as_bytes())?;
-    Machine::make(alloc, &block, &invariant)
+    let scope = scope_of(alloc, &block)?;
+    if block.name.same(&entry) && scope.declares(&invariant) {
+        Ok((block, invariant))
+    } else {
+        Err(ReadFault::NotOfForm)
+    }
 }
 
 fn read<F: Files>(alloc: Global, files: &mut F, name: &str) -> Result<Vec<u8>, Stop> {
