@@ -2,3 +2,5 @@ pub mod Traces
 pub mod Programs
 pub mod Ends
 pub mod Machines
+pub mod Answers
+pub mod Replays

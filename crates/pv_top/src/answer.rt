@@ -1,4 +1,8 @@
 //! What a run of the program says, and the status that it ends with.
+ghost use Rattle.std.specs.Prelude.{◌≡◌, IfOk, string_bytes};
+ghost use Rattle.pv_top.specs.declared.answer.Stop.TheVariants.{NoMemory};
+ghost use Rattle.pv_top.specs.declared.answer.End.TheVariants.{Kept, Broken};
+ghost use Rattle.pv_top.specs.Answers.{status_of, status_of_end, status_of_part, status_of_refusal, text_of, report_text, fault_line};
 
 use std::alloc::{AllocError, Global};
 use thiserror::Error;
@@ -64,13 +68,17 @@ pub enum Stop {
 }
 
 impl From<AllocError> for Stop {
+    ghost from_gives = { λ _ stop. stop ≡ NoMemory };
+
     fn from(_error: AllocError) -> Self {
         Stop::NoMemory
     }
 }
 
 impl Answer {
-    pub fn status(&self) -> Status {
+    pub fn status(&self) -> Status
+        ensures { result ≡ status_of self.now }
+    {
         match self {
             Answer::Report(report) => report.end.status(),
             Answer::Refusal(refusal) => refusal.status(),
@@ -78,7 +86,9 @@ impl Answer {
     }
 
     /// The lines for the sink, each ended by a line feed.
-    pub fn text(&self, alloc: Global) -> Result<String, AllocError> {
+    pub fn text(&self, alloc: Global) -> Result<String, AllocError>
+        ensures { IfOk result (λ text. string_bytes text ≡ text_of self.now) }
+    {
         match self {
             Answer::Report(report) => report.text(alloc),
             Answer::Refusal(refusal) => refusal.line(alloc),
@@ -87,7 +97,9 @@ impl Answer {
 }
 
 impl End {
-    fn status(self) -> Status {
+    fn status(self) -> Status
+        ensures { result ≡ status_of_end self }
+    {
         match self {
             End::Kept(_) => 0,
             End::Broken(_) => 1,
@@ -96,21 +108,36 @@ impl End {
 }
 
 impl Report {
-    fn text(&self, alloc: Global) -> Result<String, AllocError> {
-        let case = self.case.as_str();
+    fn text(&self, alloc: Global) -> Result<String, AllocError>
+        ensures { IfOk result (λ text. string_bytes text ≡ report_text (string_bytes self.now.case) self.now.end) }
+    {
         match self.end {
-            End::Kept(scans) => format!(in alloc;
-                "PLCV 1\ncase {case}\npattern invariant\nreplay kept\nscans {scans}\n"
-            ),
-            End::Broken(scan) => format!(in alloc;
-                "PLCV 1\ncase {case}\npattern invariant\nreplay broken\nscan {scan}\ncause pattern\n"
-            ),
+            End::Kept(scans) => kept_text(alloc, &self.case, scans),
+            End::Broken(scan) => broken_text(alloc, &self.case, scan),
         }
     }
 }
 
+fn kept_text(alloc: Global, case: &String, scans: u64) -> Result<String, AllocError>
+    ensures { IfOk result (λ text. string_bytes text ≡ report_text (string_bytes case.now) (Kept scans)) }
+{
+    format!(in alloc;
+        "PLCV 1\ncase {case}\npattern invariant\nreplay kept\nscans {scans}\n"
+    )
+}
+
+fn broken_text(alloc: Global, case: &String, scan: u64) -> Result<String, AllocError>
+    ensures { IfOk result (λ text. string_bytes text ≡ report_text (string_bytes case.now) (Broken scan)) }
+{
+    format!(in alloc;
+        "PLCV 1\ncase {case}\npattern invariant\nreplay broken\nscan {scan}\ncause pattern\n"
+    )
+}
+
 impl Refusal {
-    fn status(&self) -> Status {
+    fn status(&self) -> Status
+        ensures { result ≡ status_of_refusal self.now }
+    {
         match self {
             Refusal::Words => 5,
             Refusal::Unread { .. } => 6,
@@ -118,7 +145,9 @@ impl Refusal {
         }
     }
 
-    fn line(&self, alloc: Global) -> Result<String, AllocError> {
+    fn line(&self, alloc: Global) -> Result<String, AllocError>
+        ensures { IfOk result (λ text. string_bytes text ≡ fault_line self.now) }
+    {
         match self {
             Refusal::Words => String::from_str(alloc, "plcv: words\n"),
             Refusal::Unread { file } => format!(in alloc; "plcv: read {file}\n"),
@@ -128,7 +157,9 @@ impl Refusal {
 }
 
 impl Part {
-    fn status(self) -> Status {
+    fn status(self) -> Status
+        ensures { result ≡ status_of_part self }
+    {
         match self {
             Part::Source => 3,
             Part::Case => 4,

@@ -1,4 +1,7 @@
 //! The command `replay CASE TRACE`.
+ghost use Rattle.std.specs.Prelude.{◌≡◌, ◌≤◌, Some, Ok, true, false, IfOk, IfErr, IfSome};
+ghost use Rattle.pv_edge.specs.Faults.{HasRisen};
+ghost use Rattle.pv_top.specs.Answers.{is_words, is_unread};
 
 use crate::answer::{Part, Refusal, Report, Stop};
 use crate::case::{Case, read_case};
@@ -14,7 +17,12 @@ pub fn replay<F: Files>(
     files: &mut F,
     case_file: &str,
     trace_file: &str,
-) -> Result<Report, Stop> {
+) -> Result<Report, Stop>
+    ensures files { F.told files.new ≡ F.told files.old }
+    ensures never_falls { F.read_faults files.old ≤ F.read_faults files.new }
+    ensures unread { IfErr result (λ stop. is_unread stop ≡ true → HasRisen (F.read_faults files.old) (F.read_faults files.new)) }
+    ensures words { IfErr result (λ stop. is_words stop ≡ false) }
+{
     let bytes = read(alloc, files, case_file)?;
     let case = accept(alloc, read_case(alloc, &bytes), Part::Case, case_file)?;
     let source = case.file.as_str();
@@ -48,7 +56,14 @@ fn requirement_of(
     }
 }
 
-fn read<F: Files>(alloc: Global, files: &mut F, name: &str) -> Result<Vec<u8>, Stop> {
+/// The bytes of a file, or the refusal that names it.
+fn read<F: Files>(alloc: Global, files: &mut F, name: &str) -> Result<Vec<u8>, Stop>
+    ensures files { F.told files.new ≡ F.told files.old }
+    ensures held { IfOk result (λ bytes. IfSome (F.told files.old) (λ held. held name.now ≡ Some bytes.items)) }
+    ensures never_falls { F.read_faults files.old ≤ F.read_faults files.new }
+    ensures unread { IfErr result (λ stop. is_unread stop ≡ true → HasRisen (F.read_faults files.old) (F.read_faults files.new)) }
+    ensures words { IfErr result (λ stop. is_words stop ≡ false) }
+{
     match files.read(alloc, name) {
         Ok(bytes) => Ok(bytes),
         Err(FileFault::Failed) => {
@@ -65,7 +80,11 @@ fn accept<T: Drop>(
     found: Result<T, ReadFault>,
     part: Part,
     name: &str,
-) -> Result<T, Stop> {
+) -> Result<T, Stop>
+    ensures found { IfOk result (λ value. found ≡ Ok value) }
+    ensures unread { IfErr result (λ stop. is_unread stop ≡ false) }
+    ensures words { IfErr result (λ stop. is_words stop ≡ false) }
+{
     match found {
         Ok(value) => Ok(value),
         Err(ReadFault::NotOfForm) => {

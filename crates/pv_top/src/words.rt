@@ -1,4 +1,6 @@
 //! The forms of words that the program has.
+ghost use Rattle.std.specs.Prelude.{IfNone, OnSome, map, string_bytes};
+ghost use Rattle.pv_top.specs.Replays.{IsReplay};
 
 /// A command with its words.
 #[derive(Clone, Copy, Debug, PartialEq, Eq)]
@@ -9,7 +11,10 @@ pub enum Command<'a> {
 
 /// The command that the words spell, if they have one of the forms. Nothing stands before or
 /// after it: there are no options.
-pub fn read_words(words: &[String]) -> Option<Command<'_>> {
+pub fn read_words(words: &[String]) -> Option<Command<'_>>
+    ensures some { OnSome result (IsReplay (map string_bytes words.now)) }
+    ensures none { IfNone result (IsReplay (map string_bytes words.now) → ⊥) }
+{
     match words {
         [verb, case, trace] if verb.as_str() == "replay" => Some(Command::Replay {
             case: case.as_str(),
