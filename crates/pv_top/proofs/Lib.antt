@@ -2,3 +2,5 @@ mod TraceLemmas
 mod ProgramLemmas
 mod PlaceLemmas
 mod MachineLemmas
+mod WordsLemmas
+mod Silent

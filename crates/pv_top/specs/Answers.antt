@@ -33,8 +33,8 @@ status_of (RefusalOf refusal) = status_of_refusal refusal
 
 -- the report of a replay of the case of this name
 abbrev pub report_text : List ℕ → End → List ℕ
-report_text name (Kept n) = codes "PLCV 1\ncase " ++ name ++ codes "\npattern invariant\nreplay kept\nscans " ++ decimal n ++ codes "\n"
-report_text name (Broken n) = codes "PLCV 1\ncase " ++ name ++ codes "\npattern invariant\nreplay broken\nscan " ++ decimal n ++ codes "\ncause pattern\n"
+report_text name (Kept n) = codes "PLCV 1\ncase " ++ (name ++ (codes "\npattern invariant\nreplay kept\nscans " ++ (decimal n ++ codes "\n")))
+report_text name (Broken n) = codes "PLCV 1\ncase " ++ (name ++ (codes "\npattern invariant\nreplay broken\nscan " ++ (decimal n ++ codes "\ncause pattern\n")))
 
 abbrev pub fault_line : Refusal → List ℕ
 fault_line Words = codes "plcv: words\n"

@@ -23,10 +23,10 @@ pub record Call : Type 0 where
   pub taken_after : Option (List ℕ)
 
 -- the answer's text went to the sink: all of it behind what was there, or after status 7 and 9 a prefix of it
-pub record Delivers (call : Call) (answer : Answer) : Type 0 where
-  pub status : call.status ≢ 7 → call.status ≢ 9 → call.status ≡ status_of answer
-  pub whole : call.status ≢ 7 → call.status ≢ 9 → Takes (text_of answer) call.taken call.taken_after
-  pub part : TakesPart (text_of answer) call.taken call.taken_after
+pub record Delivers (answer : Answer) (code : ℕ) (taken taken_after : Option (List ℕ)) : Type 0 where
+  pub status : code ≢ 7 → code ≢ 9 → code ≡ status_of answer
+  pub whole : code ≢ 7 → code ≢ 9 → Takes (text_of answer) taken taken_after
+  pub part : TakesPart (text_of answer) taken taken_after
 
 pub record Replays (call : Call) : Type 0 where
   -- status 5 comes exactly where the words are none of the built forms, unless the line can't be written or memory runs out
@@ -36,4 +36,4 @@ pub record Replays (call : Call) : Type 0 where
   pub unread : call.status ≡ 6 → HasRisen call.reads call.reads_after
   pub unwritten : call.status ≡ 7 → HasRisen call.sink call.sink_after
   -- what the sink tells is an answer, whole or a prefix
-  pub text : (answer : Answer) × Delivers call answer
+  pub text : (answer : Answer) × Delivers answer call.status call.taken call.taken_after

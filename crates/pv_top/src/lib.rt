@@ -1,6 +1,11 @@
 //! The commands of plcv, over the files and the sink that they are handed.
 #![tactic(auto)]
 
+ghost use Rattle.std.specs.Prelude.{◌≡◌, ◌≤◌, ◌⊎◌, IfSome, IsSomeAnd, map, string_bytes};
+ghost use Rattle.pv_edge.specs.Faults.{HasRisen};
+ghost use Rattle.pv_top.specs.Answers.{status_of, text_of};
+ghost use Rattle.pv_top.specs.Replays.{IsReplay, Delivers, Replays};
+
 mod answer;
 mod case;
 mod machine;
@@ -15,7 +20,8 @@ use replay::replay;
 use std::alloc::Global;
 use words::{Command, read_words};
 
-pub use answer::Status;
+pub use answer::{End, Status};
+pub use machine::replay_block;
 
 /// Runs the command that the words spell: reads what it names through `files`, and offers the report
 /// or the one fault line to `out` until it is taken. The answer is the program's status.
@@ -27,7 +33,20 @@ pub fn run<F: Files, S: Sink>(
     files: &mut F,
     out: &mut S,
     kept: &mut Text,
-) -> Status {
+) -> Status
+    ensures files { F.told files.new ≡ F.told files.old }
+    ensures kept { kept.new ≡ kept.old }
+    ensures replay { Replays (record {
+        words = map string_bytes words.now;
+        status = result;
+        reads = F.read_faults files.old;
+        reads_after = F.read_faults files.new;
+        sink = S.faults out.old;
+        sink_after = S.faults out.new;
+        taken = S.taken out.old;
+        taken_after = S.taken out.new;
+    }) }
+{
     let _ = kept;
     match answer_of(alloc, words, files) {
         Some(answer) => print(alloc, out, &answer),
@@ -36,7 +55,12 @@ pub fn run<F: Files, S: Sink>(
 }
 
 /// What the command has to say, or None for want of memory.
-fn answer_of<F: Files>(alloc: Global, words: &[String], files: &mut F) -> Option<Answer> {
+fn answer_of<F: Files>(alloc: Global, words: &[String], files: &mut F) -> Option<Answer>
+    ensures files { F.told files.new ≡ F.told files.old }
+    ensures words { IfSome result (λ answer. status_of answer ≡ 5 → IsReplay (map string_bytes words.now) → ⊥) }
+    ensures only_words { (IsReplay (map string_bytes words.now) → ⊥) → IfSome result (λ answer. status_of answer ≡ 5) }
+    ensures unread { IfSome result (λ answer. status_of answer ≡ 6 → HasRisen (F.read_faults files.old) (F.read_faults files.new)) }
+{
     let Some(command) = read_words(words) else {
         return Some(Answer::Refusal(Refusal::Words));
     };
@@ -49,7 +73,11 @@ fn answer_of<F: Files>(alloc: Global, words: &[String], files: &mut F) -> Option
 }
 
 /// Makes the answer's text whole and offers it to the sink.
-fn print<S: Sink>(alloc: Global, out: &mut S, answer: &Answer) -> Status {
+fn print<S: Sink>(alloc: Global, out: &mut S, answer: &Answer) -> Status
+    ensures status { (result ≡ status_of answer.now) ⊎ ((result ≡ 7) ⊎ (result ≡ 9)) }
+    ensures delivers { Delivers answer.now result (S.taken out.old) (S.taken out.new) }
+    ensures unwritten { result ≡ 7 → HasRisen (S.faults out.old) (S.faults out.new) }
+{
     let Ok(text) = answer.text(alloc) else {
         return NO_MEMORY;
     };

@@ -1,0 +1,7 @@
+use Rattle.std.proofs.Common.{codes, sym, ◌∙◌, arith}
+use Rattle.std.proofs.lemmas.Slice.Eq.{bytes_eq-Decides}
+use Rattle.pv_top.proofs.WordsLemmas.{three}
+use Rattle.pv_top.proofs.words.read_words.Goals as goal
+
+pub returns-in-len3-clause-some : goal.returns-in-len3-clause-some
+returns-in-len3-clause-some c = three c.args.words.now c.verb-item.result c.case-item.result c.trace-item.result (omega arith) c.verb-item.is c.case-item.is c.trace-item.is (sym c.as_str.ensures.value ∙ (bytes_eq-Decides c.as_str.result.now (codes "replay")).0 (sym c.if-eq.ensures))
