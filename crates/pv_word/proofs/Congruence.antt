@@ -80,3 +80,12 @@ residue-congruent_same {m} {a} {b} p c =
     (congruent-trans (residue-congruent m a p) (congruent-trans c (congruent-sym (residue-congruent m b p))))
     (omega (arith, residue-lt m a p, residue-lt m b p))
     (omega (arith, residue-lt m a p, residue-lt m b p)))
+
+-- a number less m is congruent to it
+pub congruent-less : (m : ℕ) (a : ℤ) → IsCongruent m (a -ℤ pos m) a
+congruent-less m a = record { left = 1; right = 0; equal = omega (arith, ints) }
+
+-- what is left, as a whole number
+pub rest-residue : (m : ℕ) (z : ℤ) → pos (residue m z) ≡ int_rem_euclid z (pos m)
+rest-residue m (pos a) = refl
+rest-residue m (negsuc a) = refl

@@ -1,2 +1,3 @@
 pub mod Congruence
+pub mod TypeLaws
 pub mod WrapLaws

@@ -1,12 +1,13 @@
 -- The laws of the number of w bits that is left of a whole number.
 use Rattle.std.proofs.Common.{◌≡◌, ℕ, ◌+◌, ◌-◌, ◌*◌, ◌<◌, ◌^◌, arith, refl, ap, sym, ◌∙◌, Bool, true, false}
-use Rattle.std.specs.Prelude.{ℤ, pos, ◌+ℤ◌, ◌-ℤ◌, ◌*ℤ◌, ◌≤ℤ◌}
+use Rattle.std.specs.Prelude.{ℤ, pos, ◌+ℤ◌, ◌-ℤ◌, ◌*ℤ◌, ◌≤ℤ◌, ◌<ℤ◌}
+use Rattle.std.specs.Int.{int_rem_euclid}
 use Rattle.std.proofs.lemmas.Int.{ints}
 use Rattle.std.proofs.lemmas.Nat.{pow_pos, pow-add}
 use borrow.Author.Differences.{up, down}
 use Rattle.pv_word.specs.Range.{least_at, greatest_at, IsInRange}
 use Rattle.pv_word.specs.Wrap.{IsCongruent, IsWrap, residue, wrap_at}
-use Rattle.pv_word.proofs.Congruence.{congruent-refl, congruent-sym, congruent-trans, congruent-sum, congruent-difference, congruent-product, congruent-near, residue-lt, residue-congruent}
+use Rattle.pv_word.proofs.Congruence.{congruent-refl, congruent-sym, congruent-trans, congruent-sum, congruent-difference, congruent-product, congruent-near, congruent-less, residue-lt, residue-congruent, rest-residue}
 
 -- 2 to the power of w is twice its half
 pub double : (w : ℕ) → 0 < w → 2 ^ w ≡ 2 * 2 ^ (w - 1)
@@ -70,3 +71,33 @@ wrap-difference w s t u a b p = wrap-congruent_same s p (congruent-difference (w
 
 pub wrap-product : (w : ℕ) (s t u : Bool) (a b : ℤ) → 0 < w → wrap_at w s (wrap_at w t a *ℤ wrap_at w u b) ≡ wrap_at w s (a *ℤ b)
 wrap-product w s t u a b p = wrap-congruent_same s p (congruent-product (wrap-congruent w t a p) (wrap-congruent w u b p))
+
+-- 0 is a number of w bits
+pub zero-in_range : (w : ℕ) (s : Bool) → 0 < w → IsInRange w s (pos 0)
+zero-in_range w false p = record { from = omega (arith, ints); to = omega (arith, ints, pow_pos w) }
+zero-in_range w true p = record { from = omega (arith, ints); to = omega (arith, ints, pow_pos (w - 1)) }
+
+-- what is left of n modulo 2 ^ w, as the code computes it, is its wrap, or lies 2 ^ w above it
+pub wrap-rest_low : (w : ℕ) (s : Bool) (n r : ℤ) → 0 < w → r ≡ int_rem_euclid n (pos (2 ^ w)) → r ≤ℤ greatest_at w s → IsWrap w s n r
+wrap-rest_low w s n r p e h =
+    let c = residue-congruent (2 ^ w) n (pow_pos w) in
+    let low = (zero-in_range w s p).from in
+    let is : pos (residue (2 ^ w) n) ≡ r = rest-residue (2 ^ w) n ∙ sym e in
+    record {
+      in_range = record { from = omega (arith, ints); to = h };
+      congruent = record { left = c.left; right = c.right; equal = ap (λ z. z +ℤ pos (c.left * 2 ^ w)) (sym is) ∙ c.equal }
+    }
+
+pub wrap-rest_high : (w : ℕ) (s : Bool) (n r d : ℤ) → 0 < w → r ≡ int_rem_euclid n (pos (2 ^ w)) → greatest_at w s <ℤ r → d ≡ r -ℤ pos (2 ^ w) → IsWrap w s n d
+wrap-rest_high w s n r d p e h k =
+    let c = residue-congruent (2 ^ w) n (pow_pos w) in
+    let high = (zero-in_range w s p).to in
+    let is : pos (residue (2 ^ w) n) ≡ r = rest-residue (2 ^ w) n ∙ sym e in
+    let f = span w s p in
+    let small = residue-lt (2 ^ w) n (pow_pos w) in
+    let less = congruent-less (2 ^ w) r in
+    record {
+      in_range = record { from = omega (arith, ints); to = omega (arith, ints) };
+      congruent = congruent-trans (record { left = less.left; right = less.right; equal = ap (λ z. z +ℤ pos (less.left * 2 ^ w)) k ∙ less.equal })
+          (record { left = c.left; right = c.right; equal = ap (λ z. z +ℤ pos (c.left * 2 ^ w)) (sym is) ∙ c.equal })
+    }
