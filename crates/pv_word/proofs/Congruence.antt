@@ -9,12 +9,12 @@ use Rattle.std.proofs.Math.Nat.{mul-le-mul_right}
 use borrow.Author.Differences.{up, down, same_in, same_out, sum_is_lem, neg_is, product_is}
 use Rattle.pv_word.specs.Wrap.{IsCongruent, residue}
 
--- an equation with multiples of m, as `omega` reads it
-shifted : (m j k : ℕ) (a b : ℤ) → up a + j * m + down b ≡ up b + k * m + down a → IsCongruent m a b
-shifted m j k a b e = record { left = j; right = k; equal = omega (arith, same_in, sum_is_lem) }
+-- an equation with multiples of m, in the parts of the numbers, as `omega` reads it
+pub congruent-from_parts : (m j k : ℕ) (a b : ℤ) → up a + j * m + down b ≡ up b + k * m + down a → IsCongruent m a b
+congruent-from_parts m j k a b e = record { left = j; right = k; equal = omega (arith, same_in, sum_is_lem) }
 
-read : (m : ℕ) (a b : ℤ) (c : IsCongruent m a b) → up a + c.left * m + down b ≡ up b + c.right * m + down a
-read m a b c = omega (arith, same_out, sum_is_lem, c.equal)
+pub congruent-parts : (m : ℕ) (a b : ℤ) (c : IsCongruent m a b) → up a + c.left * m + down b ≡ up b + c.right * m + down a
+congruent-parts m a b c = omega (arith, same_out, sum_is_lem, c.equal)
 
 pub congruent-refl : (m : ℕ) (a : ℤ) → IsCongruent m a a
 congruent-refl m a = record { left = 0; right = 0; equal = refl }
@@ -23,14 +23,14 @@ pub congruent-sym : {m : ℕ} {a b : ℤ} → IsCongruent m a b → IsCongruent 
 congruent-sym c = record { left = c.right; right = c.left; equal = sym c.equal }
 
 pub congruent-trans : {m : ℕ} {a b z : ℤ} → IsCongruent m a b → IsCongruent m b z → IsCongruent m a z
-congruent-trans {m} {a} {b} {z} c d = shifted m (c.left + d.left) (c.right + d.right) a z (omega (arith, read m a b c, read m b z d))
+congruent-trans {m} {a} {b} {z} c d = congruent-from_parts m (c.left + d.left) (c.right + d.right) a z (omega (arith, congruent-parts m a b c, congruent-parts m b z d))
 
 pub congruent-sum : {m : ℕ} {a b x y : ℤ} → IsCongruent m a b → IsCongruent m x y → IsCongruent m (a +ℤ x) (b +ℤ y)
 congruent-sum {m} {a} {b} {x} {y} c d =
-    shifted m (c.left + d.left) (c.right + d.right) (a +ℤ x) (b +ℤ y) (omega (arith, sum_is_lem, read m a b c, read m x y d))
+    congruent-from_parts m (c.left + d.left) (c.right + d.right) (a +ℤ x) (b +ℤ y) (omega (arith, sum_is_lem, congruent-parts m a b c, congruent-parts m x y d))
 
 pub congruent-negation : {m : ℕ} {a b : ℤ} → IsCongruent m a b → IsCongruent m (neg_ℤ a) (neg_ℤ b)
-congruent-negation {m} {a} {b} c = shifted m c.right c.left (neg_ℤ a) (neg_ℤ b) (omega (arith, neg_is, read m a b c))
+congruent-negation {m} {a} {b} c = congruent-from_parts m c.right c.left (neg_ℤ a) (neg_ℤ b) (omega (arith, neg_is, congruent-parts m a b c))
 
 pub congruent-difference : {m : ℕ} {a b x y : ℤ} → IsCongruent m a b → IsCongruent m x y → IsCongruent m (a -ℤ x) (b -ℤ y)
 congruent-difference c d = congruent-sum c (congruent-negation d)
@@ -38,10 +38,10 @@ congruent-difference c d = congruent-sum c (congruent-negation d)
 -- the first factor may be replaced
 scaled : {m : ℕ} {a b : ℤ} (x : ℤ) → IsCongruent m a b → IsCongruent m (a *ℤ x) (b *ℤ x)
 scaled {m} {a} {b} x c =
-    let sum = read m a b c in
+    let sum = congruent-parts m a b c in
     let above = ap (λ n. n * up x) sum in
     let below = ap (λ n. n * down x) sum in
-    shifted m (c.left * up x + c.right * down x) (c.right * up x + c.left * down x) (a *ℤ x) (b *ℤ x) (omega (arith, product_is))
+    congruent-from_parts m (c.left * up x + c.right * down x) (c.right * up x + c.left * down x) (a *ℤ x) (b *ℤ x) (omega (arith, product_is))
 
 swapped : (a b : ℤ) → a *ℤ b ≡ b *ℤ a
 swapped a b = omega (arith, ints)
@@ -54,7 +54,7 @@ congruent-product {m} {a} {b} {x} {y} c d =
 -- congruent numbers that are less than m apart are equal
 pub congruent-near : {m : ℕ} {a b : ℤ} → IsCongruent m a b → up a + down b < up b + down a + m → up b + down a < up a + down b + m → a ≡ b
 congruent-near {m} {a} {b} c p q =
-    let sum = read m a b c in
+    let sum = congruent-parts m a b c in
     ⊎_elim
     (λ (l : c.left < c.right). absurd (omega (arith, mul-le-mul_right m l)))
     (λ (g : c.right ≤ c.left). ⊎_elim
@@ -70,8 +70,8 @@ residue-lt m (pos a) p = mod_below a m p
 residue-lt m (negsuc a) p = omega (arith, mod_below a m p)
 
 pub residue-congruent : (m : ℕ) (z : ℤ) → 0 < m → IsCongruent m (pos (residue m z)) z
-residue-congruent m (pos a) p = shifted m (a / m) 0 (pos (a % m)) (pos a) (omega (arith, div-add-mod' a m))
-residue-congruent m (negsuc a) p = shifted m 0 (a / m + 1) (pos (m - 1 - a % m)) (negsuc a) (omega (arith, div-add-mod' a m, mod_below a m p))
+residue-congruent m (pos a) p = congruent-from_parts m (a / m) 0 (pos (a % m)) (pos a) (omega (arith, div-add-mod' a m))
+residue-congruent m (negsuc a) p = congruent-from_parts m 0 (a / m + 1) (pos (m - 1 - a % m)) (negsuc a) (omega (arith, div-add-mod' a m, mod_below a m p))
 
 -- congruent numbers leave the same
 pub residue-congruent_same : {m : ℕ} {a b : ℤ} → 0 < m → IsCongruent m a b → residue m a ≡ residue m b

@@ -59,7 +59,7 @@ pub fn rem(ty: Ty, a: i128, b: i128) -> i128
     ensures divides { (q : _) × IsDivision a b q result }
     ensures value { result ≡ wrap_of ty (remainder a b) }
 {
-    wrap(ty, a % b)
+    a % b
 }
 
 /// The order of two values as whole numbers.
