@@ -152,3 +152,7 @@ wrap-complement ty a b =
     let less : IsCongruent (2 ^ w) (a +ℤ pos (2 ^ w - (p + 1)) +ℤ pos 1) (a -ℤ pos p) = congruent-from_parts (2 ^ w) 0 1 _ _ (omega (arith, ints)) in
     let back : IsCongruent (2 ^ w) (a -ℤ pos p) (a -ℤ b) = congruent-difference (congruent-refl (2 ^ w) a) (pattern-congruent w b) in
     wrap-congruent_same (is_signed_of ty) (wide ty) (congruent-trans sum (congruent-trans less back))
+
+-- the bits of an equal number
+pub has_bits-along : {ty : Ty} {r s : ℤ} {f : ℕ → ℕ} → HasBits ty s f → r ≡ s → HasBits ty r f
+has_bits-along {ty} {r} {s} {f} h e = subst (λ z. HasBits ty z f) (sym e) h

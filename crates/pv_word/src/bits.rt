@@ -1,5 +1,5 @@
 // The operations on the bit patterns of values, and the shifts, which bring in zeros.
-ghost use Rattle.std.specs.Prelude.{◌≡◌, ◌+◌, ◌-◌, ◌%◌, min, max, nat_lt, if◌then◌else◌};
+ghost use Rattle.std.specs.Prelude.{◌≡◌, ◌+◌, ◌-◌, ◌%◌, ◌≤◌, pos, min, max, nat_lt, if◌then◌else◌};
 ghost use Rattle.pv_word.specs.Types.{width_of, InRange, pattern_of, bit_of, HasBits, and_of, or_of, xor_of, not_of, shl_of, shr_of};
 
 use crate::types::{Ty, modulus, width};
@@ -58,6 +58,7 @@ pub fn not(ty: Ty, a: i128) -> i128
 pub fn shl(ty: Ty, a: i128, n: u32) -> i128
     requires { InRange ty a }
     ensures bits { HasBits ty result (λ i. if nat_lt i n then 0 else bit_of ty a (i - n)) }
+    ensures far { width_of ty ≤ n → result ≡ pos 0 }
     ensures value { result ≡ shl_of ty a n }
 {
     if n < width(ty) {
@@ -71,6 +72,7 @@ pub fn shl(ty: Ty, a: i128, n: u32) -> i128
 pub fn shr(ty: Ty, a: i128, n: u32) -> i128
     requires { InRange ty a }
     ensures bits { HasBits ty result (λ i. if nat_lt (i + n) (width_of ty) then bit_of ty a (i + n) else 0) }
+    ensures far { width_of ty ≤ n → result ≡ pos 0 }
     ensures value { result ≡ shr_of ty a n }
 {
     if n < width(ty) {
