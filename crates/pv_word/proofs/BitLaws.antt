@@ -1,18 +1,18 @@
 -- The laws of patterns and their bits.
-use Rattle.std.proofs.Common.{◌≡◌, ℕ, zero, suc, ◌+◌, ◌-◌, ◌*◌, ◌/◌, ◌%◌, ◌^◌, ◌<◌, ◌≤◌, arith, refl, ap, sym, subst, ◌∙◌, Bool, true, false, nat_lt, ⊎_elim}
-use Rattle.std.specs.Prelude.{ℤ, pos, ◌+ℤ◌, ◌-ℤ◌, min, max, bit_and, bit_or, bit_xor, if◌then◌else◌}
+use Rattle.std.proofs.Common.{◌≡◌, ℕ, zero, suc, ◌+◌, ◌-◌, ◌*◌, ◌/◌, ◌%◌, ◌^◌, ◌<◌, ◌≤◌, arith, refl, ap, sym, subst, ◌∙◌, Bool, nat_lt, ⊎_elim}
+use Rattle.std.specs.Prelude.{ℤ, pos, ◌+ℤ◌, ◌-ℤ◌, min, max, bit_and, if◌then◌else◌}
 use Rattle.std.specs.Int.{bit_at}
 use Rattle.std.proofs.lemmas.Int.{ints}
-use Rattle.std.proofs.lemmas.Nat.{pow_pos, pow-add, shr_split, shr-shr, and-not, pow_below, mod_below}
+use Rattle.std.proofs.lemmas.Nat.{pow_pos, pow-add, shr_split, shr-shr, and-not, pow_below}
 use Rattle.std.proofs.lemmas.Nat.Bits.{bit_at_and, bit_at_or, bit_at_xor, bit_at_cat_low, bit_at_cat_high, bit_at-zero, bit_at_above, and_pow, bit_at-lt, same_from_bits_below}
 use Rattle.std.proofs.Math.Nat.{pow-le-pow_right, div-eq_of_lt, add_comm}
 use Rattle.std.proofs.lemmas.Bool.{cases_lt, cond_below, cond_above}
 use Rattle.pv_word.specs.declared.types.Ty.{Ty}
 use Rattle.pv_word.specs.Range.{IsInRange}
-use Rattle.pv_word.specs.Wrap.{IsCongruent, residue, wrap_at}
+use Rattle.pv_word.specs.Wrap.{IsCongruent, wrap_at}
 use Rattle.pv_word.specs.Bits.{pattern_at, pattern_bit_at}
-use Rattle.pv_word.specs.Types.{width_of, is_signed_of, InRange, wrap_of, pattern_of, bit_of, HasBits, and_of, or_of, xor_of, not_of, shl_of, shr_of}
-use Rattle.pv_word.proofs.Congruence.{congruent-refl, congruent-sym, congruent-trans, congruent-sum, congruent-difference, congruent-from_parts, residue-lt, residue-congruent, residue-congruent_same}
+use Rattle.pv_word.specs.Types.{width_of, is_signed_of, wrap_of, pattern_of, bit_of, HasBits, and_of, or_of, xor_of, not_of, shl_of, shr_of}
+use Rattle.pv_word.proofs.Congruence.{congruent-refl, congruent-trans, congruent-sum, congruent-difference, congruent-from_parts, residue-lt, residue-congruent, residue-congruent_same}
 use Rattle.pv_word.proofs.TypeLaws.{wide}
 use Rattle.pv_word.proofs.WrapLaws.{wrap-in_range, wrap-congruent, wrap-congruent_same, wrap-own, zero-in_range}
 
@@ -57,14 +57,14 @@ bit-wrap_pos w s n i p h = ap (λ m. bit_at m i) (pattern-wrap w s (pos n) p ∙
 pub has_bits-wrap_pos : (ty : Ty) (n : ℕ) (f : ℕ → ℕ) → ((i : ℕ) → i < width_of ty → bit_at n i ≡ f i) → HasBits ty (wrap_of ty (pos n)) f
 has_bits-wrap_pos ty n f h = record {
   in_range = wrap-in_range (width_of ty) (is_signed_of ty) (pos n) (wide ty);
-  bits = λ i k. bit-wrap_pos (width_of ty) (is_signed_of ty) n i (wide ty) k ∙ h i k
+  bits = λ i k. bit-wrap_pos (width_of ty) (is_signed_of ty) n i (wide ty) k ∙ h i k;
 }
 
 -- two values with the same bits are one
 pub has_bits-unique : (ty : Ty) (f : ℕ → ℕ) (r s : ℤ) → HasBits ty r f → HasBits ty s f → r ≡ s
 has_bits-unique ty f r s a b =
     in_range-pattern_same (is_signed_of ty) (wide ty) a.in_range b.in_range
-        (same_from_bits_below (width_of ty) _ _ (pattern-lt (width_of ty) r) (pattern-lt (width_of ty) s) (λ i k. a.bits i k ∙ sym (b.bits i k)))
+    (same_from_bits_below (width_of ty) _ _ (pattern-lt (width_of ty) r) (pattern-lt (width_of ty) s) (λ i k. a.bits i k ∙ sym (b.bits i k)))
 
 -- ---- the operations
 
@@ -92,7 +92,7 @@ bit_at-complement w n i h k =
     let same : 2 ^ w - (n + 1) ≡ 2 ^ w - 1 - n = omega arith in
     let whole : bit_and (2 ^ w - (n + 1)) (2 ^ i) + bit_and n (2 ^ i) ≡ 2 ^ i = ap (λ m. bit_and m (2 ^ i) + bit_and n (2 ^ i)) same ∙ and-not w n (2 ^ i) h (pow_below i w k) in
     complement-sum (bit_at (2 ^ w - (n + 1)) i) (bit_at n i) (2 ^ i) (pow_pos i) (bit_at-lt (2 ^ w - (n + 1)) i) (bit_at-lt n i)
-        (omega (arith, and_pow (2 ^ w - (n + 1)) i, and_pow n i, whole))
+    (omega (arith, and_pow (2 ^ w - (n + 1)) i, and_pow n i, whole))
 
 pub has_bits-not_of : (ty : Ty) (a : ℤ) → HasBits ty (not_of ty a) (λ i. 1 - bit_of ty a i)
 has_bits-not_of ty a = has_bits-wrap_pos ty _ _ (λ i k. bit_at-complement (width_of ty) (pattern_of ty a) i (pattern-lt (width_of ty) a) k)
@@ -101,17 +101,17 @@ bit_at-shl : (p n i : ℕ) → bit_at (p * 2 ^ n) i ≡ (if nat_lt i n then 0 el
 bit_at-shl p n i =
     let plain : p * 2 ^ n ≡ p * 2 ^ n + 0 = omega arith in
     ap (λ m. bit_at m i) plain ∙ ⊎_elim
-        (λ (l : i < n). bit_at_cat_low p n 0 i l ∙ bit_at-zero i ∙ cond_below i n 0 (bit_at p (i - n)) l)
-        (λ (g : n ≤ i). cond_above i n 0 (bit_at p (i - n)) _ g (bit_at_cat_high p n 0 i (pow_pos n) g))
-        (cases_lt i n)
+    (λ (l : i < n). bit_at_cat_low p n 0 i l ∙ bit_at-zero i ∙ cond_below i n 0 (bit_at p (i - n)) l)
+    (λ (g : n ≤ i). cond_above i n 0 (bit_at p (i - n)) _ g (bit_at_cat_high p n 0 i (pow_pos n) g))
+    (cases_lt i n)
 
 bit_at-shr : (w p n i : ℕ) → p < 2 ^ w → bit_at (p / 2 ^ n) i ≡ (if nat_lt (i + n) w then bit_at p (i + n) else 0)
 bit_at-shr w p n i h =
     let moved : bit_at (p / 2 ^ n) i ≡ bit_at p (i + n) = ap (λ m. m % 2) (shr-shr p n i ∙ ap (λ m. p / 2 ^ m) (add_comm n i)) in
     moved ∙ ⊎_elim
-        (λ (l : i + n < w). cond_below (i + n) w (bit_at p (i + n)) 0 l)
-        (λ (g : w ≤ i + n). cond_above (i + n) w (bit_at p (i + n)) 0 _ g (bit_at_above p w (i + n) h g))
-        (cases_lt (i + n) w)
+    (λ (l : i + n < w). cond_below (i + n) w (bit_at p (i + n)) 0 l)
+    (λ (g : w ≤ i + n). cond_above (i + n) w (bit_at p (i + n)) 0 _ g (bit_at_above p w (i + n) h g))
+    (cases_lt (i + n) w)
 
 pub has_bits-shl_of : (ty : Ty) (a : ℤ) (n : ℕ) → HasBits ty (shl_of ty a n) (λ i. if nat_lt i n then 0 else bit_of ty a (i - n))
 has_bits-shl_of ty a n = has_bits-wrap_pos ty _ _ (λ i _. bit_at-shl (pattern_of ty a) n i)

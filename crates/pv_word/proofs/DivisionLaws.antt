@@ -1,15 +1,15 @@
 -- The laws of the division that truncates toward zero.
-use Rattle.std.proofs.Common.{◌≡◌, ◌≢◌, ℕ, zero, suc, ◌+◌, ◌*◌, ◌/◌, ◌%◌, ◌<◌, ◌≤◌, arith, refl, ap, sym, ◌∙◌, ◌⊎◌, ⊎_elim, Bool, true, false}
+use Rattle.std.proofs.Common.{◌≡◌, ◌≢◌, ℕ, zero, suc, ◌+◌, ◌-◌, ◌*◌, ◌/◌, ◌%◌, ◌^◌, ◌<◌, ◌≤◌, arith, refl, ap, sym, ◌∙◌, ⊎_elim, Bool, true, false}
 use Rattle.std.specs.Prelude.{ℤ, pos, negsuc, neg_ℤ, ◌+ℤ◌, ◌*ℤ◌, ◌≤ℤ◌, unsigned_abs}
 use Rattle.std.proofs.lemmas.Int.{ints, quot-rem, rem_below}
-use Rattle.std.proofs.lemmas.Nat.{pow_pos}
 use Rattle.std.proofs.lemmas.Bool.{cases_lt}
 use Rattle.std.proofs.Math.Nat.{div-le_self, mul-le-mul_right, zero-mod}
-use borrow.Author.Differences.{up, down, same_in, same_out, sum_is_lem, product_is, neg_is, abs_is}
+use borrow.Author.Differences.{up, down, same_in, same_out, sum_is_lem, product_is, neg_is}
 use Rattle.pv_word.specs.Division.{IsDivision, quotient, remainder}
-use Rattle.pv_word.specs.Range.{IsInRange}
+use Rattle.pv_word.specs.Range.{least_at, IsInRange}
 use Rattle.pv_word.specs.Wrap.{IsCongruent}
-use Rattle.pv_word.proofs.Congruence.{congruent-near, congruent-from_parts}
+use Rattle.pv_word.proofs.Congruence.{congruent-refl, congruent-near, congruent-from_parts}
+use Rattle.pv_word.proofs.WrapLaws.{double}
 
 pub nonzero_abs : (b : ℤ) → b ≢ pos 0 → 0 < unsigned_abs b
 nonzero_abs b n = omega (arith, ints)
@@ -31,7 +31,7 @@ division-is a b n = record {
   equation = quot-rem a b;
   smaller = rem_below a b (nonzero_abs b n);
   not_below = remainder-not_below a b;
-  not_above = remainder-not_above a b
+  not_above = remainder-not_above a b;
 }
 
 -- two divisions of one number leave congruent remainders
@@ -51,9 +51,9 @@ factors-same : (x y m : ℕ) → 0 < m → x * m ≡ y * m → x ≡ y
 factors-same x y m p e = ⊎_elim
     (λ (l : x < y). absurd (omega (arith, mul-le-mul_right m l)))
     (λ (g : y ≤ x). ⊎_elim
-        (λ (l : y < x). absurd (omega (arith, mul-le-mul_right m l)))
-        (λ (h : x ≤ y). omega arith)
-        (cases_lt y x))
+    (λ (l : y < x). absurd (omega (arith, mul-le-mul_right m l)))
+    (λ (h : x ≤ y). omega arith)
+    (cases_lt y x))
     (cases_lt x y)
 
 quotients-same : (b q s r : ℤ) → 0 < unsigned_abs b → q *ℤ b +ℤ r ≡ s *ℤ b +ℤ r → q ≡ s
@@ -90,3 +90,12 @@ quotient-within (pos a) (pos b) = div-le_self a b
 quotient-within (pos a) (negsuc b) = omega (arith, negation-abs (a / suc b), div-le_self a (suc b))
 quotient-within (negsuc a) (pos b) = omega (arith, negation-abs (suc a / b), div-le_self (suc a) b)
 quotient-within (negsuc a) (negsuc b) = div-le_self (suc a) (suc b)
+
+negation-congruent : (h m : ℕ) → m ≡ 2 * h → IsCongruent m (quotient (neg_ℤ (pos h)) (negsuc 0)) (neg_ℤ (pos h))
+negation-congruent zero m e = congruent-refl m (pos 0)
+negation-congruent (suc k) m e = congruent-from_parts m 0 1 (pos (suc k / 1)) (negsuc k) (omega arith)
+
+-- the least number of w bits, divided by -1, is congruent to itself
+pub least-by_minus_one : (w : ℕ) (s : Bool) → 0 < w → IsCongruent (2 ^ w) (quotient (least_at w s) (negsuc 0)) (least_at w s)
+least-by_minus_one w false p = congruent-refl (2 ^ w) (pos 0)
+least-by_minus_one w true p = negation-congruent (2 ^ (w - 1)) (2 ^ w) (double w p)

@@ -1,10 +1,9 @@
 -- The laws of the number of w bits that is left of a whole number.
-use Rattle.std.proofs.Common.{◌≡◌, ℕ, ◌+◌, ◌-◌, ◌*◌, ◌<◌, ◌^◌, arith, refl, ap, sym, ◌∙◌, Bool, true, false}
+use Rattle.std.proofs.Common.{◌≡◌, ℕ, ◌+◌, ◌-◌, ◌*◌, ◌<◌, ◌^◌, arith, ap, sym, ◌∙◌, Bool, true, false}
 use Rattle.std.specs.Prelude.{ℤ, pos, ◌+ℤ◌, ◌-ℤ◌, ◌*ℤ◌, ◌≤ℤ◌, ◌<ℤ◌}
 use Rattle.std.specs.Int.{int_rem_euclid}
 use Rattle.std.proofs.lemmas.Int.{ints}
 use Rattle.std.proofs.lemmas.Nat.{pow_pos, pow-add}
-use borrow.Author.Differences.{up, down}
 use Rattle.pv_word.specs.Range.{least_at, greatest_at, IsInRange}
 use Rattle.pv_word.specs.Wrap.{IsCongruent, IsWrap, residue, wrap_at}
 use Rattle.pv_word.proofs.Congruence.{congruent-refl, congruent-sym, congruent-trans, congruent-sum, congruent-difference, congruent-product, congruent-near, congruent-less, residue-lt, residue-congruent, rest-residue}
@@ -85,7 +84,7 @@ wrap-rest_low w s n r p e h =
     let is : pos (residue (2 ^ w) n) ≡ r = rest-residue (2 ^ w) n ∙ sym e in
     record {
       in_range = record { from = omega (arith, ints); to = h };
-      congruent = record { left = c.left; right = c.right; equal = ap (λ z. z +ℤ pos (c.left * 2 ^ w)) (sym is) ∙ c.equal }
+      congruent = record { left = c.left; right = c.right; equal = ap (λ z. z +ℤ pos (c.left * 2 ^ w)) (sym is) ∙ c.equal };
     }
 
 pub wrap-rest_high : (w : ℕ) (s : Bool) (n r d : ℤ) → 0 < w → r ≡ int_rem_euclid n (pos (2 ^ w)) → greatest_at w s <ℤ r → d ≡ r -ℤ pos (2 ^ w) → IsWrap w s n d
@@ -99,5 +98,9 @@ wrap-rest_high w s n r d p e h k =
     record {
       in_range = record { from = omega (arith, ints); to = omega (arith, ints) };
       congruent = congruent-trans (record { left = less.left; right = less.right; equal = ap (λ z. z +ℤ pos (less.left * 2 ^ w)) k ∙ less.equal })
-          (record { left = c.left; right = c.right; equal = ap (λ z. z +ℤ pos (c.left * 2 ^ w)) (sym is) ∙ c.equal })
+          (record { left = c.left; right = c.right; equal = ap (λ z. z +ℤ pos (c.left * 2 ^ w)) (sym is) ∙ c.equal });
     }
+
+-- so is the least one
+pub least-in_range : (w : ℕ) (s : Bool) → 0 < w → IsInRange w s (least_at w s)
+least-in_range w s p = let e = span w s p in record { from = omega (arith, ints); to = omega (arith, ints, pow_pos w) }

@@ -1,5 +1,5 @@
 -- The bits of a number of w bits, signed or not: those of its pattern, the least bit first.
-use Rattle.std.specs.Prelude.{◌≡◌, ℕ, ◌<◌, ◌^◌, ℤ}
+use Rattle.std.specs.Prelude.{ℕ, ◌^◌, ℤ}
 use Rattle.std.specs.Int.{bit_at}
 use Rattle.pv_word.specs.Wrap.{residue}
 

@@ -1,8 +1,7 @@
 use Rattle.std.specs.Int.{w128}
-use Rattle.std.proofs.Common.{◌∙◌, sym, subst, ◌≡◌}
-use Rattle.std.specs.Prelude.{ℤ}
+use Rattle.std.proofs.Common.{◌∙◌, sym, subst}
 use Rattle.std.proofs.lemmas.Int.{rem_is}
-use Rattle.pv_word.specs.Division.{IsDivision, quotient, remainder}
+use Rattle.pv_word.specs.Division.{IsDivision, quotient}
 use Rattle.pv_word.specs.Types.{InRange, is_signed_of}
 use Rattle.pv_word.proofs.DivisionLaws.{division-is, remainder-in_range}
 use Rattle.pv_word.proofs.TypeLaws.{wide}
@@ -17,5 +16,5 @@ returns c =
     record {
       in_range = subst (InRange c.args.ty) (sym is) inside;
       divides = (quotient c.args.a c.args.b, subst (IsDivision c.args.a c.args.b (quotient c.args.a c.args.b)) (sym is) d);
-      value = is ∙ sym (wrap-own (wide c.args.ty) inside)
+      value = is ∙ sym (wrap-own (wide c.args.ty) inside);
     }

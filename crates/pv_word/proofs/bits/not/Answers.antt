@@ -1,4 +1,4 @@
-use Rattle.std.proofs.Common.{◌≡◌, ◌+◌, ◌-◌, ◌^◌, arith, ap, ◌∙◌}
+use Rattle.std.proofs.Common.{◌≡◌, arith, ap, ◌∙◌}
 use Rattle.std.specs.Int.{w128}
 use Rattle.std.proofs.lemmas.Int.{ints, to_z-of_z}
 use Rattle.pv_word.specs.Types.{width_of, pattern_of, wrap_of}

@@ -1,7 +1,7 @@
-use Rattle.std.proofs.Common.{◌≡◌, arith, ◌∙◌, ◌^◌, ℤ, pos, ◌-ℤ◌, ◌≤ℤ◌, ◌<ℤ◌, to_z, of_z}
+use Rattle.std.proofs.Common.{arith, ◌∙◌}
 use Rattle.std.specs.Int.{int_rem_euclid, w128}
 use Rattle.std.proofs.lemmas.Int.{ints, to_z-of_z}
-use Rattle.pv_word.specs.Types.{IsWrapOf, is_signed_of, width_of, greatest_of}
+use Rattle.pv_word.specs.Types.{is_signed_of, width_of}
 use Rattle.pv_word.proofs.TypeLaws.{wide}
 use Rattle.pv_word.proofs.WrapLaws.{wrap-rest_low, wrap-rest_high, wrap-unique}
 use Rattle.pv_word.proofs.wrapping.wrap.Goals as goal
@@ -14,8 +14,8 @@ returns-then-rest-greatest-clause-one c =
     let modulus = to_z-of_z w128 c.modulus-modulus.result (record { sfits = c.modulus-modulus.type_inv }) ∙ c.modulus-modulus.ensures in
     let top = to_z-of_z w128 c.greatest.result (record { sfits = c.greatest.type_inv }) ∙ c.greatest.ensures in
     wrap-rest_low (width_of c.args.ty) (is_signed_of c.args.ty) c.args.n _ (wide c.args.ty)
-        (rest ∙ c.rem_euclid-rest.ensures.value ∙ (λ i. int_rem_euclid (n i) (modulus i)))
-        (omega (arith, ints))
+    (rest ∙ c.rem_euclid-rest.ensures.value ∙ (λ i. int_rem_euclid (n i) (modulus i)))
+    (omega (arith, ints))
 
 -- src/wrapping.rt:8:1
 pub returns-then-rest-greatest-clause-value : goal.returns-then-rest-greatest-clause-value
@@ -29,9 +29,9 @@ returns-else-rest-greatest-clause-one c =
     let modulus = to_z-of_z w128 c.modulus-modulus.result (record { sfits = c.modulus-modulus.type_inv }) ∙ c.modulus-modulus.ensures in
     let top = to_z-of_z w128 c.greatest.result (record { sfits = c.greatest.type_inv }) ∙ c.greatest.ensures in
     wrap-rest_high (width_of c.args.ty) (is_signed_of c.args.ty) c.args.n c.rem_euclid-rest.result _ (wide c.args.ty)
-        (c.rem_euclid-rest.ensures.value ∙ (λ i. int_rem_euclid (n i) (modulus i)))
-        (omega (arith, ints))
-        (omega (arith, ints))
+    (c.rem_euclid-rest.ensures.value ∙ (λ i. int_rem_euclid (n i) (modulus i)))
+    (omega (arith, ints))
+    (omega (arith, ints))
 
 -- src/wrapping.rt:8:1
 pub returns-else-rest-greatest-clause-value : goal.returns-else-rest-greatest-clause-value
