@@ -1,20 +1,20 @@
 -- The laws of patterns and their bits.
 use Rattle.std.proofs.Common.{◌≡◌, ℕ, zero, suc, ◌+◌, ◌-◌, ◌*◌, ◌/◌, ◌%◌, ◌^◌, ◌<◌, ◌≤◌, arith, refl, ap, sym, subst, ◌∙◌, Bool, nat_lt, ⊎_elim}
-use Rattle.std.specs.Prelude.{ℤ, pos, ◌+ℤ◌, ◌-ℤ◌, min, max, bit_and, if◌then◌else◌}
-use Rattle.std.specs.Int.{bit_at}
+use Rattle.std.specs.Prelude.{ℤ, pos, negsuc, ◌≤ℤ◌, ◌<ℤ◌, FitsSigned, ◌+ℤ◌, ◌-ℤ◌, min, max, bit_and, if◌then◌else◌}
+use Rattle.std.specs.Int.{bit_at, w128, cast_unsigned}
 use Rattle.std.proofs.lemmas.Int.{ints}
-use Rattle.std.proofs.lemmas.Nat.{pow_pos, pow-add, shr_split, shr-shr, and-not, pow_below}
+use Rattle.std.proofs.lemmas.Nat.{and_mask, pow_pos, pow-add, shr_split, shr-shr, and-not, pow_below}
 use Rattle.std.proofs.lemmas.Nat.Bits.{bit_at_and, bit_at_or, bit_at_xor, bit_at_cat_low, bit_at_cat_high, bit_at-zero, bit_at_above, and_pow, bit_at-lt, same_from_bits_below}
 use Rattle.std.proofs.Math.Nat.{pow-le-pow_right, div-eq_of_lt, add_comm}
 use Rattle.std.proofs.lemmas.Bool.{cases_lt, cond_below, cond_above}
 use Rattle.pv_word.specs.declared.types.Ty.{Ty}
-use Rattle.pv_word.specs.Range.{IsInRange}
-use Rattle.pv_word.specs.Wrap.{IsCongruent, wrap_at}
+use Rattle.pv_word.specs.Range.{greatest_at, IsInRange}
+use Rattle.pv_word.specs.Wrap.{IsCongruent, IsWrap, wrap_at}
 use Rattle.pv_word.specs.Bits.{pattern_at, pattern_bit_at}
 use Rattle.pv_word.specs.Types.{width_of, is_signed_of, wrap_of, pattern_of, bit_of, HasBits, and_of, or_of, xor_of, not_of, shl_of, shr_of}
 use Rattle.pv_word.proofs.Congruence.{congruent-refl, congruent-trans, congruent-sum, congruent-difference, congruent-from_parts, residue-lt, residue-congruent, residue-congruent_same}
 use Rattle.pv_word.proofs.TypeLaws.{wide}
-use Rattle.pv_word.proofs.WrapLaws.{wrap-in_range, wrap-congruent, wrap-congruent_same, wrap-own, zero-in_range}
+use Rattle.pv_word.proofs.WrapLaws.{wrap-in_range, wrap-congruent, wrap-congruent_same, wrap-own, zero-in_range, span}
 
 -- ---- the pattern
 
@@ -156,3 +156,36 @@ wrap-complement ty a b =
 -- the bits of an equal number
 pub has_bits-along : {ty : Ty} {r s : ℤ} {f : ℕ → ℕ} → HasBits ty s f → r ≡ s → HasBits ty r f
 has_bits-along {ty} {r} {s} {f} h e = subst (λ z. HasBits ty z f) (sym e) h
+
+-- ---- the pattern as the code computes it
+
+-- the bits of z at 128 bits, as a number from 0, are congruent to it
+unsigned-congruent : (w : ℕ) (z : ℤ) → w ≤ 128 → FitsSigned w128 z → IsCongruent (2 ^ w) z (pos (cast_unsigned w128 z))
+unsigned-congruent w (pos a) h f = congruent-refl (2 ^ w) (pos a)
+unsigned-congruent w (negsuc a) h f =
+    let split : 128 - w + w ≡ 128 = omega arith in
+    let power : 2 ^ 128 ≡ 2 ^ (128 - w) * 2 ^ w = ap (λ k. 2 ^ k) (sym split) ∙ pow-add 2 (128 - w) w in
+    congruent-from_parts (2 ^ w) (2 ^ (128 - w)) 0 (negsuc a) (pos (2 ^ 128 - suc a)) (omega (arith, f.sfits))
+
+pub pattern-lowest : (w : ℕ) (z : ℤ) → w ≤ 128 → FitsSigned w128 z → bit_and (cast_unsigned w128 z) (2 ^ w - 1) ≡ pattern_at w z
+pattern-lowest w z h f =
+    and_mask (cast_unsigned w128 z) w ∙ sym (pattern-pos w (cast_unsigned w128 z)) ∙ sym (pattern-congruent_same w (unsigned-congruent w z h f))
+
+-- a pattern that is a value, and one that lies 2 ^ w above one
+pub wrap-low : (w : ℕ) (s : Bool) (n r : ℤ) → 0 < w → r ≡ pos (pattern_at w n) → r ≤ℤ greatest_at w s → IsWrap w s n r
+wrap-low w s n r p e h =
+    let low = (zero-in_range w s p).from in
+    record {
+      in_range = record { from = omega (arith, ints); to = h };
+      congruent = subst (λ z. IsCongruent (2 ^ w) z n) (sym e) (pattern-congruent w n);
+    }
+
+pub wrap-high : (w : ℕ) (s : Bool) (n r : ℤ) → 0 < w → r ≡ pos (pattern_at w n) -ℤ pos (2 ^ w) → greatest_at w s <ℤ pos (pattern_at w n) → IsWrap w s n r
+wrap-high w s n r p e h =
+    let high = (zero-in_range w s p).to in
+    let f = span w s p in
+    let small = pattern-lt w n in
+    record {
+      in_range = record { from = omega (arith, ints); to = omega (arith, ints) };
+      congruent = congruent-trans (congruent-from_parts (2 ^ w) 1 0 r (pos (pattern_at w n)) (omega (arith, ints))) (pattern-congruent w n);
+    }

@@ -1,7 +1,6 @@
 -- The laws of congruence modulo m, and of what is left of a number modulo m.
 use Rattle.std.proofs.Common.{◌≡◌, ℕ, ◌+◌, ◌-◌, ◌*◌, ◌/◌, ◌%◌, ◌<◌, ◌≤◌, arith, refl, ap, sym, ◌∙◌, ⊎_elim}
 use Rattle.std.specs.Prelude.{ℤ, pos, negsuc, neg_ℤ, ◌+ℤ◌, ◌-ℤ◌, ◌*ℤ◌, unsigned_abs}
-use Rattle.std.specs.Int.{int_rem_euclid}
 use Rattle.std.proofs.lemmas.Int.{ints}
 use Rattle.std.proofs.lemmas.Nat.{mod_below, div-add-mod'}
 use Rattle.std.proofs.lemmas.Bool.{cases_lt}
@@ -81,11 +80,9 @@ residue-congruent_same {m} {a} {b} p c =
     (omega (arith, residue-lt m a p, residue-lt m b p))
     (omega (arith, residue-lt m a p, residue-lt m b p)))
 
--- a number less m is congruent to it
-pub congruent-less : (m : ℕ) (a : ℤ) → IsCongruent m (a -ℤ pos m) a
-congruent-less m a = record { left = 1; right = 0; equal = omega (arith, ints) }
-
--- what is left, as a whole number
-pub rest-residue : (m : ℕ) (z : ℤ) → pos (residue m z) ≡ int_rem_euclid z (pos m)
-rest-residue m (pos a) = refl
-rest-residue m (negsuc a) = refl
+-- congruent modulo a multiple of m
+pub congruent-divisor : {m M : ℕ} (k : ℕ) {a b : ℤ} → M ≡ k * m → IsCongruent M a b → IsCongruent m a b
+congruent-divisor {m} {M} k {a} {b} e c =
+    let first : c.left * M ≡ c.left * k * m = ap (λ x. c.left * x) e ∙ omega arith in
+    let second : c.right * M ≡ c.right * k * m = ap (λ x. c.right * x) e ∙ omega arith in
+    congruent-from_parts m (c.left * k) (c.right * k) a b (omega (arith, congruent-parts M a b c))

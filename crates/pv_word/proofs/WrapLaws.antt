@@ -1,12 +1,11 @@
 -- The laws of the number of w bits that is left of a whole number.
-use Rattle.std.proofs.Common.{◌≡◌, ℕ, ◌+◌, ◌-◌, ◌*◌, ◌<◌, ◌^◌, arith, ap, sym, ◌∙◌, Bool, true, false}
-use Rattle.std.specs.Prelude.{ℤ, pos, ◌+ℤ◌, ◌-ℤ◌, ◌*ℤ◌, ◌≤ℤ◌, ◌<ℤ◌}
-use Rattle.std.specs.Int.{int_rem_euclid}
+use Rattle.std.proofs.Common.{◌≡◌, ℕ, ◌+◌, ◌-◌, ◌*◌, ◌<◌, ◌≤◌, ◌^◌, arith, ap, sym, ◌∙◌, Bool, true, false}
+use Rattle.std.specs.Prelude.{ℤ, pos, ◌+ℤ◌, ◌-ℤ◌, ◌*ℤ◌}
 use Rattle.std.proofs.lemmas.Int.{ints}
 use Rattle.std.proofs.lemmas.Nat.{pow_pos, pow-add}
 use Rattle.pv_word.specs.Range.{least_at, greatest_at, IsInRange}
 use Rattle.pv_word.specs.Wrap.{IsCongruent, IsWrap, residue, wrap_at}
-use Rattle.pv_word.proofs.Congruence.{congruent-refl, congruent-sym, congruent-trans, congruent-sum, congruent-difference, congruent-product, congruent-near, congruent-less, residue-lt, residue-congruent, rest-residue}
+use Rattle.pv_word.proofs.Congruence.{congruent-refl, congruent-sym, congruent-trans, congruent-sum, congruent-difference, congruent-product, congruent-near, congruent-divisor, residue-lt, residue-congruent}
 
 -- 2 to the power of w is twice its half
 pub double : (w : ℕ) → 0 < w → 2 ^ w ≡ 2 * 2 ^ (w - 1)
@@ -62,6 +61,13 @@ wrap-congruent_same {w} s {a} {b} p c =
 
 -- ---- to wrap on the way changes nothing
 
+-- to wrap to more bits first
+pub wrap-wider : (w v : ℕ) (s t : Bool) (n : ℤ) → 0 < w → w ≤ v → wrap_at w s (wrap_at v t n) ≡ wrap_at w s n
+wrap-wider w v s t n p h =
+    let split : v - w + w ≡ v = omega arith in
+    let power : 2 ^ v ≡ 2 ^ (v - w) * 2 ^ w = ap (λ k. 2 ^ k) (sym split) ∙ pow-add 2 (v - w) w in
+    wrap-congruent_same s p (congruent-divisor (2 ^ (v - w)) power (wrap-congruent v t n (omega arith)))
+
 pub wrap-sum : (w : ℕ) (s t u : Bool) (a b : ℤ) → 0 < w → wrap_at w s (wrap_at w t a +ℤ wrap_at w u b) ≡ wrap_at w s (a +ℤ b)
 wrap-sum w s t u a b p = wrap-congruent_same s p (congruent-sum (wrap-congruent w t a p) (wrap-congruent w u b p))
 
@@ -76,31 +82,6 @@ pub zero-in_range : (w : ℕ) (s : Bool) → 0 < w → IsInRange w s (pos 0)
 zero-in_range w false p = record { from = omega (arith, ints); to = omega (arith, ints, pow_pos w) }
 zero-in_range w true p = record { from = omega (arith, ints); to = omega (arith, ints, pow_pos (w - 1)) }
 
--- what is left of n modulo 2 ^ w, as the code computes it, is its wrap, or lies 2 ^ w above it
-pub wrap-rest_low : (w : ℕ) (s : Bool) (n r : ℤ) → 0 < w → r ≡ int_rem_euclid n (pos (2 ^ w)) → r ≤ℤ greatest_at w s → IsWrap w s n r
-wrap-rest_low w s n r p e h =
-    let c = residue-congruent (2 ^ w) n (pow_pos w) in
-    let low = (zero-in_range w s p).from in
-    let is : pos (residue (2 ^ w) n) ≡ r = rest-residue (2 ^ w) n ∙ sym e in
-    record {
-      in_range = record { from = omega (arith, ints); to = h };
-      congruent = record { left = c.left; right = c.right; equal = ap (λ z. z +ℤ pos (c.left * 2 ^ w)) (sym is) ∙ c.equal };
-    }
-
-pub wrap-rest_high : (w : ℕ) (s : Bool) (n r d : ℤ) → 0 < w → r ≡ int_rem_euclid n (pos (2 ^ w)) → greatest_at w s <ℤ r → d ≡ r -ℤ pos (2 ^ w) → IsWrap w s n d
-wrap-rest_high w s n r d p e h k =
-    let c = residue-congruent (2 ^ w) n (pow_pos w) in
-    let high = (zero-in_range w s p).to in
-    let is : pos (residue (2 ^ w) n) ≡ r = rest-residue (2 ^ w) n ∙ sym e in
-    let f = span w s p in
-    let small = residue-lt (2 ^ w) n (pow_pos w) in
-    let less = congruent-less (2 ^ w) r in
-    record {
-      in_range = record { from = omega (arith, ints); to = omega (arith, ints) };
-      congruent = congruent-trans (record { left = less.left; right = less.right; equal = ap (λ z. z +ℤ pos (less.left * 2 ^ w)) k ∙ less.equal })
-          (record { left = c.left; right = c.right; equal = ap (λ z. z +ℤ pos (c.left * 2 ^ w)) (sym is) ∙ c.equal });
-    }
-
--- so is the least one
+-- the least number of w bits is one
 pub least-in_range : (w : ℕ) (s : Bool) → 0 < w → IsInRange w s (least_at w s)
 least-in_range w s p = let e = span w s p in record { from = omega (arith, ints); to = omega (arith, ints, pow_pos w) }

@@ -1,4 +1,5 @@
 -- The elementary types of S7-300/400 blocks: how wide each is, which are signed, and the words of the contracts over them.
+-- Widths and ranges are those of the manual S7-SCL for S7-300/S7-400, "Elementary Data Types".
 use Rattle.std.specs.Prelude.{◌≡◌, ℕ, ◌+◌, ◌-◌, ◌*◌, ◌/◌, ◌<◌, ◌^◌, ℤ, pos, Bool as Truth, true, false, bit_and, bit_or, bit_xor}
 use Rattle.pv_word.specs.declared.types.Ty.{Ty}
 use Rattle.pv_word.specs.declared.types.Ty.TheVariants.{Bool, Byte, Word, Dword, Int, Dint, Time}
@@ -26,6 +27,7 @@ is_signed_of Int = true
 is_signed_of Dint = true
 is_signed_of Time = true
 
+-- the least and the greatest value
 abbrev pub least_of : Ty → ℤ
 least_of ty = least_at (width_of ty) (is_signed_of ty)
 
@@ -40,7 +42,7 @@ InRange ty v = IsInRange (width_of ty) (is_signed_of ty) v
 abbrev pub IsWrapOf : Ty → ℤ → ℤ → Type 0
 IsWrapOf ty n r = IsWrap (width_of ty) (is_signed_of ty) n r
 
--- the value of the type that is left of n
+-- the value of the type that is congruent to n
 abbrev pub wrap_of : Ty → ℤ → ℤ
 wrap_of ty n = wrap_at (width_of ty) (is_signed_of ty) n
 

@@ -37,8 +37,8 @@ pub fn mul(ty: Ty, a: i128, b: i128) -> i128
     wrap(ty, a * b)
 }
 
-/// The quotient, truncated toward zero and wrapped. It leaves the range only where the least value of a signed type is
-/// divided by -1, and is the least value then.
+/// The quotient, truncated toward zero and wrapped. The quotient of whole numbers is out of range only where the least value of
+/// a signed type is divided by -1, and the result is the least value then.
 pub fn div(ty: Ty, a: i128, b: i128) -> i128
     requires a_in_range { InRange ty a }
     requires b_in_range { InRange ty b }

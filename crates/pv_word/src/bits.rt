@@ -3,14 +3,7 @@ ghost use Rattle.std.specs.Prelude.{◌≡◌, ◌+◌, ◌-◌, ◌%◌, ◌≤
 ghost use Rattle.pv_word.specs.Types.{width_of, InRange, pattern_of, bit_of, HasBits, and_of, or_of, xor_of, not_of, shl_of, shr_of};
 
 use crate::types::{Ty, modulus, width};
-use crate::wrapping::wrap;
-
-/// The bits of a value, as a number from 0.
-fn pattern(ty: Ty, v: i128) -> u64
-    ensures { result ≡ pattern_of ty v }
-{
-    v.rem_euclid(modulus(ty)) as u64
-}
+use crate::wrapping::{pattern, wrap};
 
 /// The conjunction of each bit of `a` and that of `b`.
 pub fn and(ty: Ty, a: i128, b: i128) -> i128

@@ -1,8 +1,8 @@
 //! The laws of [`wrap`](crate::wrap) and of patterns, over every type and all whole numbers. Each is the contract of a call
 //! that does nothing.
-ghost use Rattle.std.specs.Prelude.{◌≡◌, ℕ, ◌<◌, ◌^◌, ℤ, pos, negsuc, ◌+ℤ◌, ◌-ℤ◌, ◌*ℤ◌};
+ghost use Rattle.std.specs.Prelude.{◌≡◌, ℕ, ◌<◌, ◌≤◌, ◌^◌, ℤ, pos, negsuc, ◌+ℤ◌, ◌-ℤ◌, ◌*ℤ◌};
 ghost use Rattle.pv_word.specs.Division.{IsDivision, quotient};
-ghost use Rattle.pv_word.specs.Wrap.{IsCongruent};
+ghost use Rattle.pv_word.specs.Wrap.{IsCongruent, residue};
 ghost use Rattle.pv_word.specs.Types.{width_of, least_of, InRange, IsWrapOf, wrap_of, pattern_of, bit_of, HasBits, not_of};
 
 use crate::types::Ty;
@@ -21,6 +21,16 @@ pub fn wrap_is_in_range(ty: Ty)
 /// A value of the type is what is left of it.
 pub fn wrap_keeps_values(ty: Ty)
     ensures { (v : ℤ) → InRange ty v → wrap_of ty v ≡ v }
+{}
+
+/// Congruent numbers have one wrap.
+pub fn congruent_numbers_wrap_alike(ty: Ty)
+    ensures { (a b : ℤ) → IsCongruent (2 ^ width_of ty) a b → wrap_of ty a ≡ wrap_of ty b }
+{}
+
+/// To wrap for a type with at least as many bits, and then for this one, is to wrap for this one.
+pub fn wrap_of_wider(ty: Ty, wider: Ty)
+    ensures { (n : ℤ) → width_of ty ≤ width_of wider → wrap_of ty (wrap_of wider n) ≡ wrap_of ty n }
 {}
 
 /// To wrap the terms of a sum changes nothing.
@@ -48,6 +58,11 @@ pub fn pattern_is_the_value(ty: Ty)
     ensures congruent { (v : ℤ) → IsCongruent (2 ^ width_of ty) (pos (pattern_of ty v)) v }
     ensures short { (v : ℤ) → pattern_of ty v < 2 ^ width_of ty }
     ensures back { (v : ℤ) → InRange ty v → wrap_of ty (pos (pattern_of ty v)) ≡ v }
+{}
+
+/// The pattern of what is left of a number is that of the number: what it leaves modulo 2 to the power of the width.
+pub fn pattern_of_wrapped(ty: Ty)
+    ensures { (n : ℤ) → pattern_of ty (wrap_of ty n) ≡ residue (2 ^ width_of ty) n }
 {}
 
 /// Two values with the same bits are one.

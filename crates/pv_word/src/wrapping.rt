@@ -1,8 +1,16 @@
-// The value of a type that is left of a whole number.
+// The pattern of a number, and the value of a type that has it.
 ghost use Rattle.std.specs.Prelude.{◌≡◌};
-ghost use Rattle.pv_word.specs.Types.{InRange, IsWrapOf, wrap_of};
+ghost use Rattle.pv_word.specs.Types.{InRange, IsWrapOf, wrap_of, pattern_of};
 
-use crate::types::{Ty, greatest, modulus};
+use crate::types::{Ty, greatest, modulus, width};
+
+/// The lowest bits of `n` in two's complement, as many as the type has, as a number from 0.
+pub(crate) fn pattern(ty: Ty, n: i128) -> u64
+    ensures { result ≡ pattern_of ty n }
+{
+    let ones = (1_u128 << width(ty)) - 1;
+    (n.cast_unsigned() & ones) as u64
+}
 
 /// The value of the type that is congruent to `n` modulo 2 to the power of the width. There is exactly one.
 pub fn wrap(ty: Ty, n: i128) -> i128
@@ -10,11 +18,10 @@ pub fn wrap(ty: Ty, n: i128) -> i128
     ensures one { IsWrapOf ty n result }
     ensures value { result ≡ wrap_of ty n }
 {
-    let modulus = modulus(ty);
-    let rest = n.rem_euclid(modulus);
-    if rest <= greatest(ty) {
-        rest
+    let pattern = i128::from(pattern(ty, n));
+    if pattern <= greatest(ty) {
+        pattern
     } else {
-        rest - modulus
+        pattern - modulus(ty)
     }
 }
