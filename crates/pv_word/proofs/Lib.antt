@@ -1,5 +1,6 @@
 pub mod BitLaws
 pub mod Congruence
 pub mod DivisionLaws
+pub mod PatternLaws
 pub mod TypeLaws
 pub mod WrapLaws

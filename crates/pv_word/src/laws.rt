@@ -1,9 +1,9 @@
 //! The laws of [`wrap`](crate::wrap) and of patterns, over every type and all whole numbers. Each is the contract of a call
 //! that does nothing.
-ghost use Rattle.std.specs.Prelude.{◌≡◌, ℕ, ◌<◌, ◌≤◌, ◌^◌, ℤ, pos, negsuc, ◌+ℤ◌, ◌-ℤ◌, ◌*ℤ◌};
+ghost use Rattle.std.specs.Prelude.{◌≡◌, ℕ, ◌+◌, ◌-◌, ◌*◌, ◌%◌, ◌<◌, ◌≤◌, ◌^◌, ℤ, pos, negsuc, ◌+ℤ◌, ◌-ℤ◌, ◌*ℤ◌, ◌<ℤ◌, ◌≤ℤ◌, true};
 ghost use Rattle.pv_word.specs.Division.{IsDivision, quotient};
 ghost use Rattle.pv_word.specs.Wrap.{IsCongruent, residue};
-ghost use Rattle.pv_word.specs.Types.{width_of, least_of, InRange, IsWrapOf, wrap_of, pattern_of, bit_of, HasBits, not_of};
+ghost use Rattle.pv_word.specs.Types.{width_of, is_signed_of, least_of, InRange, IsWrapOf, wrap_of, pattern_of, bit_of, HasBits, not_of};
 
 use crate::types::Ty;
 
@@ -63,6 +63,25 @@ pub fn pattern_is_the_value(ty: Ty)
 /// The pattern of what is left of a number is that of the number: what it leaves modulo 2 to the power of the width.
 pub fn pattern_of_wrapped(ty: Ty)
     ensures { (n : ℤ) → pattern_of ty (wrap_of ty n) ≡ residue (2 ^ width_of ty) n }
+{}
+
+/// Patterns are added, taken away and multiplied modulo 2 to the power of the width, whatever the sign of the type.
+pub fn pattern_of_results(ty: Ty)
+    ensures sum { (a b : ℤ) → pattern_of ty (a +ℤ b) ≡ (pattern_of ty a + pattern_of ty b) % 2 ^ width_of ty }
+    ensures difference { (a b : ℤ) → pattern_of ty (a -ℤ b) ≡ (pattern_of ty a + (2 ^ width_of ty - pattern_of ty b)) % 2 ^ width_of ty }
+    ensures product { (a b : ℤ) → pattern_of ty (a *ℤ b) ≡ (pattern_of ty a * pattern_of ty b) % 2 ^ width_of ty }
+{}
+
+/// A value that isn't negative is its pattern, and a negative one lies 2 to the power of the width below.
+pub fn value_by_pattern(ty: Ty)
+    ensures not_negative { (v : ℤ) → InRange ty v → pos 0 ≤ℤ v → pos (pattern_of ty v) ≡ v }
+    ensures negative { (v : ℤ) → InRange ty v → v <ℤ pos 0 → pos (pattern_of ty v) ≡ v +ℤ pos (2 ^ width_of ty) }
+{}
+
+/// The highest bit of a signed value is 1 where it is negative, and else 0.
+pub fn highest_bit_is_the_sign(ty: Ty)
+    ensures not_negative { (v : ℤ) → is_signed_of ty ≡ true → InRange ty v → pos 0 ≤ℤ v → bit_of ty v (width_of ty - 1) ≡ 0 }
+    ensures negative { (v : ℤ) → is_signed_of ty ≡ true → InRange ty v → v <ℤ pos 0 → bit_of ty v (width_of ty - 1) ≡ 1 }
 {}
 
 /// Two values with the same bits are one.
