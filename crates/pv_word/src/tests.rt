@@ -1,6 +1,7 @@
 // The ends of each type through each public call. The results come from C's integers of the same widths, by Python's ctypes.
 use super::*;
 use std::cmp::Ordering::{self, Equal, Greater, Less};
+use std::process::Abort;
 
 /// A type and two values; their sum, difference and product; quotient and remainder, or none where the second is 0; conjunction,
 /// disjunction and exclusive disjunction; their order.
@@ -14,7 +15,7 @@ type Pair = (
     Ordering,
 );
 
-const PAIRS: [Pair; 40] = [
+static PAIRS: [Pair; 40] = [
     (Ty::Bool, 1, 1, [0, 0, 1], Some((1, 0)), [1, 1, 0], Equal),
     (Ty::Bool, 1, 0, [1, 1, 0], None, [0, 1, 1], Greater),
     (Ty::Bool, 0, 1, [1, 1, 0], Some((0, 0)), [0, 1, 1], Less),
@@ -330,7 +331,7 @@ const PAIRS: [Pair; 40] = [
 ];
 
 /// A type, its width, its least and its greatest value, and whether it is signed.
-const TYPES: [(Ty, u32, i128, i128, bool); 7] = [
+static TYPES: [(Ty, u32, i128, i128, bool); 7] = [
     (Ty::Bool, 1, 0, 1, false),
     (Ty::Byte, 8, 0, 255, false),
     (Ty::Word, 16, 0, 65_535, false),
@@ -341,7 +342,7 @@ const TYPES: [(Ty, u32, i128, i128, bool); 7] = [
 ];
 
 /// A type, a number, and the value that is congruent to it.
-const WRAPPED: [(Ty, i128, i128); 42] = [
+static WRAPPED: [(Ty, i128, i128); 42] = [
     (Ty::Bool, -1, 1),
     (Ty::Bool, 0, 0),
     (Ty::Bool, 1, 1),
@@ -387,7 +388,7 @@ const WRAPPED: [(Ty, i128, i128); 42] = [
 ];
 
 /// A type, a value, and its complement.
-const COMPLEMENTS: [(Ty, i128, i128); 23] = [
+static COMPLEMENTS: [(Ty, i128, i128); 23] = [
     (Ty::Bool, 0, 1),
     (Ty::Bool, 1, 0),
     (Ty::Byte, 0, 255),
@@ -414,7 +415,7 @@ const COMPLEMENTS: [(Ty, i128, i128); 23] = [
 ];
 
 /// A type, a value, a count of places, and the value moved up and down.
-const SHIFTS: [(Ty, i128, u32, i128, i128); 44] = [
+static SHIFTS: [(Ty, i128, u32, i128, i128); 44] = [
     (Ty::Bool, 0, 0, 0, 0),
     (Ty::Bool, 0, 1, 0, 0),
     (Ty::Bool, 0, 4_294_967_295, 0, 0),
@@ -463,54 +464,65 @@ const SHIFTS: [(Ty, i128, u32, i128, i128); 44] = [
 
 #[test]
 fn ends_of_each_type(rt: HostRuntime) {
-    for (ty, bits, low, high, signed) in TYPES {
-        assert_eq!(rt; (width(ty), is_signed(ty)), (bits, signed), "{ty:?}");
-        assert_eq!(rt; (least(ty), greatest(ty)), (low, high), "{ty:?}");
-        assert!(rt; in_range(ty, low) && in_range(ty, high), "{ty:?}");
-        assert!(rt; !in_range(ty, low - 1) && !in_range(ty, high + 1), "{ty:?}");
+    for (ty, bits, low, high, signed) in TYPES.iter() {
+        assert_eq!(rt; width(*ty), *bits, "{ty:?}");
+        assert_eq!(rt; is_signed(*ty), *signed, "{ty:?}");
+        assert_eq!(rt; least(*ty), *low, "{ty:?}");
+        assert_eq!(rt; greatest(*ty), *high, "{ty:?}");
     }
-    for (ty, n, wrapped) in WRAPPED {
-        assert_eq!(rt; wrap(ty, n), wrapped, "{ty:?} {n}");
+}
+
+#[test]
+fn numbers_past_the_ends(rt: HostRuntime) {
+    for (ty, n, wrapped) in WRAPPED.iter() {
+        assert_eq!(rt; wrap(*ty, *n), *wrapped, "{ty:?} {n}");
+        assert_eq!(rt; in_range(*ty, *n), n == wrapped, "{ty:?} {n}");
     }
 }
 
 #[test]
 fn pairs_at_the_ends(rt: HostRuntime) {
-    for (ty, a, b, whole, divided, bitwise, order) in PAIRS {
-        assert!(rt; in_range(ty, a));
-        assert!(rt; in_range(ty, b));
-        assert_eq!(rt;
-            [add(ty, a, b), sub(ty, a, b), mul(ty, a, b)],
-            whole,
-            "{ty:?} {a} {b}"
-        );
-        let quotient = if b == 0 {
-            None
-        } else {
-            Some((div(ty, a, b), rem(ty, a, b)))
-        };
-        assert_eq!(rt; quotient, divided, "{ty:?} {a} {b}");
-        assert_eq!(rt;
-            [and(ty, a, b), or(ty, a, b), xor(ty, a, b)],
-            bitwise,
-            "{ty:?} {a} {b}"
-        );
-        assert_eq!(rt; compare(a, b), order, "{a} {b}");
+    for pair in PAIRS.iter() {
+        check_pair(&rt, pair);
+    }
+}
+
+fn check_pair(rt: &impl Abort, pair: &Pair) {
+    let (ty, a, b, whole, divided, bitwise, order) = *pair;
+    assert!(rt; in_range(ty, a));
+    assert!(rt; in_range(ty, b));
+    assert_eq!(rt;
+        [add(ty, a, b), sub(ty, a, b), mul(ty, a, b)],
+        whole,
+        "{ty:?} {a} {b}"
+    );
+    let quotient = if b == 0 {
+        None
+    } else {
+        Some((div(ty, a, b), rem(ty, a, b)))
+    };
+    assert_eq!(rt; quotient, divided, "{ty:?} {a} {b}");
+    assert_eq!(rt;
+        [and(ty, a, b), or(ty, a, b), xor(ty, a, b)],
+        bitwise,
+        "{ty:?} {a} {b}"
+    );
+    assert_eq!(rt; compare(a, b), order, "{a} {b}");
+}
+
+#[test]
+fn complements(rt: HostRuntime) {
+    for (ty, a, complement) in COMPLEMENTS.iter() {
+        assert!(rt; in_range(*ty, *a));
+        assert_eq!(rt; not(*ty, *a), *complement, "{ty:?} {a}");
     }
 }
 
 #[test]
-fn complements_and_shifts(rt: HostRuntime) {
-    for (ty, a, complement) in COMPLEMENTS {
-        assert!(rt; in_range(ty, a));
-        assert_eq!(rt; not(ty, a), complement, "{ty:?} {a}");
-    }
-    for (ty, a, n, up, down) in SHIFTS {
-        assert!(rt; in_range(ty, a));
-        assert_eq!(rt;
-            (shl(ty, a, n), shr(ty, a, n)),
-            (up, down),
-            "{ty:?} {a} by {n}"
-        );
+fn shifts(rt: HostRuntime) {
+    for (ty, a, n, up, down) in SHIFTS.iter() {
+        assert!(rt; in_range(*ty, *a));
+        assert_eq!(rt; shl(*ty, *a, *n), *up, "{ty:?} {a} by {n}");
+        assert_eq!(rt; shr(*ty, *a, *n), *down, "{ty:?} {a} by {n}");
     }
 }
