@@ -75,17 +75,19 @@ impl<R: std::rt::Files> Files for HostFiles<R> {
     ghost write_faults = { λ host. host.write_faults };
 
     fn read(&mut self, alloc: Global, name: &str) -> Result<Vec<u8>, FileFault> {
+        let faults = self.read_faults;
         let read = match fs::open(&self.rt, name) {
             Ok(mut file) => read_all(alloc, &mut file),
             Err(_) => Err(FileFault::Failed),
         };
         if let Err(FileFault::Failed) = read {
-            self.read_faults = next(self.read_faults);
+            self.read_faults = next(faults);
         }
         read
     }
 
     fn write(&mut self, _alloc: Global, name: &str, bytes: &[u8]) -> Result<(), FileFault> {
+        let faults = self.write_faults;
         let is_written = match fs::create(&self.rt, name) {
             Ok(mut file) => write_whole(&mut file, bytes),
             Err(_) => false,
@@ -93,7 +95,7 @@ impl<R: std::rt::Files> Files for HostFiles<R> {
         if is_written {
             return Ok(());
         }
-        self.write_faults = next(self.write_faults);
+        self.write_faults = next(faults);
         Err(FileFault::Failed)
     }
 }
@@ -104,14 +106,15 @@ impl<R: Print> Sink for HostOut<R> {
     ghost faults = { λ host. host.faults };
 
     fn write(&mut self, bytes: &[u8]) -> Result<usize, SinkFault> {
+        let faults = self.faults;
         match self.rt.write_some(bytes) {
             Err(_) => {
-                self.faults = next(self.faults);
+                self.faults = next(faults);
                 Err(SinkFault::Failed)
             }
             Ok(n) => {
                 if n == 0 && !bytes.is_empty() {
-                    self.faults = next(self.faults);
+                    self.faults = next(faults);
                 }
                 Ok(n)
             }

@@ -18,3 +18,6 @@ pub use memory::{MemFiles, MemSink};
 pub use offer::write_all;
 pub use outside::{FileFault, Files, Sink, SinkFault};
 pub use words::Text;
+
+#[cfg(test)]
+mod tests;

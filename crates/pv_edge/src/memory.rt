@@ -1,6 +1,6 @@
 //! Files and a sink in memory, which tell all that they hold and fail at the calls that they are told to.
-ghost use Rattle.std.specs.Prelude.{◌≡◌, ◌+◌, ◌<◌, ◌≤◌, ◌↔◌, ℕ, List, Option, IfOk, IfErr, IfSome, IfNone, IsErr, IsErrOf, OnOk, OnErr, Some, None, length, take, min, IsTrue, ◌==◌, ◌&&◌, ◌++◌, nat_lt, if◌then◌else◌};
-ghost use Rattle.pv_edge.specs.Faults.{HasRisen};
+ghost use Rattle.std.specs.Prelude.{◌≡◌, ◌+◌, ◌<◌, ◌≤◌, ◌↔◌, ℕ, List, Option, IfOk, IfErr, IfSome, IfNone, IsErr, IsErrOf, OnOk, OnErr, Some, None, length, take, min, IsTrue, ◌==◌, ◌&&◌, ◌++◌, nat_lt, [], if◌then◌else◌};
+ghost use Rattle.pv_edge.specs.Faults.{HasRisen, last_count};
 ghost use Rattle.pv_edge.specs.Calls.{next_count, is_failing};
 ghost use Rattle.pv_edge.specs.Files.{FileMap, Puts, PutsPart, Changes};
 ghost use Rattle.pv_edge.specs.Entries.{entries, file_at, put, index_of, next_read};
@@ -137,7 +137,11 @@ impl Files for MemFiles {
             ≡ record self.old { calls = next_count self.old.calls; read_faults = next_count self.old.read_faults } }
         ensures after_no_memory { IsErrOf result FileFault.NoMemory → self.new ≡ self.old }
         ensures never_falls { self.old.read_faults ≤ self.new.read_faults }
+        ensures counted { self.new.read_faults ≤ last_count }
+        ensures only_missing { self.old.fail_at.items ≡ [] → IsErrOf result FileFault.Failed
+            → file_at (entries self.old.files.items) name.now ≡ None }
     {
+        let faults = self.read_faults;
         match copy_at_call(
             alloc,
             &self.fail_at,
@@ -151,7 +155,7 @@ impl Files for MemFiles {
             }
             Err(FileFault::Failed) => {
                 self.calls = next(self.calls);
-                self.read_faults = next(self.read_faults);
+                self.read_faults = next(faults);
                 Err(FileFault::Failed)
             }
             Err(FileFault::NoMemory) => Err(FileFault::NoMemory),
@@ -167,14 +171,19 @@ impl Files for MemFiles {
             ≡ record self.old { files = self.new.files; calls = next_count self.old.calls }) }
         ensures after_failed { IsErrOf result FileFault.Failed → self.new
             ≡ record self.old { calls = next_count self.old.calls; write_faults = next_count self.old.write_faults } }
-        ensures after_no_memory { IsErrOf result FileFault.NoMemory → self.new ≡ record self.old { files = self.new.files } }
+        ensures after_no_memory { IsErrOf result FileFault.NoMemory
+            → self.new ≡ record self.old { files = self.new.files } }
         ensures no_memory { IsErrOf result FileFault.NoMemory → self.new.files.items ≡ self.old.files.items }
-        ensures puts { OnOk result (Puts name.now bytes.now (file_at (entries self.old.files.items)) (file_at (entries self.new.files.items))) }
+        ensures puts { OnOk result (Puts name.now bytes.now
+            (file_at (entries self.old.files.items)) (file_at (entries self.new.files.items))) }
         ensures never_falls { self.old.write_faults ≤ self.new.write_faults }
+        ensures counted { self.new.write_faults ≤ last_count }
+        ensures never_fails { self.old.fail_at.items ≡ [] → ¬ IsErrOf result FileFault.Failed }
     {
+        let faults = self.write_faults;
         if is_due(&self.fail_at, self.calls) {
             self.calls = next(self.calls);
-            self.write_faults = next(self.write_faults);
+            self.write_faults = next(faults);
             return Err(FileFault::Failed);
         }
         match put_bytes(alloc, &mut self.files, name, bytes) {
@@ -200,17 +209,23 @@ impl Sink for MemSink {
         ensures after_ok { IfOk result (λ n. self.new ≡ record self.old {
           taken = self.new.taken;
           calls = next_count self.old.calls;
-          faults = if n == 0 && nat_lt 0 (length bytes.now) then next_count self.old.faults else self.old.faults;
+          faults = if n == 0 && nat_lt 0 (length bytes.now)
+              then next_count self.old.faults else self.old.faults;
         }) }
         ensures after_failed { IsErrOf result SinkFault.Failed → self.new
             ≡ record self.old { calls = next_count self.old.calls; faults = next_count self.old.faults } }
-        ensures after_no_memory { IsErrOf result SinkFault.NoMemory → self.new ≡ record self.old { taken = self.new.taken } }
+        ensures after_no_memory { IsErrOf result SinkFault.NoMemory
+            → self.new ≡ record self.old { taken = self.new.taken } }
         ensures no_memory { IsErrOf result SinkFault.NoMemory → self.new.taken.items ≡ self.old.taken.items }
         ensures never_falls { self.old.faults ≤ self.new.faults }
+        ensures counted { self.new.faults ≤ last_count }
+        ensures never_fails { self.old.fail_at.items ≡ [] → ¬ IsErrOf result SinkFault.Failed }
+        ensures never_stalls { 0 < self.old.piece → OnOk result (self.new.faults ≡ self.old.faults) }
     {
+        let faults = self.faults;
         if is_due(&self.fail_at, self.calls) {
             self.calls = next(self.calls);
-            self.faults = next(self.faults);
+            self.faults = next(faults);
             return Err(SinkFault::Failed);
         }
         let n = bytes.len().min(self.piece);
@@ -218,7 +233,7 @@ impl Sink for MemSink {
             Ok(()) => {
                 self.calls = next(self.calls);
                 if n == 0 && !bytes.is_empty() {
-                    self.faults = next(self.faults);
+                    self.faults = next(faults);
                 }
                 Ok(n)
             }
