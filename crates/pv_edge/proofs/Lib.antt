@@ -1,2 +1,3 @@
 pub mod Entry
 pub mod Taking
+pub mod Known

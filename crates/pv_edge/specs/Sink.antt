@@ -1,5 +1,6 @@
 -- What a sink has taken.
 use Rattle.std.specs.Prelude.{ℕ, List, Option, None, Some, option_map, ◌++◌, ◌≡◌, ◌≤◌, take, length}
+use Rattle.std.specs.Io.KnownBytes.{Appends}
 
 -- what is told as taken grows by these bytes, or nothing is told before and after
 abbrev pub Takes : List ℕ → Option (List ℕ) → Option (List ℕ) → Type 0
@@ -8,3 +9,7 @@ Takes bytes old new = new ≡ option_map (λ taken. taken ++ bytes) old
 -- what is told as taken grows by a prefix of these bytes, or nothing is told before and after
 abbrev pub TakesPart : List ℕ → Option (List ℕ) → Option (List ℕ) → Type 0
 TakesPart bytes old new = (n : ℕ) × (n ≤ length bytes) × Takes (take n bytes) old new
+
+-- what is known of a writer grows by a prefix of these bytes
+abbrev pub AppendsPart : List ℕ → Option (List ℕ) → Option (List ℕ) → Type 0
+AppendsPart bytes old new = (n : ℕ) × (n ≤ length bytes) × Appends old new (take n bytes)

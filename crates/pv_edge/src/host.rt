@@ -1,6 +1,8 @@
 //! The files and the standard output of the host. They tell no bytes.
-ghost use Rattle.std.specs.Prelude.{◌≡◌, None};
-ghost use Rattle.pv_edge.specs.Calls.{next_count};
+ghost use Rattle.std.specs.Prelude.{◌≡◌, None, IfOk, IfSome};
+ghost use Rattle.std.specs.Bool.{OnTrue, OnFalse};
+ghost use Rattle.std.specs.Io.KnownBytes.{Appends};
+ghost use Rattle.pv_edge.specs.Sink.{AppendsPart};
 
 use crate::counts::next;
 use crate::outside::{FileFault, Files, Sink, SinkFault};
@@ -35,7 +37,9 @@ pub struct HostOut<R> {
 }
 
 /// All bytes of a reader up to its end.
-fn read_all<R: Read>(alloc: Global, file: &mut R) -> Result<Vec<u8>, FileFault> {
+fn read_all<R: Read>(alloc: Global, file: &mut R) -> Result<Vec<u8>, FileFault>
+    ensures { IfOk result (λ bytes. IfSome (R.remaining file.old) (λ left. bytes.items ≡ left)) }
+{
     let mut bytes = Vec::new(alloc);
     let mut buffer = [0u8; CHUNK];
     for _ in 0..TURNS {
@@ -52,17 +56,24 @@ fn read_all<R: Read>(alloc: Global, file: &mut R) -> Result<Vec<u8>, FileFault> 
     Err(FileFault::Failed)
 }
 
-/// Whether a writer took all of the bytes.
-fn write_whole<W: Write>(file: &mut W, bytes: &[u8]) -> bool {
+/// Whether a writer took all of the bytes. Else it took a prefix of them.
+fn write_whole<W: Write>(file: &mut W, bytes: &[u8]) -> bool
+    ensures all { OnTrue result (Appends (W.contents file.old) (W.contents file.new) bytes.now) }
+    ensures part { OnFalse result (AppendsPart bytes.now (W.contents file.old) (W.contents file.new)) }
+{
     let mut rest = bytes;
     for _ in 0..TURNS {
         if rest.is_empty() {
             return true;
         }
-        match file.write(rest) {
-            Err(_) | Ok(0) => return false,
-            Ok(n) => rest = &rest[n..],
+        let Ok(n) = file.write(rest) else {
+            return false;
+        };
+        if n == 0 {
+            return false;
         }
+        let (_, left) = rest.split_at(n);
+        rest = left;
     }
     rest.is_empty()
 }

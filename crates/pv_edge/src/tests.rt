@@ -1,6 +1,9 @@
-use crate::{FileFault, Files, MemFiles, MemSink, Sink, SinkFault, Text, text, write_all};
+use crate::{
+    FileFault, Files, HostFiles, HostOut, MemFiles, MemSink, Sink, SinkFault, Text, text, write_all,
+};
 use std::alloc::{AllocError, Global};
 use std::collections::HashMap;
+use std::fs;
 use std::test::Fail;
 
 /// A sink that takes pieces of this size and fails at this call.
@@ -73,5 +76,33 @@ fn a_sink_takes_pieces(rt: HostRuntime) -> Result<(), Fail> {
     assert_eq!(rt; stalled.faults, 1);
     assert!(rt; matches!(write_all(&mut stalled, b"a"), Err(SinkFault::Failed)));
     assert_eq!(rt; stalled.faults, 2);
+    Ok(())
+}
+
+#[test]
+fn the_host_keeps_files(rt: HostRuntime) -> Result<(), Fail> {
+    let alloc = rt.alloc();
+    let mut files = HostFiles {
+        rt: &rt,
+        read_faults: 0,
+        write_faults: 0,
+    };
+    let name = "pv_edge-test-file";
+    let bytes = vec![in alloc; 7u8; 40_000]?;
+    files.write(alloc, name, bytes.as_slice())?;
+    let read = files.read(alloc, name)?;
+    fs::remove_file(&rt, name)?;
+    assert_eq!(rt; read, bytes);
+    assert!(rt; matches!(files.read(alloc, name), Err(FileFault::Failed)));
+    assert!(rt;
+        matches!(
+            files.write(alloc, "pv_edge-no-folder/file", b""),
+            Err(FileFault::Failed)
+        )
+    );
+    assert_eq!(rt; (files.read_faults, files.write_faults), (1, 1));
+    let mut out = HostOut { rt: &rt, faults: 0 };
+    assert_eq!(rt; out.write(b"")?, 0);
+    assert_eq!(rt; out.faults, 0);
     Ok(())
 }
