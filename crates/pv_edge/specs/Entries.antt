@@ -1,5 +1,5 @@
 -- Files as a list of entries, each a name and its bytes. The first entry of a name counts.
-use Rattle.std.specs.Prelude.{ℕ, List, [], ◌∷◌, Option, None, Some, Vec, bytes_eq, map, if◌then◌else◌, suc}
+use Rattle.std.specs.Prelude.{ℕ, List, [], ◌∷◌, None, Some, Vec, bytes_eq, map, if◌then◌else◌, suc}
 use Rattle.std.specs.declared.alloc.Global.{Global}
 use Rattle.pv_edge.specs.Calls.{is_failing}
 use Rattle.pv_edge.specs.Files.{FileMap}

@@ -1,5 +1,5 @@
 -- What files hold, and what a write does to it.
-use Rattle.std.specs.Prelude.{ℕ, List, Option, None, Some, take, IsNone, IsSomeAnd, MatchOption, ◌≡◌, ◌≢◌, ◌≤◌, ◌⊎◌, length}
+use Rattle.std.specs.Prelude.{ℕ, List, Option, Some, take, IsNone, IsSomeAnd, MatchOption, ◌≡◌, ◌≢◌, ◌≤◌, ◌⊎◌, length}
 
 -- what each name holds: its bytes, or nothing where no file has the name
 abbrev pub FileMap : Type 0

@@ -1,5 +1,5 @@
 -- What a sink has taken.
-use Rattle.std.specs.Prelude.{ℕ, List, Option, None, Some, option_map, ◌++◌, ◌≡◌, ◌≤◌, take, length}
+use Rattle.std.specs.Prelude.{ℕ, List, Option, option_map, ◌++◌, ◌≡◌, ◌≤◌, take, length}
 use Rattle.std.specs.Io.KnownBytes.{Appends}
 
 -- what is told as taken grows by these bytes, or nothing is told before and after

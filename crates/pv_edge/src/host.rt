@@ -1,5 +1,6 @@
 //! The files and the standard output of the host. They tell no bytes.
-ghost use Rattle.std.specs.Prelude.{◌≡◌, None, IfOk, IfSome};
+ghost use Rattle.std.specs.Prelude.{◌≡◌, ◌↔◌, None, IfOk, IfSome};
+ghost use Rattle.std.specs.IoError.{error_kind};
 ghost use Rattle.std.specs.Bool.{OnTrue, OnFalse};
 ghost use Rattle.std.specs.Io.KnownBytes.{Appends};
 ghost use Rattle.pv_edge.specs.Sink.{AppendsPart};
@@ -8,9 +9,10 @@ use crate::counts::next;
 use crate::outside::{FileFault, Files, Sink, SinkFault};
 use std::alloc::Global;
 use std::fs;
-use std::io::{Read, Write};
+use std::io::{self, ErrorKind, Read, Write};
 
-/// The most calls of the system for one file. Each call before the last one took a byte.
+/// The most calls of the system for one file, each of which reads or writes a byte at least, but for
+/// the last one. A file that would take more is a fault.
 const TURNS: u64 = 4_294_967_296;
 
 /// How many bytes a read asks for.
@@ -36,6 +38,16 @@ pub struct HostOut<R> {
     pub faults: u64,
 }
 
+/// What an error of the system is: its own want of memory is want of memory here.
+fn read_fault(error: &io::Error) -> FileFault
+    ensures { (result ≡ FileFault.NoMemory) ↔ (error_kind error.now ≡ ErrorKind.OutOfMemory) }
+{
+    match error.kind() {
+        ErrorKind::OutOfMemory => FileFault::NoMemory,
+        _ => FileFault::Failed,
+    }
+}
+
 /// All bytes of a reader up to its end.
 fn read_all<R: Read>(alloc: Global, file: &mut R) -> Result<Vec<u8>, FileFault>
     ensures { IfOk result (λ bytes. IfSome (R.remaining file.old) (λ left. bytes.items ≡ left)) }
@@ -43,8 +55,9 @@ fn read_all<R: Read>(alloc: Global, file: &mut R) -> Result<Vec<u8>, FileFault>
     let mut bytes = Vec::new(alloc);
     let mut buffer = [0u8; CHUNK];
     for _ in 0..TURNS {
-        let Ok(n) = file.read(&mut buffer) else {
-            return Err(FileFault::Failed);
+        let n = match file.read(&mut buffer) {
+            Ok(n) => n,
+            Err(error) => return Err(read_fault(&error)),
         };
         if n == 0 {
             return Ok(bytes);
@@ -89,7 +102,7 @@ impl<R: std::rt::Files> Files for HostFiles<R> {
         let faults = self.read_faults;
         let read = match fs::open(&self.rt, name) {
             Ok(mut file) => read_all(alloc, &mut file),
-            Err(_) => Err(FileFault::Failed),
+            Err(error) => Err(read_fault(&error)),
         };
         if let Err(FileFault::Failed) = read {
             self.read_faults = next(faults);

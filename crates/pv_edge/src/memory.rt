@@ -1,10 +1,9 @@
 //! Files and a sink in memory, which tell all that they hold and fail at the calls that they are told to.
-ghost use Rattle.std.specs.Prelude.{◌≡◌, ◌+◌, ◌<◌, ◌≤◌, ◌↔◌, ℕ, List, Option, IfOk, IfErr, IfSome, IfNone, IsErr, IsErrOf, OnOk, OnErr, Some, None, length, take, min, IsTrue, ◌==◌, ◌&&◌, ◌++◌, nat_lt, [], if◌then◌else◌};
-ghost use Rattle.pv_edge.specs.Faults.{HasRisen, last_count};
+ghost use Rattle.std.specs.Prelude.{◌≡◌, ◌<◌, ◌≤◌, ◌↔◌, IfOk, IfSome, IfNone, IsErrOf, OnOk, OnErr, Some, None, length, take, min, IsTrue, ◌==◌, ◌&&◌, ◌++◌, nat_lt, [], if◌then◌else◌};
+ghost use Rattle.pv_edge.specs.Faults.{last_count};
 ghost use Rattle.pv_edge.specs.Calls.{next_count, is_failing};
-ghost use Rattle.pv_edge.specs.Files.{FileMap, Puts, PutsPart, Changes};
+ghost use Rattle.pv_edge.specs.Files.{Puts};
 ghost use Rattle.pv_edge.specs.Entries.{entries, file_at, put, index_of, next_read};
-ghost use Rattle.pv_edge.specs.Sink.{Takes};
 
 use crate::counts::next;
 use crate::made::text;

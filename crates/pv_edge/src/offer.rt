@@ -1,5 +1,5 @@
 //! How a whole text is handed to a sink.
-ghost use Rattle.std.specs.Prelude.{◌≡◌, ◌≤◌, ◌<◌, ℕ, List, Option, IfOk, IfErr, IfSome, IsErr, IsErrOf, OnOk, OnErr, Some, None, length, take};
+ghost use Rattle.std.specs.Prelude.{◌≡◌, ◌≤◌, IsErrOf, OnOk, OnErr};
 ghost use Rattle.pv_edge.specs.Faults.{HasRisen};
 ghost use Rattle.pv_edge.specs.Sink.{Takes, TakesPart};
 
@@ -13,6 +13,7 @@ pub fn write_all<S: Sink>(out: &mut S, bytes: &[u8]) -> Result<(), SinkFault>
     ensures err { OnErr result (TakesPart bytes.now (S.taken out.old) (S.taken out.new)) }
     ensures failed { IsErrOf result SinkFault.Failed → HasRisen (S.faults out.old) (S.faults out.new) }
     ensures never_falls { S.faults out.old ≤ S.faults out.new }
+    ensures only_faults { OnOk result (S.faults out.new ≡ S.faults out.old) }
 {
     let mut rest = bytes;
     while !rest.is_empty() {

@@ -1,5 +1,5 @@
 //! What the program asks of its surroundings: files by name, and a sink for its report.
-ghost use Rattle.std.specs.Prelude.{◌≡◌, ◌≤◌, ◌<◌, ℕ, List, Option, IfOk, IfErr, IfSome, IsErr, IsErrOf, OnOk, OnErr, Some, None, length, take};
+ghost use Rattle.std.specs.Prelude.{◌≡◌, ◌≤◌, ◌<◌, ℕ, List, Option, IfOk, IfSome, IsErr, IsErrOf, OnOk, OnErr, Some, None, length, take};
 ghost use Rattle.pv_edge.specs.Faults.{HasRisen, last_count};
 ghost use Rattle.pv_edge.specs.Files.{FileMap, Puts, PutsPart, Changes};
 ghost use Rattle.pv_edge.specs.Sink.{Takes};
@@ -45,12 +45,14 @@ pub trait Files {
     /// The bytes of a file.
     fn read(&mut self, alloc: Global, name: &str) -> Result<Vec<u8>, FileFault>
         ensures unchanged { told self.new ≡ told self.old }
-        ensures held { IfOk result (λ bytes. IfSome (told self.old) (λ files. files name.now ≡ Some bytes.items)) }
+        ensures held { IfOk result (λ bytes.
+            IfSome (told self.old) (λ files. files name.now ≡ Some bytes.items)) }
         ensures missing { IfSome (told self.old) (λ files. files name.now ≡ None → IsErr result) }
         ensures failed { IsErrOf result FileFault.Failed → HasRisen (read_faults self.old) (read_faults self.new) }
         ensures no_memory { IsErrOf result FileFault.NoMemory → read_faults self.new ≡ read_faults self.old }
         ensures never_falls { read_faults self.old ≤ read_faults self.new }
         ensures counted { read_faults self.new ≤ last_count }
+        ensures only_faults { OnOk result (read_faults self.new ≡ read_faults self.old) }
         ensures other_count { write_faults self.new ≡ write_faults self.old };
 
     /// Makes a file hold these bytes, whether or not it was there.
@@ -62,6 +64,7 @@ pub trait Files {
         ensures no_memory_count { IsErrOf result FileFault.NoMemory → write_faults self.new ≡ write_faults self.old }
         ensures never_falls { write_faults self.old ≤ write_faults self.new }
         ensures counted { write_faults self.new ≤ last_count }
+        ensures only_faults { OnOk result (write_faults self.new ≡ write_faults self.old) }
         ensures other_count { read_faults self.new ≡ read_faults self.old };
 }
 
@@ -75,7 +78,8 @@ pub trait Sink {
     /// How many calls failed or took nothing of what there was.
     ghost faults: { Self → ℕ };
 
-    /// Takes a prefix of the bytes, and answers its length.
+    /// Takes a prefix of the bytes, and answers its length. To take nothing of what there is counts
+    /// as a fault; where there is nothing, the answer is 0 and no fault.
     fn write(&mut self, bytes: &[u8]) -> Result<usize, SinkFault>
         ensures within { IfOk result (λ n. n ≤ length bytes.now) }
         ensures ok { IfOk result (λ n. Takes (take n bytes.now) (taken self.old) (taken self.new)) }
@@ -84,5 +88,7 @@ pub trait Sink {
         ensures failed { IsErrOf result SinkFault.Failed → HasRisen (faults self.old) (faults self.new) }
         ensures no_memory { IsErrOf result SinkFault.NoMemory → faults self.new ≡ faults self.old }
         ensures never_falls { faults self.old ≤ faults self.new }
-        ensures counted { faults self.new ≤ last_count };
+        ensures counted { faults self.new ≤ last_count }
+        ensures only_faults { IfOk result (λ n. (n ≡ 0 → length bytes.now ≡ 0)
+            → faults self.new ≡ faults self.old) };
 }

@@ -1,5 +1,4 @@
-use Rattle.std.proofs.Common.{◌≡◌, Some, refl, ap, ◌∙◌, sym}
-use Rattle.pv_edge.specs.Entries.{entries, file_at}
+use Rattle.std.proofs.Common.{Some, refl, ap, ◌∙◌, sym}
 use Rattle.pv_edge.proofs.Entry.{at-found, at-none}
 use Rattle.pv_edge.proofs.memory.copy_of.Goals as goal
 

@@ -1,4 +1,4 @@
-use Rattle.std.proofs.Common.{◌≡◌, ◌<◌, length, sym, ◌∙◌, ap, rules, arith}
+use Rattle.std.proofs.Common.{arith}
 use Rattle.std.proofs.lemmas.Grind.{common_steps}
 use Rattle.pv_edge.proofs.Entry.{put-at, put-end}
 use Rattle.pv_edge.proofs.memory.put_bytes.Goals as goal

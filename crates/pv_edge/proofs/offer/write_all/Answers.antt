@@ -1,4 +1,4 @@
-use Rattle.std.proofs.Common.{arith}
+use Rattle.std.proofs.Common.{◌∙◌}
 use Rattle.pv_edge.proofs.Taking.{takes-step, takes-end, takes-zero}
 use Rattle.pv_edge.proofs.offer.write_all.Goals as goal
 
@@ -8,7 +8,7 @@ returns-in-Ok-eq0-clause-err g c = takes-end _ _ _ _ _ c.loop-rest.invariant.0 (
 pub loop-rest-preserved : goal.loop-rest-preserved
 loop-rest-preserved g c =
     let inv = c.loop-rest.invariant in
-    (takes-step _ inv.0.0 _ _ _ _ _ inv.0.1 inv.0.2 c.in-Ok.ensures.ok _ c.split_at.ensures.back, omega arith)
+    (takes-step _ inv.0.0 _ _ _ _ _ inv.0.1 inv.0.2 c.in-Ok.ensures.ok _ c.split_at.ensures.back, c.in-Ok.ensures.only_faults (λ none. absurd (c.in-Ok.n-test.1 none)) ∙ inv.1)
 
 pub returns-in-Err-clause-err : goal.returns-in-Err-clause-err
 returns-in-Err-clause-err g c = takes-end _ _ _ _ _ c.loop-rest.invariant.0 c.in-Err.ensures.err

@@ -1,6 +1,4 @@
-use Rattle.std.proofs.Common.{subst, sym, ap}
-use Rattle.pv_edge.specs.Files.{Puts}
-use Rattle.pv_edge.specs.Entries.{entries, file_at}
+use Rattle.pv_edge.specs.Entries.{entries}
 use Rattle.pv_edge.proofs.Entry.{put-puts}
 use Rattle.pv_edge.proofs.memory.MemFilesFiles.write.Goals as goal
 
