@@ -18,7 +18,8 @@ const TURNS: u64 = 4_294_967_296;
 /// How many bytes a read asks for.
 const CHUNK: usize = 16_384;
 
-/// The files of the host, over a runtime.
+/// The files of the host, over a runtime. Where the system itself has no memory for a read, the
+/// answer is want of memory; at a write it is a fault, since the file may have changed.
 #[derive(Drop)]
 pub struct HostFiles<R> {
     /// The runtime.

@@ -13,6 +13,7 @@ pub fn write_all<S: Sink>(out: &mut S, bytes: &[u8]) -> Result<(), SinkFault>
     ensures err { OnErr result (TakesPart bytes.now (S.taken out.old) (S.taken out.new)) }
     ensures failed { IsErrOf result SinkFault.Failed → HasRisen (S.faults out.old) (S.faults out.new) }
     ensures never_falls { S.faults out.old ≤ S.faults out.new }
+    ensures no_memory { IsErrOf result SinkFault.NoMemory → S.faults out.new ≡ S.faults out.old }
     ensures only_faults { OnOk result (S.faults out.new ≡ S.faults out.old) }
 {
     let mut rest = bytes;
