@@ -2,6 +2,7 @@ ghost use Rattle.std.specs.Prelude.{◌≡◌, ◌↔◌, ℕ, Bool, true, false
 ghost use Rattle.pv_cnf.specs.Literal.{variable_of};
 ghost use Rattle.pv_cnf.specs.Clause.{has_outside, has_double, IsClause, AreClauses};
 
+use std::alloc::AllocError;
 use thiserror::Error;
 
 /// Why a store doesn't take a clause: of the first four the first that applies, in this order.
@@ -25,6 +26,17 @@ pub enum PushFault {
     /// The allocator has no memory left.
     #[error("out of memory")]
     NoMemory,
+}
+
+impl From<AllocError> for PushFault {
+    ghost use Rattle.std.specs.Prelude.{◌≡◌};
+    ghost use Rattle.pv_cnf.specs.declared.clauses.PushFault.TheVariants.{NoMemory};
+
+    ghost from_gives = { λ _ fault. fault ≡ NoMemory };
+
+    fn from(_: AllocError) -> PushFault {
+        PushFault::NoMemory
+    }
 }
 
 /// A store that clauses can be added to.
