@@ -50,10 +50,12 @@ pub trait Clauses {
     /// Whether it takes clauses now.
     ghost takes_clauses: { Self → Bool };
 
-    /// The words that it would take to have these clauses, where the store has fewer than that.
+    /// For a list of all clauses, a new one at its end included: the words in use with them, where
+    /// that is past what the store has. `None` where they fit.
     ghost overflow: { Self → List (List ℕ) → Option ℕ };
 
-    /// Adds a clause at the end. After an `Err` the clauses are as before.
+    /// Adds a clause at the end. After an `Err` the clauses are as before. The faults of the clause
+    /// itself are found before the store's space or memory is asked for.
     fn push(&mut self, lits: &[u32]) -> Result<(), PushFault>
         requires takes { IsTrue (takes_clauses self.old) }
         requires room { length (clauses self.old) < 2 ^ 32 - 1 }
@@ -101,7 +103,7 @@ pub trait ClauseView {
         requires to_count { n ≤ length (clauses self.now) }
         ensures value { slice_get (clauses self.now) (n - 1) ≡ Some result.now }
         ensures valid { IsClause (variables self.now) result.now }
-        // As an index can use it.
+        // The same for a caller that indexes by the variable.
         ensures in_range { All (λ lit. (0 < variable_of lit) × (variable_of lit ≤ variables self.now)) result.now };
 }
 

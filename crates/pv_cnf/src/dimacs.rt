@@ -57,7 +57,8 @@ pub fn to_dimacs<F: ClauseView>(alloc: Global, f: &F) -> Result<Vec<u8>, AllocEr
     Ok(text)
 }
 
-/// A law: formulas with one DIMACS text have the same number of variables and the same clauses.
+/// A law: formulas with one DIMACS text have the same number of variables and the same clauses. The
+/// numbers in the header are those of `u32` counts.
 pub fn text_determines_clauses()
     ensures { (m n : ℕ) (cs ds : List (List ℕ)) → m < 2 ^ 32 → n < 2 ^ 32
         → length cs < 2 ^ 32 → length ds < 2 ^ 32 → AreClauses m cs → AreClauses n ds

@@ -10,7 +10,7 @@ use std::marker::Model;
 /// A formula in conjunctive normal form: a list of clauses over the variables 1 to a number.
 ///
 /// All literals lie in one vector and the places where clauses end in another.
-#[derive(Drop)]
+#[derive(Debug, Drop)]
 pub struct Formula {
     variables: u32,
     lits: Vec<u32>,

@@ -15,3 +15,6 @@ pub use dimacs::{text_determines_clauses, to_dimacs};
 pub use formula::Formula;
 pub use literal::flip;
 pub use value::holds;
+
+#[cfg(test)]
+mod tests;
