@@ -14,7 +14,9 @@ use std::marker::Model;
 pub struct Formula {
     variables: u32,
     lits: Vec<u32>,
+    /// For each clause the number of literals up to its end.
     ends: Vec<usize>,
+    /// A mark for 0 and each variable; `push` sets those of a clause and takes them away again.
     marks: Vec<bool>,
 }
 
