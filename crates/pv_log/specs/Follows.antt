@@ -1,0 +1,53 @@
+-- Which lines of a log follow, and which logs are accepted (LRAT, additions alone).
+use Rattle.std.specs.Prelude.{◌≡◌, ℕ, zero, suc, ◌+◌, ◌==◌, Bool, true, false, not, ◌||◌, List, [], ◌∷◌, ◌++◌, length, map, Option, Some, None, if◌then◌else◌}
+use Rattle.pv_cnf.specs.Clause.{has_outside, has_double, Holds}
+use Rattle.pv_log.specs.declared.line.Line.{Line}
+use Rattle.pv_log.specs.declared.fault.LineFault.{LineFault}
+use Rattle.pv_log.specs.declared.fault.LineFault.TheVariants.{BadId, Tautology}
+use Rattle.pv_log.specs.Propagation.{LeadsToFalse, hints_fault}
+
+-- A line follows the clauses before it, those of the formula and those of earlier lines: its id is the next
+-- one, its variables are the formula's and none stands twice, and with all its literals false the hints lead
+-- to a false clause.
+pub record Follows (variables : ℕ) (clauses : List (List ℕ)) (line : Line) : Type 0 where
+  pub next : line.id ≡ length clauses + 1
+  pub inside : has_outside variables line.lits ≡ false
+  pub distinct : has_double line.lits ≡ false
+  pub refutes : LeadsToFalse clauses line.lits line.hints
+
+-- what is wrong first with a line, in the order id, literals, hints
+abbrev pub fault_of : ℕ → List (List ℕ) → Line → Option LineFault
+fault_of variables clauses line =
+    if not (line.id == length clauses + 1) then Some BadId
+    else (if has_outside variables line.lits || has_double line.lits then Some Tautology
+    else hints_fault clauses line.lits line.hints)
+
+-- each line follows
+abbrev pub EachFollows : ℕ → List (List ℕ) → List Line → Type 0
+EachFollows variables clauses [] = Unit {0}
+EachFollows variables clauses (line ∷ lines) =
+    Follows variables clauses line × EachFollows variables (clauses ++ line.lits ∷ []) lines
+
+-- whether there is a last line, with no literal
+abbrev pub ends_empty : List Line → Bool
+ends_empty [] = false
+ends_empty (line ∷ []) = length line.lits == 0
+ends_empty (line ∷ next ∷ lines) = ends_empty (next ∷ lines)
+
+-- the log is accepted for the formula with these clauses over the variables 1 to `variables`
+pub record IsAccepted (variables : ℕ) (clauses : List (List ℕ)) (lines : List Line) : Type 0 where
+  pub each : EachFollows variables clauses lines
+  pub ends : ends_empty lines ≡ true
+
+-- each line follows, but there is no last line that is empty
+pub record LacksEmpty (variables : ℕ) (clauses : List (List ℕ)) (lines : List Line) : Type 0 where
+  pub each : EachFollows variables clauses lines
+  pub unfinished : ends_empty lines ≡ false
+
+-- line n, from 1, is the first that doesn't follow, and this is the first that is wrong with it
+abbrev pub FailsFirst : ℕ → List (List ℕ) → List Line → ℕ → LineFault → Type 0
+FailsFirst variables clauses [] n kind = ⊥
+FailsFirst variables clauses (line ∷ lines) zero kind = ⊥
+FailsFirst variables clauses (line ∷ lines) (suc zero) kind = fault_of variables clauses line ≡ Some kind
+FailsFirst variables clauses (line ∷ lines) (suc (suc n)) kind =
+    Follows variables clauses line × FailsFirst variables (clauses ++ line.lits ∷ []) lines (suc n) kind

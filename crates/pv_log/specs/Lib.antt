@@ -1,0 +1,4 @@
+pub mod LineText
+pub mod Reading
+pub mod Propagation
+pub mod Follows

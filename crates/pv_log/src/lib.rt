@@ -1,0 +1,15 @@
+//! Logs of clauses that follow from a formula, a checker for them, and the text of their lines (LRAT).
+#![tactic(auto)]
+
+mod fault;
+mod line;
+mod numbers;
+mod read;
+mod stage;
+mod view;
+
+pub use fault::{LineFault, LratFault, Verdict};
+pub use line::Line;
+pub use numbers::Numbers;
+pub use read::read_line;
+pub use view::{Log, LogView};
