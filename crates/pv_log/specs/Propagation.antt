@@ -1,7 +1,8 @@
 -- Unit propagation on lists. A partial assignment is the list of the literals that were made false so far: a
 -- literal is true where its complement was, and has no value where neither was.
-use Rattle.std.specs.Prelude.{◌≡◌, ℕ, zero, suc, Bool, true, false, not, List, [], ◌∷◌, ◌++◌, Option, Some, None, nat_eq, filter, slice_get, if◌then◌else◌}
+use Rattle.std.specs.Prelude.{◌≡◌, ℕ, zero, suc, Bool, true, false, not, List, [], ◌∷◌, ◌++◌, Option, Some, None, Result, Ok, Err, nat_eq, filter, slice_get, if◌then◌else◌}
 use Rattle.std.specs.List.{list_any}
+use Rattle.std.specs.Result.{result_err}
 use Rattle.pv_cnf.specs.Literal.{complement}
 use Rattle.pv_log.specs.declared.fault.LineFault.{LineFault}
 use Rattle.pv_log.specs.declared.fault.LineFault.TheVariants.{UnknownHint, NotUnit, LastNotFalse}
@@ -43,19 +44,22 @@ LeadsToFalse clauses falses (h ∷ next ∷ hints) =
     (clause : List ℕ) × (lit : ℕ) × (named clauses h ≡ Some clause) × (unit_of falses clause ≡ Some lit)
       × LeadsToFalse clauses (falses ++ complement lit ∷ []) (next ∷ hints)
 
--- what is wrong with a last hint that names this clause
-abbrev pub last_fault : List ℕ → Option (List ℕ) → Option LineFault
-last_fault falses None = Some UnknownHint
-last_fault falses (Some clause) = if is_falsified falses clause then None else Some LastNotFalse
+-- what a last hint that names this clause shows
+abbrev pub last_step : List ℕ → Option (List ℕ) → Result (List ℕ) LineFault
+last_step falses None = Err UnknownHint
+last_step falses (Some clause) = if is_falsified falses clause then Ok falses else Err LastNotFalse
+
+-- what is false after another hint that names this clause
+abbrev pub unit_step : List ℕ → Option (List ℕ) → Result (List ℕ) LineFault
+unit_step falses None = Err UnknownHint
+unit_step falses (Some clause) =
+    elim (unit_of falses clause) [ None ↦ Err NotUnit | Some lit ↦ Ok (falses ++ complement lit ∷ []) ]
 
 -- what is wrong first with the hints, each tried before the next one
 abbrev pub hints_fault : List (List ℕ) → List ℕ → List ℕ → Option LineFault
 hints_fault clauses falses [] = Some LastNotFalse
-hints_fault clauses falses (h ∷ []) = last_fault falses (named clauses h)
-hints_fault clauses falses (h ∷ next ∷ hints) = elim (named clauses h) [
-    | None ↦ Some UnknownHint
-    | Some clause ↦ elim (unit_of falses clause) [
-        | None ↦ Some NotUnit
-        | Some lit ↦ hints_fault clauses (falses ++ complement lit ∷ []) (next ∷ hints)
-      ]
+hints_fault clauses falses (h ∷ []) = result_err (last_step falses (named clauses h))
+hints_fault clauses falses (h ∷ next ∷ hints) = elim (unit_step falses (named clauses h)) [
+    | Err fault ↦ Some fault
+    | Ok more ↦ hints_fault clauses more (next ∷ hints)
   ]

@@ -1,13 +1,18 @@
 //! Logs of clauses that follow from a formula, a checker for them, and the text of their lines (LRAT).
 #![tactic(auto)]
 
+mod assignment;
+mod checker;
 mod fault;
+mod follow;
+mod left;
 mod line;
 mod numbers;
 mod read;
 mod stage;
 mod view;
 
+pub use checker::Checker;
 pub use fault::{LineFault, LratFault, Verdict};
 pub use line::Line;
 pub use numbers::Numbers;

@@ -1,0 +1,23 @@
+-- Reading goes on byte by byte.
+use Rattle.std.proofs.Common.{◌≡◌, ℕ, suc, ◌+◌, ◌<◌, List, [], ◌∷◌, ◌++◌, length, get_or, take, Option, Some, None, refl, ap, sym, ◌∙◌, arith}
+use Rattle.std.proofs.lemmas.Grind.{common_steps}
+use Rattle.pv_log.specs.declared.line.Line.{Line}
+use Rattle.pv_log.specs.declared.stage.Stage.{Stage}
+use Rattle.pv_log.specs.Reading.{after_byte, after_bytes}
+
+-- what is read after bytes, from what was read before them
+abbrev pub onward : Option (Line × Stage) → List ℕ → Option (Line × Stage)
+onward None bytes = None
+onward (Some p) bytes = after_bytes p bytes
+
+pub after_bytes-append : (p : Line × Stage) (xs ys : List ℕ) → after_bytes p (xs ++ ys) ≡ onward (after_bytes p xs) ys
+after_bytes-append p [] ys = refl
+after_bytes-append p (x ∷ xs) ys = after_next (after_byte p x) xs ys
+where
+  after_next : (q : Option (Line × Stage)) (xs ys : List ℕ) → (elim q [ None ↦ None | Some next ↦ after_bytes next (xs ++ ys) ]) ≡ onward (elim q [ None ↦ None | Some next ↦ after_bytes next xs ]) ys
+  after_next None xs ys = refl
+  after_next (Some q) xs ys = after_bytes-append q xs ys
+
+-- one more byte of a text
+pub after_bytes-more : (p q : Line × Stage) (text : List ℕ) (at : ℕ) → at < length text → after_bytes p (take at text) ≡ Some q → after_bytes p (take (at + 1) text) ≡ after_byte q (get_or text at 0)
+after_bytes-more p q text at lt e = ?

@@ -1,0 +1,30 @@
+-- What the steps of a check find.
+use Rattle.std.specs.Prelude.{◌≡◌, ℕ, false, List, [], ◌∷◌, ◌++◌, map, take}
+use Rattle.std.specs.List.{AllByRecursion}
+use Rattle.pv_cnf.specs.Clause.{has_outside}
+use Rattle.pv_log.specs.declared.line.Line.{Line}
+use Rattle.pv_log.specs.declared.fault.Verdict.{Verdict}
+use Rattle.pv_log.specs.declared.fault.Verdict.TheVariants.{Accepted, NoEmpty, Refused}
+use Rattle.pv_log.specs.declared.left.Left.{Left}
+use Rattle.pv_log.specs.declared.left.Left.TheVariants as left
+use Rattle.pv_log.specs.Follows.{IsAccepted, LacksEmpty, FailsFirst}
+
+-- how many literals these are
+abbrev pub left_as : List ℕ → Left
+left_as [] = left.None
+left_as (lit ∷ []) = left.One lit
+left_as (lit ∷ other ∷ lits) = left.More
+
+-- the clauses that are known after the first n lines
+abbrev pub known : List (List ℕ) → List Line → ℕ → List (List ℕ)
+known clauses lines n = clauses ++ map (λ line. line.lits) (take n lines)
+
+-- all variables are from 1 to this one
+abbrev pub AreInside : ℕ → List (List ℕ) → Type 0
+AreInside variables clauses = AllByRecursion (λ clause. has_outside variables clause ≡ false) clauses
+
+-- what a verdict says
+abbrev pub Says : ℕ → List (List ℕ) → List Line → Verdict → Type 0
+Says variables clauses lines Accepted = IsAccepted variables clauses lines
+Says variables clauses lines NoEmpty = LacksEmpty variables clauses lines
+Says variables clauses lines (Refused n kind) = FailsFirst variables clauses lines n kind
