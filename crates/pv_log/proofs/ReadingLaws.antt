@@ -10,13 +10,13 @@ abbrev pub onward : Option (Line × Stage) → List ℕ → Option (Line × Stag
 onward None bytes = None
 onward (Some p) bytes = after_bytes p bytes
 
+onward-next : (q : Option (Line × Stage)) (xs ys : List ℕ) → ((p : Line × Stage) → after_bytes p (xs ++ ys) ≡ onward (after_bytes p xs) ys) → (elim q [ None ↦ None | Some next ↦ after_bytes next (xs ++ ys) ]) ≡ onward (elim q [ None ↦ None | Some next ↦ after_bytes next xs ]) ys
+onward-next None xs ys h = refl
+onward-next (Some p) xs ys h = h p
+
 pub after_bytes-append : (p : Line × Stage) (xs ys : List ℕ) → after_bytes p (xs ++ ys) ≡ onward (after_bytes p xs) ys
 after_bytes-append p [] ys = refl
-after_bytes-append p (x ∷ xs) ys = after_next (after_byte p x) xs ys
-where
-  after_next : (q : Option (Line × Stage)) (xs ys : List ℕ) → (elim q [ None ↦ None | Some next ↦ after_bytes next (xs ++ ys) ]) ≡ onward (elim q [ None ↦ None | Some next ↦ after_bytes next xs ]) ys
-  after_next None xs ys = refl
-  after_next (Some q) xs ys = after_bytes-append q xs ys
+after_bytes-append p (x ∷ xs) ys = onward-next (after_byte p x) xs ys (λ q. after_bytes-append q xs ys)
 
 -- one more byte of a text
 pub after_bytes-more : (p q : Line × Stage) (text : List ℕ) (at : ℕ) → at < length text → after_bytes p (take at text) ≡ Some q → after_bytes p (take (at + 1) text) ≡ after_byte q (get_or text at 0)

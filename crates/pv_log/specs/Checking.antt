@@ -15,9 +15,13 @@ left_as [] = left.None
 left_as (lit ∷ []) = left.One lit
 left_as (lit ∷ other ∷ lits) = left.More
 
+-- the clauses of the first n lines
+abbrev pub lemmas : List Line → ℕ → List (List ℕ)
+lemmas lines n = map (λ line. line.lits) (take n lines)
+
 -- the clauses that are known after the first n lines
 abbrev pub known : List (List ℕ) → List Line → ℕ → List (List ℕ)
-known clauses lines n = clauses ++ map (λ line. line.lits) (take n lines)
+known clauses lines n = clauses ++ lemmas lines n
 
 -- all variables are from 1 to this one
 abbrev pub AreInside : ℕ → List (List ℕ) → Type 0
