@@ -7,7 +7,7 @@ use Rattle.std.proofs.lemmas.List.{length-map, length-take-le, length-append, ta
 use Rattle.std.proofs.lemmas.Option.{slice_get_past}
 use Rattle.pv_log.specs.declared.line.Line.{Line}
 use Rattle.pv_log.specs.Propagation.{named}
-use Rattle.pv_log.specs.Checking.{known}
+use Rattle.pv_log.specs.Checking.{lemmas, known}
 
 pub slice_get-left : {X : Type 0} (xs ys : List X) (n : ℕ) → n < length xs → slice_get (xs ++ ys) n ≡ slice_get xs n
 slice_get-left [] ys n lt = absurd (omega arith)
@@ -61,3 +61,9 @@ pub named-all : (P : List ℕ → Type 0) (clauses : List (List ℕ)) (id : ℕ)
 named-all P clauses id None all e = tt
 named-all P clauses zero (Some r) all e = absurd cc
 named-all P clauses (suc n) (Some r) all e = slice_get-all P clauses n r.now all (sym e)
+
+-- what holds of the clause of each of the first lines
+pub lemma-inside : (P : List ℕ → Type 0) (lines : List Line) (n line : ℕ) (lits : List ℕ) → AllByRecursion P (lemmas lines n) → 0 < line → line ≤ n → slice_get (map (λ (l : Line). l.lits) lines) (line - 1) ≡ Some lits → P lits
+lemma-inside P lines n line lits all low high at =
+    slice_get-all P (lemmas lines n) (line - 1) lits all
+      (ap (λ (cs : List (List ℕ)). slice_get cs (line - 1)) (sym (take-map (λ (l : Line). l.lits) n lines)) ∙ slice_get-take n (map (λ (l : Line). l.lits) lines) (line - 1) (omega arith) ∙ at)

@@ -135,12 +135,22 @@ fails-first v clauses (l ∷ lines) zero line kind e at f =
 fails-first v clauses (l ∷ lines) (suc n) line kind e at f =
     (e.0, fails-first v (clauses ++ l.lits ∷ []) lines n line kind e.1 at (subst (λ (cs : List (List ℕ)). fault_of v cs line ≡ Some kind) (regroup v clauses l lines n) f))
 
-pub ends-empty : (lines : List Line) (n : ℕ) (lits : List ℕ) → length lines ≡ suc n → slice_get (map (λ (line : Line). line.lits) lines) n ≡ Some lits → ends_empty lines ≡ eqb (length lits) 0
-ends-empty [] n lits len at = absurd cc
-ends-empty (l ∷ []) zero lits len at = (let same : lits ≡ l.lits = cc in ap (λ (xs : List ℕ). eqb (length xs) 0) (sym same))
-ends-empty (l ∷ []) (suc n) lits len at = absurd (omega arith)
-ends-empty (l ∷ next ∷ lines) zero lits len at = absurd (omega arith)
-ends-empty (l ∷ next ∷ lines) (suc n) lits len at = ends-empty (next ∷ lines) n lits (omega arith) at
+ends-at : (lines : List Line) (n : ℕ) (lits : List ℕ) → length lines ≡ suc n → slice_get (map (λ (line : Line). line.lits) lines) n ≡ Some lits → ends_empty lines ≡ eqb (length lits) 0
+ends-at [] n lits len at = absurd cc
+ends-at (l ∷ []) zero lits len at = (let same : lits ≡ l.lits = cc in ap (λ (xs : List ℕ). eqb (length xs) 0) (sym same))
+ends-at (l ∷ []) (suc n) lits len at = absurd (omega arith)
+ends-at (l ∷ next ∷ lines) zero lits len at = absurd (omega arith)
+ends-at (l ∷ next ∷ lines) (suc n) lits len at = ends-at (next ∷ lines) n lits (omega arith) at
+
+pub ends-empty : (lines : List Line) (count : ℕ) (lits : List ℕ) → count ≡ length lines → 0 < count → slice_get (map (λ (line : Line). line.lits) lines) (count - 1) ≡ Some lits → ends_empty lines ≡ eqb (length lits) 0
+ends-empty lines count lits is some at = ends-at lines (count - 1) lits (omega arith) at
+
+pub ends-nowhere : (lines : List Line) → length lines ≡ 0 → ends_empty lines ≡ false
+ends-nowhere [] none = refl
+ends-nowhere (l ∷ lines) none = absurd (omega arith)
+
+pub all-follow : (v : ℕ) (clauses : List (List ℕ)) (lines : List Line) (n : ℕ) → length lines ≤ n → EachFollows v clauses (take n lines) → EachFollows v clauses lines
+all-follow v clauses lines n all e = subst (λ (ls : List Line). EachFollows v clauses ls) (take_all n lines all) e
 
 -- ---- the answers exclude one another
 
@@ -197,3 +207,22 @@ module _ (v : ℕ) (clauses : List (List ℕ)) (lines : List Line) (n m : ℕ) (
       ap (λ (xs : List ℕ). hints_fault (known clauses lines n) xs hints) lits-is
         ∙ ap (hints_fault (known clauses lines n) line.lits) hints-is
         ∙ sym (right-id e ∙ ap (λ (b : Bool). cond b (Some Tautology) (hints_fault (known clauses lines n) line.lits line.hints)) (subst (λ (xs : List ℕ). (has_outside v xs || has_double xs) ≡ false) lits-is good))
+
+-- ---- the turns of the loop
+
+pub line-at : (lines : List Line) (n : ℕ) → n < length lines → (line : Line) × (slice_get lines n ≡ Some line)
+line-at [] n lt = absurd (omega arith)
+line-at (l ∷ lines) zero lt = (l, refl)
+line-at (l ∷ lines) (suc n) lt = line-at lines n (omega arith)
+
+pub follows-next : (v : ℕ) (clauses : List (List ℕ)) (lines : List Line) (n : ℕ) → EachFollows v clauses (take n lines) → n < length lines → ((line : Line) → slice_get lines n ≡ Some line → fault_of v (known clauses lines n) line ≡ None) → EachFollows v clauses (take (n + 1) lines)
+follows-next v clauses lines n e lt f =
+    let here = line-at lines n lt in
+    let next : suc n ≡ n + 1 = omega arith in
+    subst (λ (k : ℕ). EachFollows v clauses (take k lines)) next (follows-more v clauses lines n here.0 e here.1 (faultless-follows v (known clauses lines n) here.0 (f here.0 here.1)))
+
+pub fails-next : (v : ℕ) (clauses : List (List ℕ)) (lines : List Line) (n : ℕ) (kind : LineFault) → EachFollows v clauses (take n lines) → n < length lines → ((line : Line) → slice_get lines n ≡ Some line → fault_of v (known clauses lines n) line ≡ Some kind) → FailsFirst v clauses lines (n + 1) kind
+fails-next v clauses lines n kind e lt f =
+    let here = line-at lines n lt in
+    let next : suc n ≡ n + 1 = omega arith in
+    subst (λ (k : ℕ). FailsFirst v clauses lines k kind) next (fails-first v clauses lines n here.0 kind e here.1 (f here.0 here.1))

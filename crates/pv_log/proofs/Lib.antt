@@ -5,4 +5,5 @@ pub mod FindLaws
 pub mod AssumeLaws
 pub mod FollowLaws
 pub mod Sound
+pub mod VerdictLaws
 pub mod ReadingLaws
