@@ -1,16 +1,20 @@
 -- Clauses as lists of literals, and formulas in conjunctive normal form as lists of clauses.
-use Rattle.std.specs.Prelude.{◌≡◌, ℕ, Bool, false, ◌||◌, ◌<◌, List, [], ◌∷◌, length, IsTrue}
+use Rattle.std.specs.Prelude.{◌≡◌, ℕ, Bool, false, ◌==◌, ◌||◌, ◌<◌, List, [], ◌∷◌, length, IsTrue}
 use Rattle.std.specs.List.{list_any, list_all, AllByRecursion}
-use Rattle.pv_cnf.specs.Literal.{literal_value, is_outside, same_variable}
+use Rattle.pv_cnf.specs.Literal.{variable_of, literal_value, is_outside}
 
 -- whether a literal has a variable that is 0 or past the last of n
 abbrev pub has_outside : ℕ → List ℕ → Bool
 has_outside n lits = list_any (is_outside n) lits
 
+-- whether a literal is of variable v
+abbrev pub has_variable : ℕ → List ℕ → Bool
+has_variable v lits = list_any (λ lit. v == variable_of lit) lits
+
 -- whether a variable stands twice
 abbrev pub has_double : List ℕ → Bool
 has_double [] = false
-has_double (lit ∷ lits) = list_any (same_variable lit) lits || has_double lits
+has_double (lit ∷ lits) = has_variable (variable_of lit) lits || has_double lits
 
 -- a clause over the variables 1 to n: at least one literal, and no variable twice
 pub record IsClause (n : ℕ) (lits : List ℕ) : Type 0 where

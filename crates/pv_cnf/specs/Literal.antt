@@ -20,7 +20,3 @@ literal_value values lit = if is_negated lit then not (values (variable_of lit))
 -- whether the variable of a literal is 0 or past the last of n
 abbrev pub is_outside : ℕ → ℕ → Bool
 is_outside n lit = (variable_of lit == 0) || nat_lt n (variable_of lit)
-
--- whether two literals are of one variable
-abbrev pub same_variable : ℕ → ℕ → Bool
-same_variable a b = variable_of a == variable_of b

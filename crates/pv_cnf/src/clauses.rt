@@ -2,6 +2,7 @@ ghost use Rattle.std.specs.Prelude.{◌≡◌, ◌↔◌, ℕ, Bool, true, false
 ghost use Rattle.pv_cnf.specs.Literal.{variable_of};
 ghost use Rattle.pv_cnf.specs.Clause.{has_outside, has_double, IsClause, AreClauses};
 
+use std::alloc::AllocError;
 use thiserror::Error;
 
 /// Why a store doesn't take a clause: of the first four the first that applies, in this order.
@@ -27,6 +28,17 @@ pub enum PushFault {
     NoMemory,
 }
 
+impl From<AllocError> for PushFault {
+    ghost use Rattle.std.specs.Prelude.{◌≡◌};
+    ghost use Rattle.pv_cnf.specs.declared.clauses.PushFault.TheVariants.{NoMemory};
+
+    ghost from_gives = { λ _ fault. fault ≡ NoMemory };
+
+    fn from(_: AllocError) -> PushFault {
+        PushFault::NoMemory
+    }
+}
+
 /// A store that clauses can be added to.
 pub trait Clauses {
     /// The variables are 1 to this number.
@@ -38,10 +50,12 @@ pub trait Clauses {
     /// Whether it takes clauses now.
     ghost takes_clauses: { Self → Bool };
 
-    /// The words that it would take to have these clauses, where the store has fewer than that.
+    /// For a list of all clauses, a new one at its end included: the words in use with them, where
+    /// that is past what the store has. `None` where they fit.
     ghost overflow: { Self → List (List ℕ) → Option ℕ };
 
-    /// Adds a clause at the end. After an `Err` the clauses are as before.
+    /// Adds a clause at the end. After an `Err` the clauses are as before. The faults of the clause
+    /// itself are found before the store's space or memory is asked for.
     fn push(&mut self, lits: &[u32]) -> Result<(), PushFault>
         requires takes { IsTrue (takes_clauses self.old) }
         requires room { length (clauses self.old) < 2 ^ 32 - 1 }
@@ -89,7 +103,7 @@ pub trait ClauseView {
         requires to_count { n ≤ length (clauses self.now) }
         ensures value { slice_get (clauses self.now) (n - 1) ≡ Some result.now }
         ensures valid { IsClause (variables self.now) result.now }
-        // As an index can use it.
+        // The same for a caller that indexes by the variable.
         ensures in_range { All (λ lit. (0 < variable_of lit) × (variable_of lit ≤ variables self.now)) result.now };
 }
 

@@ -1,0 +1,4 @@
+pub mod Doubles
+pub mod Elements
+pub mod Parts
+pub mod Text
