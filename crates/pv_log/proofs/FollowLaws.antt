@@ -49,7 +49,7 @@ outside-wider v w (x ∷ xs) le h =
     let zero-not = (or_parts (eqb (x / 2) 0) _ parts.0).0 in
     or_from _ _ (or_from _ _ zero-not (le-ltb w (x / 2) (omega arith))) (outside-wider v w xs le parts.1)
 
-pub inside-lines : (v : ℕ) (clauses : List (List ℕ)) (lines : List Line) (n : ℕ) → EachFollows v clauses (take n lines) → AreInside v (lemmas lines n)
+pub inside-lines : (v : ℕ) (clauses : List (List ℕ)) (lines : List Line) (n : ℕ) → EachFollows (Follows v) clauses (take n lines) → AreInside v (lemmas lines n)
 inside-lines v clauses lines zero e = tt
 inside-lines v clauses [] (suc n) e = tt
 inside-lines v clauses (line ∷ lines) (suc n) e = (e.0.inside, inside-lines v (clauses ++ line.lits ∷ []) lines n e.1)
@@ -119,7 +119,7 @@ regroup : (v : ℕ) (clauses : List (List ℕ)) (line : Line) (lines : List Line
 regroup v clauses line lines n = sym (append_assoc clauses (line.lits ∷ []) (map (λ (l : Line). l.lits) (take n lines)))
 
 
-pub follows-more : (v : ℕ) (clauses : List (List ℕ)) (lines : List Line) (n : ℕ) (line : Line) → EachFollows v clauses (take n lines) → slice_get lines n ≡ Some line → Follows v (known clauses lines n) line → EachFollows v clauses (take (suc n) lines)
+pub follows-more : (v : ℕ) (clauses : List (List ℕ)) (lines : List Line) (n : ℕ) (line : Line) → EachFollows (Follows v) clauses (take n lines) → slice_get lines n ≡ Some line → Follows v (known clauses lines n) line → EachFollows (Follows v) clauses (take (suc n) lines)
 follows-more v clauses [] n line e at f = absurd cc
 follows-more v clauses (l ∷ lines) zero line e at f =
     let same : line ≡ l = cc in
@@ -127,13 +127,13 @@ follows-more v clauses (l ∷ lines) zero line e at f =
 follows-more v clauses (l ∷ lines) (suc n) line e at f =
     (e.0, follows-more v (clauses ++ l.lits ∷ []) lines n line e.1 at (subst (λ (cs : List (List ℕ)). Follows v cs line) (regroup v clauses l lines n) f))
 
-pub fails-first : (v : ℕ) (clauses : List (List ℕ)) (lines : List Line) (n : ℕ) (line : Line) (kind : LineFault) → EachFollows v clauses (take n lines) → slice_get lines n ≡ Some line → fault_of v (known clauses lines n) line ≡ Some kind → FailsFirst v clauses lines (suc n) kind
+pub fails-first : (v : ℕ) (clauses : List (List ℕ)) (lines : List Line) (n : ℕ) (line : Line) (kind : LineFault) → EachFollows (Follows v) clauses (take n lines) → slice_get lines n ≡ Some line → fault_of v (known clauses lines n) line ≡ Some kind → FailsFirst (fault_of v) clauses lines (suc n) kind
 fails-first v clauses [] n line kind e at f = absurd cc
 fails-first v clauses (l ∷ lines) zero line kind e at f =
     let same : line ≡ l = cc in
     subst (λ (x : Line). fault_of v clauses x ≡ Some kind) same (subst (λ (cs : List (List ℕ)). fault_of v cs line ≡ Some kind) (append-nil clauses) f)
 fails-first v clauses (l ∷ lines) (suc n) line kind e at f =
-    (e.0, fails-first v (clauses ++ l.lits ∷ []) lines n line kind e.1 at (subst (λ (cs : List (List ℕ)). fault_of v cs line ≡ Some kind) (regroup v clauses l lines n) f))
+    (follows-faultless v clauses l e.0, fails-first v (clauses ++ l.lits ∷ []) lines n line kind e.1 at (subst (λ (cs : List (List ℕ)). fault_of v cs line ≡ Some kind) (regroup v clauses l lines n) f))
 
 ends-at : (lines : List Line) (n : ℕ) (lits : List ℕ) → length lines ≡ suc n → slice_get (map (λ (line : Line). line.lits) lines) n ≡ Some lits → ends_empty lines ≡ eqb (length lits) 0
 ends-at [] n lits len at = absurd cc
@@ -149,24 +149,24 @@ pub ends-nowhere : (lines : List Line) → length lines ≡ 0 → ends_empty lin
 ends-nowhere [] none = refl
 ends-nowhere (l ∷ lines) none = absurd (omega arith)
 
-pub all-follow : (v : ℕ) (clauses : List (List ℕ)) (lines : List Line) (n : ℕ) → length lines ≤ n → EachFollows v clauses (take n lines) → EachFollows v clauses lines
-all-follow v clauses lines n all e = subst (λ (ls : List Line). EachFollows v clauses ls) (take_all n lines all) e
+pub all-follow : (v : ℕ) (clauses : List (List ℕ)) (lines : List Line) (n : ℕ) → length lines ≤ n → EachFollows (Follows v) clauses (take n lines) → EachFollows (Follows v) clauses lines
+all-follow v clauses lines n all e = subst (λ (ls : List Line). EachFollows (Follows v) clauses ls) (take_all n lines all) e
 
 -- ---- the answers exclude one another
 
-pub follows-not-fails : (v : ℕ) (clauses : List (List ℕ)) (lines : List Line) (n : ℕ) (kind : LineFault) → EachFollows v clauses lines → FailsFirst v clauses lines n kind → ⊥
+pub follows-not-fails : (v : ℕ) (clauses : List (List ℕ)) (lines : List Line) (n : ℕ) (kind : LineFault) → EachFollows (Follows v) clauses lines → FailsFirst (fault_of v) clauses lines n kind → ⊥
 follows-not-fails v clauses [] n kind e f = f
 follows-not-fails v clauses (l ∷ lines) zero kind e f = f
 follows-not-fails v clauses (l ∷ lines) (suc zero) kind e f = absurd (let none = follows-faultless v clauses l e.0 in cc)
 follows-not-fails v clauses (l ∷ lines) (suc (suc n)) kind e f = follows-not-fails v (clauses ++ l.lits ∷ []) lines (suc n) kind e.1 f.1
 
-pub fails-once : (v : ℕ) (clauses : List (List ℕ)) (lines : List Line) (n m : ℕ) (kind other : LineFault) → FailsFirst v clauses lines n kind → FailsFirst v clauses lines m other → (n ≡ m) × (kind ≡ other)
+pub fails-once : (v : ℕ) (clauses : List (List ℕ)) (lines : List Line) (n m : ℕ) (kind other : LineFault) → FailsFirst (fault_of v) clauses lines n kind → FailsFirst (fault_of v) clauses lines m other → (n ≡ m) × (kind ≡ other)
 fails-once v clauses [] n m kind other f g = absurd f
 fails-once v clauses (l ∷ lines) zero m kind other f g = absurd f
 fails-once v clauses (l ∷ lines) (suc n) zero kind other f g = absurd g
 fails-once v clauses (l ∷ lines) (suc zero) (suc zero) kind other f g = (refl, cc)
-fails-once v clauses (l ∷ lines) (suc zero) (suc (suc m)) kind other f g = absurd (let none = follows-faultless v clauses l g.0 in cc)
-fails-once v clauses (l ∷ lines) (suc (suc n)) (suc zero) kind other f g = absurd (let none = follows-faultless v clauses l f.0 in cc)
+fails-once v clauses (l ∷ lines) (suc zero) (suc (suc m)) kind other f g = absurd (cc (f, g.0))
+fails-once v clauses (l ∷ lines) (suc (suc n)) (suc zero) kind other f g = absurd (cc (f.0, g))
 fails-once v clauses (l ∷ lines) (suc (suc n)) (suc (suc m)) kind other f g =
     let same = fails-once v (clauses ++ l.lits ∷ []) lines (suc n) (suc m) kind other f.1 g.1 in
     (ap suc same.0, same.1)
@@ -215,14 +215,14 @@ line-at [] n lt = absurd (omega arith)
 line-at (l ∷ lines) zero lt = (l, refl)
 line-at (l ∷ lines) (suc n) lt = line-at lines n (omega arith)
 
-pub follows-next : (v : ℕ) (clauses : List (List ℕ)) (lines : List Line) (n : ℕ) → EachFollows v clauses (take n lines) → n < length lines → ((line : Line) → slice_get lines n ≡ Some line → fault_of v (known clauses lines n) line ≡ None) → EachFollows v clauses (take (n + 1) lines)
+pub follows-next : (v : ℕ) (clauses : List (List ℕ)) (lines : List Line) (n : ℕ) → EachFollows (Follows v) clauses (take n lines) → n < length lines → ((line : Line) → slice_get lines n ≡ Some line → fault_of v (known clauses lines n) line ≡ None) → EachFollows (Follows v) clauses (take (n + 1) lines)
 follows-next v clauses lines n e lt f =
     let here = line-at lines n lt in
     let next : suc n ≡ n + 1 = omega arith in
-    subst (λ (k : ℕ). EachFollows v clauses (take k lines)) next (follows-more v clauses lines n here.0 e here.1 (faultless-follows v (known clauses lines n) here.0 (f here.0 here.1)))
+    subst (λ (k : ℕ). EachFollows (Follows v) clauses (take k lines)) next (follows-more v clauses lines n here.0 e here.1 (faultless-follows v (known clauses lines n) here.0 (f here.0 here.1)))
 
-pub fails-next : (v : ℕ) (clauses : List (List ℕ)) (lines : List Line) (n : ℕ) (kind : LineFault) → EachFollows v clauses (take n lines) → n < length lines → ((line : Line) → slice_get lines n ≡ Some line → fault_of v (known clauses lines n) line ≡ Some kind) → FailsFirst v clauses lines (n + 1) kind
+pub fails-next : (v : ℕ) (clauses : List (List ℕ)) (lines : List Line) (n : ℕ) (kind : LineFault) → EachFollows (Follows v) clauses (take n lines) → n < length lines → ((line : Line) → slice_get lines n ≡ Some line → fault_of v (known clauses lines n) line ≡ Some kind) → FailsFirst (fault_of v) clauses lines (n + 1) kind
 fails-next v clauses lines n kind e lt f =
     let here = line-at lines n lt in
     let next : suc n ≡ n + 1 = omega arith in
-    subst (λ (k : ℕ). FailsFirst v clauses lines k kind) next (fails-first v clauses lines n here.0 kind e here.1 (f here.0 here.1))
+    subst (λ (k : ℕ). FailsFirst (fault_of v) clauses lines k kind) next (fails-first v clauses lines n here.0 kind e here.1 (f here.0 here.1))

@@ -5,9 +5,13 @@ use Rattle.std.proofs.lemmas.Bool.{eqb-true, eqb-false, eq-eqb, ne_eqb, cases_eq
 use Rattle.std.proofs.lemmas.List.{take-append-drop, drop_more, take_more, length-append, length-map, append_assoc}
 use Rattle.std.proofs.lemmas.List.Folds.{list_any-append}
 use Rattle.std.proofs.lemmas.Map.Steps.{length-le_from_distinct_below}
-use Rattle.pv_cnf.specs.Literal.{variable_of, complement, same_variable, is_outside}
+use Rattle.pv_cnf.specs.Literal.{variable_of, complement, is_outside}
 use Rattle.pv_cnf.specs.Clause.{has_outside, has_double}
 use Rattle.pv_log.specs.Propagation.{is_false}
+
+-- whether two literals are of one variable
+abbrev same_variable : ℕ → ℕ → Bool
+same_variable a b = eqb (variable_of a) (variable_of b)
 
 -- a literal of the same variable is the literal or its complement
 same_cases : (x y : ℕ) → same_variable x y ≡ true → (y ≡ x) ⊎ (complement y ≡ x)

@@ -121,7 +121,7 @@ module _ (values : ℕ → Bool) where
       let parts = and_parts (clause_value values x) (list_all (clause_value values) xs) all in
       and_from (clause_value values x) (list_all (clause_value values) (xs ++ c ∷ [])) parts.0 (all-append xs c parts.1 t)
 
-  pub accepted-refutes : (v : ℕ) (clauses : List (List ℕ)) (lines : List Line) → EachFollows v clauses lines → ends_empty lines ≡ true → list_all (clause_value values) clauses ≡ true → ⊥
+  pub accepted-refutes : (v : ℕ) (clauses : List (List ℕ)) (lines : List Line) → EachFollows (Follows v) clauses lines → ends_empty lines ≡ true → list_all (clause_value values) clauses ≡ true → ⊥
   accepted-refutes v clauses [] e ends all = both_ways false refl ends
   accepted-refutes v clauses (line ∷ []) e ends all =
       let nil : line.lits ≡ [] = nil_from_length line.lits (eqb-true (length line.lits) 0 ends) in

@@ -7,7 +7,7 @@ use Rattle.pv_log.specs.declared.fault.Verdict.{Verdict}
 use Rattle.pv_log.specs.declared.fault.Verdict.TheVariants.{Accepted, NoEmpty, Refused}
 use Rattle.pv_log.specs.declared.left.Left.{Left}
 use Rattle.pv_log.specs.declared.left.Left.TheVariants as left
-use Rattle.pv_log.specs.Follows.{IsAccepted, LacksEmpty, FailsFirst}
+use Rattle.pv_log.specs.Follows.{Follows, fault_of, IsAccepted, LacksEmpty, FailsFirst}
 
 -- how many literals these are
 abbrev pub left_as : List ℕ → Left
@@ -29,6 +29,6 @@ AreInside variables clauses = AllByRecursion (λ clause. has_outside variables c
 
 -- what a verdict says
 abbrev pub Says : ℕ → List (List ℕ) → List Line → Verdict → Type 0
-Says variables clauses lines Accepted = IsAccepted variables clauses lines
-Says variables clauses lines NoEmpty = LacksEmpty variables clauses lines
-Says variables clauses lines (Refused n kind) = FailsFirst variables clauses lines n kind
+Says variables clauses lines Accepted = IsAccepted (Follows variables) clauses lines
+Says variables clauses lines NoEmpty = LacksEmpty (Follows variables) clauses lines
+Says variables clauses lines (Refused n kind) = FailsFirst (fault_of variables) clauses lines n kind

@@ -22,11 +22,11 @@ fault_of variables clauses line =
     else (if has_outside variables line.lits || has_double line.lits then Some Tautology
     else hints_fault clauses line.lits line.hints)
 
--- each line follows
-abbrev pub EachFollows : ℕ → List (List ℕ) → List Line → Type 0
-EachFollows variables clauses [] = Unit {0}
-EachFollows variables clauses (line ∷ lines) =
-    Follows variables clauses line × EachFollows variables (clauses ++ line.lits ∷ []) lines
+-- each line follows the clauses before it
+abbrev pub EachFollows : (List (List ℕ) → Line → Type 0) → List (List ℕ) → List Line → Type 0
+EachFollows follows clauses [] = Unit {0}
+EachFollows follows clauses (line ∷ lines) =
+    follows clauses line × EachFollows follows (clauses ++ line.lits ∷ []) lines
 
 -- whether there is a last line, with no literal
 abbrev pub ends_empty : List Line → Bool
@@ -34,20 +34,20 @@ ends_empty [] = false
 ends_empty (line ∷ []) = length line.lits == 0
 ends_empty (line ∷ next ∷ lines) = ends_empty (next ∷ lines)
 
--- the log is accepted for the formula with these clauses over the variables 1 to `variables`
-pub record IsAccepted (variables : ℕ) (clauses : List (List ℕ)) (lines : List Line) : Type 0 where
-  pub each : EachFollows variables clauses lines
+-- the log is accepted for these clauses
+pub record IsAccepted (follows : List (List ℕ) → Line → Type 0) (clauses : List (List ℕ)) (lines : List Line) : Type 0 where
+  pub each : EachFollows follows clauses lines
   pub ends : ends_empty lines ≡ true
 
 -- each line follows, but there is no last line that is empty
-pub record LacksEmpty (variables : ℕ) (clauses : List (List ℕ)) (lines : List Line) : Type 0 where
-  pub each : EachFollows variables clauses lines
+pub record LacksEmpty (follows : List (List ℕ) → Line → Type 0) (clauses : List (List ℕ)) (lines : List Line) : Type 0 where
+  pub each : EachFollows follows clauses lines
   pub unfinished : ends_empty lines ≡ false
 
--- line n, from 1, is the first that doesn't follow, and this is the first that is wrong with it
-abbrev pub FailsFirst : ℕ → List (List ℕ) → List Line → ℕ → LineFault → Type 0
-FailsFirst variables clauses [] n kind = ⊥
-FailsFirst variables clauses (line ∷ lines) zero kind = ⊥
-FailsFirst variables clauses (line ∷ lines) (suc zero) kind = fault_of variables clauses line ≡ Some kind
-FailsFirst variables clauses (line ∷ lines) (suc (suc n)) kind =
-    Follows variables clauses line × FailsFirst variables (clauses ++ line.lits ∷ []) lines (suc n) kind
+-- line n, from 1, is the first with a fault, and this is what is wrong first with it
+abbrev pub FailsFirst : (List (List ℕ) → Line → Option LineFault) → List (List ℕ) → List Line → ℕ → LineFault → Type 0
+FailsFirst fault clauses [] n kind = ⊥
+FailsFirst fault clauses (line ∷ lines) zero kind = ⊥
+FailsFirst fault clauses (line ∷ lines) (suc zero) kind = fault clauses line ≡ Some kind
+FailsFirst fault clauses (line ∷ lines) (suc (suc n)) kind =
+    (fault clauses line ≡ None) × FailsFirst fault (clauses ++ line.lits ∷ []) lines (suc n) kind

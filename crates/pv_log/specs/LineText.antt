@@ -10,15 +10,15 @@ use Rattle.pv_log.specs.declared.fault.LratFault.TheVariants.{NoMemory}
 
 -- literals, each with a blank after it
 abbrev pub literals_text : List ℕ → List ℕ
-literals_text lits = flat_map (λ lit. literal_text lit ++ 32 ∷ []) lits
+literals_text lits = flat_map (λ lit. literal_text lit ++ codes " ") lits
 
 -- hints, each with a blank after it
 abbrev pub hints_text : List ℕ → List ℕ
-hints_text hints = flat_map (λ h. decimal h ++ 32 ∷ []) hints
+hints_text hints = flat_map (λ h. decimal h ++ codes " ") hints
 
 -- the one text of a line
 abbrev pub line_text : Line → List ℕ
-line_text line = decimal line.id ++ 32 ∷ (literals_text line.lits ++ 48 ∷ 32 ∷ (hints_text line.hints ++ 48 ∷ []))
+line_text line = decimal line.id ++ codes " " ++ literals_text line.lits ++ codes "0 " ++ hints_text line.hints ++ codes "0"
 
 -- a code of a literal in 32 bits: the variables are 1 to 2,147,483,647
 abbrev pub IsLiteral : ℕ → Type 0

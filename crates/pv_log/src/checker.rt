@@ -1,7 +1,7 @@
 ghost use Rattle.std.specs.Prelude.{◌≡◌, ◌↔◌, ℕ, ◌+◌, ◌*◌, ◌<◌, ◌≤◌, ◌^◌, Bool, List, [], ◌∷◌, length, IfOk};
 ghost use Rattle.pv_cnf.specs.Clause.{Holds};
 ghost use Rattle.pv_log.specs.declared.fault.LineFault.{LineFault};
-ghost use Rattle.pv_log.specs.Follows.{IsAccepted, LacksEmpty, FailsFirst};
+ghost use Rattle.pv_log.specs.Follows.{Follows, fault_of, IsAccepted, LacksEmpty, FailsFirst};
 ghost use Rattle.pv_log.specs.Checking.{Says};
 
 use crate::assignment::Assignment;
@@ -65,11 +65,11 @@ impl Checker {
         ensures refuted { result ≡ Verdict.Accepted → (values : ℕ → Bool) → Holds values (F.clauses f.now) → ⊥ }
 
         ensures accepted { (result ≡ Verdict.Accepted)
-            ↔ IsAccepted (F.variables f.now) (F.clauses f.now) (L.all_lines log.now) }
+            ↔ IsAccepted (Follows (F.variables f.now)) (F.clauses f.now) (L.all_lines log.now) }
         ensures no_empty { (result ≡ Verdict.NoEmpty)
-            ↔ LacksEmpty (F.variables f.now) (F.clauses f.now) (L.all_lines log.now) }
+            ↔ LacksEmpty (Follows (F.variables f.now)) (F.clauses f.now) (L.all_lines log.now) }
         ensures refused { (n : ℕ) (kind : LineFault) → (result ≡ Verdict.Refused n kind)
-            ↔ FailsFirst (F.variables f.now) (F.clauses f.now) (L.all_lines log.now) n kind }
+            ↔ FailsFirst (fault_of (F.variables f.now)) (F.clauses f.now) (L.all_lines log.now) n kind }
 
         ensures unchanged { self.new ≡ self.old }
     {

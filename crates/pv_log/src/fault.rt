@@ -5,7 +5,8 @@ use std::alloc::AllocError;
 use thiserror::Error;
 
 /// What is wrong with a line of a log: the first that applies, in the order id, literals, and then hint
-/// by hint. (`NotNew`, of a check that lemmas are new, is to come.)
+/// by hint. A hint is tried with the values that the hints before it gave. (`NotNew`, of a check that
+/// lemmas are new, is to come.)
 #[derive(Clone, Copy, Debug, PartialEq, Eq, Error)]
 pub enum LineFault {
     /// The id isn't the next one.

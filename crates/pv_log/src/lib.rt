@@ -11,6 +11,7 @@ mod numbers;
 mod read;
 mod stage;
 mod view;
+mod write;
 
 pub use checker::Checker;
 pub use fault::{LineFault, LratFault, Verdict};
@@ -18,3 +19,4 @@ pub use line::Line;
 pub use numbers::Numbers;
 pub use read::read_line;
 pub use view::{Log, LogView};
+pub use write::write_line;

@@ -65,7 +65,7 @@ impl Log {
         self.lines.as_slice()
     }
 
-    /// Adds a line at the end.
+    /// Adds a line at the end. Where memory runs out, the line is given up.
     pub fn push(&mut self, line: Line) -> Result<(), AllocError>
         requires { length self.old < 2 ^ 32 - 1 }
         ensures ok { OnOk result (self.new ≡ self.old ++ line ∷ []) }
