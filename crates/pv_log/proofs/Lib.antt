@@ -7,3 +7,5 @@ pub mod FollowLaws
 pub mod Sound
 pub mod VerdictLaws
 pub mod ReadingLaws
+pub mod Spelling
+pub mod Spelled

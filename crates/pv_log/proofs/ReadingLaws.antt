@@ -1,6 +1,6 @@
 -- Reading goes on byte by byte.
 use Rattle.std.proofs.Common.{◌≡◌, ℕ, suc, ◌+◌, ◌<◌, List, [], ◌∷◌, ◌++◌, length, get_or, take, Option, Some, None, refl, ap, sym, ◌∙◌, arith}
-use Rattle.std.proofs.lemmas.Grind.{common_steps}
+use Rattle.std.proofs.lemmas.List.{take_more}
 use Rattle.pv_log.specs.declared.line.Line.{Line}
 use Rattle.pv_log.specs.declared.stage.Stage.{Stage}
 use Rattle.pv_log.specs.Reading.{after_byte, after_bytes}
@@ -18,6 +18,18 @@ pub after_bytes-append : (p : Line × Stage) (xs ys : List ℕ) → after_bytes 
 after_bytes-append p [] ys = refl
 after_bytes-append p (x ∷ xs) ys = onward-next (after_byte p x) xs ys (λ q. after_bytes-append q xs ys)
 
+one-more : (q : Option (Line × Stage)) → (elim q as (λ _. Option (Line × Stage)) [ None ↦ None | Some next ↦ after_bytes next [] ]) ≡ q
+one-more None = refl
+one-more (Some p) = refl
+
+pub after-one : (p : Line × Stage) (byte : ℕ) → after_bytes p (byte ∷ []) ≡ after_byte p byte
+after-one p byte = one-more (after_byte p byte)
+
+-- two parts that are read one after the other
+pub then-read : (p q : Line × Stage) (xs ys : List ℕ) (r : Option (Line × Stage)) → after_bytes p xs ≡ Some q → after_bytes q ys ≡ r → after_bytes p (xs ++ ys) ≡ r
+then-read p q xs ys r e f = after_bytes-append p xs ys ∙ ap (λ (o : Option (Line × Stage)). onward o ys) e ∙ f
+
 -- one more byte of a text
 pub after_bytes-more : (p q : Line × Stage) (text : List ℕ) (at : ℕ) → at < length text → after_bytes p (take at text) ≡ Some q → after_bytes p (take (at + 1) text) ≡ after_byte q (get_or text at 0)
-after_bytes-more p q text at lt e = ?
+after_bytes-more p q text at lt e =
+    ap (after_bytes p) (take_more text at 0 lt) ∙ then-read p q (take at text) (get_or text at 0 ∷ []) (after_byte q (get_or text at 0)) e (after-one q (get_or text at 0))
