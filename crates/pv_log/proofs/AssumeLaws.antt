@@ -1,9 +1,9 @@
 -- A lemma's literals that become false from left to right.
-use Rattle.std.proofs.Common.{◌≡◌, ℕ, ◌+◌, ◌/◌, ◌<◌, ◌≤◌, ◌||◌, Bool, true, false, eqb, ltb, List, [], ◌∷◌, ◌++◌, length, get_or, take, drop, refl, sym, ap, subst, ◌∙◌, arith}
+use Rattle.std.proofs.Common.{◌≡◌, ℕ, ◌+◌, ◌/◌, ◌<◌, ◌≤◌, true, false, eqb, ltb, List, [], ◌∷◌, ◌++◌, length, get_or, take, drop, sym, ap, subst, ◌∙◌}
 use Rattle.std.proofs.lemmas.Bool.{or_from, ne_eqb, le-ltb}
 use Rattle.std.proofs.lemmas.List.{take-append-drop, drop_more}
 use Rattle.pv_cnf.specs.Literal.{complement, is_outside}
-use Rattle.pv_cnf.specs.Clause.{has_outside, has_double}
+use Rattle.pv_cnf.specs.Clause.{has_double}
 use Rattle.pv_log.specs.Propagation.{is_false}
 use Rattle.pv_log.proofs.Literals.{double-again, double-complement, double-push}
 
@@ -24,5 +24,5 @@ doubled_complement lits i falses other lt is flip there =
 pub undoubled : (lits : List ℕ) (i : ℕ) (falses : List ℕ) (other : ℕ) → falses ≡ take i lits → has_double (take i lits) ≡ false → other ≡ complement (get_or lits i 0) → is_false falses (get_or lits i 0) ≡ false → is_false falses other ≡ false → has_double (take i lits ++ get_or lits i 0 ∷ []) ≡ false
 undoubled lits i falses other is d flip absent opposite =
     double-push (take i lits) (get_or lits i 0) d
-      (subst (λ (xs : List ℕ). is_false xs (get_or lits i 0) ≡ false) is absent)
-      (subst (λ (xs : List ℕ). is_false xs (complement (get_or lits i 0)) ≡ false) is (subst (λ (y : ℕ). is_false falses y ≡ false) flip opposite))
+    (subst (λ (xs : List ℕ). is_false xs (get_or lits i 0) ≡ false) is absent)
+    (subst (λ (xs : List ℕ). is_false xs (complement (get_or lits i 0)) ≡ false) is (subst (λ (y : ℕ). is_false falses y ≡ false) flip opposite))

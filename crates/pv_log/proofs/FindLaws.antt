@@ -1,5 +1,5 @@
 -- The clause that an id names.
-use Rattle.std.proofs.Common.{◌≡◌, ℕ, zero, suc, ◌+◌, ◌-◌, ◌<◌, ◌≤◌, Bool, true, false, List, [], ◌∷◌, ◌++◌, length, get_or, take, drop, map, refl, sym, ap, subst, ◌∙◌, arith, Option, Some, None, Bor}
+use Rattle.std.proofs.Common.{◌≡◌, ℕ, zero, suc, ◌+◌, ◌-◌, ◌<◌, ◌≤◌, List, [], ◌∷◌, ◌++◌, length, take, map, refl, sym, ap, subst, ◌∙◌, arith, Option, Some, None, Bor}
 use Rattle.std.specs.Prelude.{slice_get, IfSome}
 use Rattle.std.specs.Option.{option_map, option_copied}
 use Rattle.std.specs.List.{AllByRecursion}
@@ -41,9 +41,9 @@ module _ (clauses : List (List ℕ)) (lines : List Line) (n id : ℕ) where
   pub named-line : (count : ℕ) → count ≡ length clauses → n ≤ length lines → count < id → id - count ≤ n → named (known clauses lines n) id ≡ slice_get (map (λ (line : Line). line.lits) lines) (id - count - 1)
   named-line count is few low high =
       named-at (known clauses lines n) id (id - 1) (omega arith)
-        ∙ slice_get-right clauses (map (λ (line : Line). line.lits) (take n lines)) (id - 1) (id - count - 1) (omega arith)
-        ∙ ap (λ (all : List (List ℕ)). slice_get all (id - count - 1)) (sym (take-map (λ (line : Line). line.lits) n lines))
-        ∙ slice_get-take n (map (λ (line : Line). line.lits) lines) (id - count - 1) (omega arith)
+      ∙ slice_get-right clauses (map (λ (line : Line). line.lits) (take n lines)) (id - 1) (id - count - 1) (omega arith)
+      ∙ ap (λ (all : List (List ℕ)). slice_get all (id - count - 1)) (sym (take-map (λ (line : Line). line.lits) n lines))
+      ∙ slice_get-take n (map (λ (line : Line). line.lits) lines) (id - count - 1) (omega arith)
 
   pub length-known : n ≤ length lines → length (known clauses lines n) ≡ length clauses + n
   length-known few = omega (arith, length-append clauses (map (λ (line : Line). line.lits) (take n lines)), length-map (take n lines) (λ (line : Line). line.lits), length-take-le n lines few)
@@ -66,4 +66,4 @@ named-all P clauses (suc n) (Some r) all e = slice_get-all P clauses n r.now all
 pub lemma-inside : (P : List ℕ → Type 0) (lines : List Line) (n line : ℕ) (lits : List ℕ) → AllByRecursion P (lemmas lines n) → 0 < line → line ≤ n → slice_get (map (λ (l : Line). l.lits) lines) (line - 1) ≡ Some lits → P lits
 lemma-inside P lines n line lits all low high at =
     slice_get-all P (lemmas lines n) (line - 1) lits all
-      (ap (λ (cs : List (List ℕ)). slice_get cs (line - 1)) (sym (take-map (λ (l : Line). l.lits) n lines)) ∙ slice_get-take n (map (λ (l : Line). l.lits) lines) (line - 1) (omega arith) ∙ at)
+    (ap (λ (cs : List (List ℕ)). slice_get cs (line - 1)) (sym (take-map (λ (l : Line). l.lits) n lines)) ∙ slice_get-take n (map (λ (l : Line). l.lits) lines) (line - 1) (omega arith) ∙ at)

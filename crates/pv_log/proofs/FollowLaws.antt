@@ -1,16 +1,15 @@
 -- Hints that are followed one by one, and lines that are tried one by one.
-use Rattle.std.proofs.Common.{◌≡◌, ℕ, zero, suc, ◌+◌, ◌-◌, ◌/◌, ◌<◌, ◌≤◌, ◌⊎◌, ◌||◌, Bool, true, false, not, cond, eqb, List, [], ◌∷◌, ◌++◌, length, get_or, take, drop, map, refl, sym, ap, subst, ◌∙◌, arith, Option, Some, None, Result, Ok, Err, inl, inr, append_assoc}
+use Rattle.std.proofs.Common.{◌≡◌, ℕ, zero, suc, ◌+◌, ◌-◌, ◌/◌, ◌<◌, ◌≤◌, ◌||◌, Bool, true, false, not, cond, eqb, List, [], ◌∷◌, ◌++◌, length, get_or, take, drop, map, refl, sym, ap, subst, ◌∙◌, arith, Option, Some, None, Result, Ok, Err, append_assoc}
 use Rattle.std.specs.Prelude.{slice_get}
 use Rattle.std.specs.Option.{option_map}
 use Rattle.std.specs.Result.{result_err}
-use Rattle.std.specs.List.{AllByRecursion}
-use Rattle.std.proofs.lemmas.Bool.{eqb-true, eq-eqb, ne_eqb, cases_Bool, or_parts, or_from, or_cases, both_ways, not-true, not-false, le-ltb}
+use Rattle.std.proofs.lemmas.Bool.{eqb-true, eq-eqb, ne_eqb, or_parts, or_from, le-ltb}
 use Rattle.std.proofs.lemmas.List.{drop_more, drop_all, take_all, length-drop, append-nil}
 use Rattle.pv_cnf.specs.Literal.{complement, is_outside}
 use Rattle.pv_cnf.specs.Clause.{has_outside, has_double}
 use Rattle.pv_log.specs.declared.line.Line.{Line}
 use Rattle.pv_log.specs.declared.fault.LineFault.{LineFault}
-use Rattle.pv_log.specs.declared.fault.LineFault.TheVariants.{BadId, UnknownHint, NotUnit, LastNotFalse, Tautology}
+use Rattle.pv_log.specs.declared.fault.LineFault.TheVariants.{BadId, NotUnit, LastNotFalse, Tautology}
 use Rattle.pv_log.specs.Propagation.{named, unit_of, is_falsified, last_step, unit_step, hints_fault, LeadsToFalse}
 use Rattle.pv_log.specs.Follows.{Follows, fault_of, EachFollows, FailsFirst, ends_empty}
 use Rattle.pv_log.specs.Checking.{lemmas, known, AreInside}
@@ -65,15 +64,15 @@ last-follows clauses falses h None at e = absurd cc
 last-follows clauses falses h (Some clause) at e = (clause, at, falsified-of falses clause (is_falsified falses clause) e)
 
 unit-follows : (clauses : List (List ℕ)) (falses : List ℕ) (h next : ℕ) (hints clause : List ℕ) (unit : Option ℕ) → named clauses h ≡ Some clause → unit_of falses clause ≡ unit
-  → after_step clauses (elim unit as (λ _. Result (List ℕ) LineFault) [ None ↦ Err NotUnit | Some lit ↦ Ok (falses ++ complement lit ∷ []) ]) (next ∷ hints) ≡ None
-  → ((more : List ℕ) → hints_fault clauses more (next ∷ hints) ≡ None → LeadsToFalse clauses more (next ∷ hints))
-  → LeadsToFalse clauses falses (h ∷ next ∷ hints)
+    → after_step clauses (elim unit as (λ _. Result (List ℕ) LineFault) [ None ↦ Err NotUnit | Some lit ↦ Ok (falses ++ complement lit ∷ []) ]) (next ∷ hints) ≡ None
+    → ((more : List ℕ) → hints_fault clauses more (next ∷ hints) ≡ None → LeadsToFalse clauses more (next ∷ hints))
+    → LeadsToFalse clauses falses (h ∷ next ∷ hints)
 unit-follows clauses falses h next hints clause None at is e go = absurd cc
 unit-follows clauses falses h next hints clause (Some lit) at is e go = (clause, lit, at, is, go (falses ++ complement lit ∷ []) e)
 
 step-follows : (clauses : List (List ℕ)) (falses : List ℕ) (h next : ℕ) (hints : List ℕ) (found : Option (List ℕ)) → named clauses h ≡ found → after_step clauses (unit_step falses found) (next ∷ hints) ≡ None
-  → ((more : List ℕ) → hints_fault clauses more (next ∷ hints) ≡ None → LeadsToFalse clauses more (next ∷ hints))
-  → LeadsToFalse clauses falses (h ∷ next ∷ hints)
+    → ((more : List ℕ) → hints_fault clauses more (next ∷ hints) ≡ None → LeadsToFalse clauses more (next ∷ hints))
+    → LeadsToFalse clauses falses (h ∷ next ∷ hints)
 step-follows clauses falses h next hints None at e go = absurd cc
 step-follows clauses falses h next hints (Some clause) at e go = unit-follows clauses falses h next hints clause (unit_of falses clause) at refl e go
 
@@ -88,7 +87,7 @@ hints-faultless clauses [] falses f = absurd f
 hints-faultless clauses (h ∷ []) falses (clause, at, is) = ap (λ (o : Option (List ℕ)). result_err (last_step falses o)) at ∙ ap (λ (b : Bool). result_err (cond b (Ok falses) (Err LastNotFalse))) is
 hints-faultless clauses (h ∷ next ∷ hints) falses (clause, lit, at, is, more) =
     let step : unit_step falses (named clauses h) ≡ Ok (falses ++ complement lit ∷ []) =
-        ap (unit_step falses) at ∙ ap (λ (o : Option ℕ). elim o as (λ _. Result (List ℕ) LineFault) [ None ↦ Err NotUnit | Some lit ↦ Ok (falses ++ complement lit ∷ []) ]) is in
+    ap (unit_step falses) at ∙ ap (λ (o : Option ℕ). elim o as (λ _. Result (List ℕ) LineFault) [ None ↦ Err NotUnit | Some lit ↦ Ok (falses ++ complement lit ∷ []) ]) is in
     hints-two clauses falses h next hints (unit_step falses (named clauses h)) ∙ ap (λ (r : Result (List ℕ) LineFault). after_step clauses r (next ∷ hints)) step ∙ hints-faultless clauses (next ∷ hints) (falses ++ complement lit ∷ []) more
 
 fault-parts : (id lemma : Bool) (rest : Option LineFault) → cond (not id) (Some BadId) (cond lemma (Some Tautology) rest) ≡ None → (id ≡ true) × (lemma ≡ false) × (rest ≡ None)
@@ -110,14 +109,13 @@ faultless-follows v clauses line e =
 pub follows-faultless : (v : ℕ) (clauses : List (List ℕ)) (line : Line) → Follows v clauses line → fault_of v clauses line ≡ None
 follows-faultless v clauses line f =
     ap (λ (b : Bool). cond (not b) (Some BadId) (cond (has_outside v line.lits || has_double line.lits) (Some Tautology) (hints_fault clauses line.lits line.hints))) (eq-eqb line.id (length clauses + 1) f.next)
-      ∙ ap (λ (b : Bool). cond b (Some Tautology) (hints_fault clauses line.lits line.hints)) (or_from (has_outside v line.lits) (has_double line.lits) f.inside f.distinct)
-      ∙ hints-faultless clauses line.hints line.lits f.refutes
+    ∙ ap (λ (b : Bool). cond b (Some Tautology) (hints_fault clauses line.lits line.hints)) (or_from (has_outside v line.lits) (has_double line.lits) f.inside f.distinct)
+    ∙ hints-faultless clauses line.hints line.lits f.refutes
 
 -- ---- line by line
 
 regroup : (v : ℕ) (clauses : List (List ℕ)) (line : Line) (lines : List Line) (n : ℕ) → known clauses (line ∷ lines) (suc n) ≡ known (clauses ++ line.lits ∷ []) lines n
 regroup v clauses line lines n = sym (append_assoc clauses (line.lits ∷ []) (map (λ (l : Line). l.lits) (take n lines)))
-
 
 pub follows-more : (v : ℕ) (clauses : List (List ℕ)) (lines : List Line) (n : ℕ) (line : Line) → EachFollows (Follows v) clauses (take n lines) → slice_get lines n ≡ Some line → Follows v (known clauses lines n) line → EachFollows (Follows v) clauses (take (suc n) lines)
 follows-more v clauses [] n line e at f = absurd cc
@@ -205,8 +203,8 @@ module _ (v : ℕ) (clauses : List (List ℕ)) (lines : List Line) (n m : ℕ) (
       let lits-is : lits ≡ line.lits = field-at (λ (l : Line). l.lits) lines n m line lits next at lits-at in
       let hints-is : hints ≡ line.hints = field-at (λ (l : Line). l.hints) lines n m line hints next at hints-at in
       ap (λ (xs : List ℕ). hints_fault (known clauses lines n) xs hints) lits-is
-        ∙ ap (hints_fault (known clauses lines n) line.lits) hints-is
-        ∙ sym (right-id e ∙ ap (λ (b : Bool). cond b (Some Tautology) (hints_fault (known clauses lines n) line.lits line.hints)) (subst (λ (xs : List ℕ). (has_outside v xs || has_double xs) ≡ false) lits-is good))
+      ∙ ap (hints_fault (known clauses lines n) line.lits) hints-is
+      ∙ sym (right-id e ∙ ap (λ (b : Bool). cond b (Some Tautology) (hints_fault (known clauses lines n) line.lits line.hints)) (subst (λ (xs : List ℕ). (has_outside v xs || has_double xs) ≡ false) lits-is good))
 
 -- ---- the turns of the loop
 

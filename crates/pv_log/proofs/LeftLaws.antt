@@ -1,6 +1,6 @@
 -- The literals of a clause that aren't false, counted to two.
-use Rattle.std.proofs.Common.{◌≡◌, ◌≢◌, ℕ, suc, ◌+◌, ◌/◌, ◌<◌, ◌||◌, eqb, ltb, inl, inr, subst, Bool, true, false, not, cond, List, [], ◌∷◌, ◌++◌, length, get_or, take, drop, refl, sym, ap, ◌∙◌, arith, Option, Some, None, Result, Ok, Err}
-use Rattle.std.proofs.lemmas.List.{take-append-drop, drop_more, take_more, append-nil}
+use Rattle.std.proofs.Common.{◌≡◌, ℕ, ◌+◌, ◌/◌, ◌<◌, ◌||◌, eqb, ltb, inl, inr, subst, Bool, true, false, not, cond, List, [], ◌∷◌, ◌++◌, length, get_or, take, drop, refl, sym, ap, ◌∙◌, arith, Option, Some, None}
+use Rattle.std.proofs.lemmas.List.{take-append-drop, drop_more, append-nil}
 use Rattle.std.proofs.lemmas.List.Elements.{filter-append, filter_more}
 use Rattle.std.proofs.lemmas.Bool.{or_parts, cases_Bool}
 use Rattle.pv_cnf.specs.Literal.{complement, is_outside}
@@ -40,7 +40,7 @@ module _ (falses clause : List ℕ) (i : ℕ) (lt : i < length clause) where
       let parts : clause ≡ take i clause ++ get_or clause i 0 ∷ drop (i + 1) clause = sym (take-append-drop i clause) ∙ ap (λ (xs : List ℕ). take i clause ++ xs) (drop_more clause i 0 lt) in
       let rest : left_of falses (get_or clause i 0 ∷ drop (i + 1) clause) ≡ get_or clause i 0 ∷ left_of falses (drop (i + 1) clause) = ap (λ (b : Bool). cond (not b) (get_or clause i 0 ∷ left_of falses (drop (i + 1) clause)) (left_of falses (drop (i + 1) clause))) e in
       let whole : left_of falses clause ≡ left_of falses (take i clause) ++ get_or clause i 0 ∷ left_of falses (drop (i + 1) clause) =
-          ap (left_of falses) parts ∙ filter-append (λ (lit : ℕ). not (is_false falses lit)) (take i clause) (get_or clause i 0 ∷ drop (i + 1) clause) ∙ ap (λ (xs : List ℕ). left_of falses (take i clause) ++ xs) rest in
+      ap (left_of falses) parts ∙ filter-append (λ (lit : ℕ). not (is_false falses lit)) (take i clause) (get_or clause i 0 ∷ drop (i + 1) clause) ∙ ap (λ (xs : List ℕ). left_of falses (take i clause) ++ xs) rest in
       push-more (left_of falses (take i clause)) (get_or clause i 0) (left_of falses (drop (i + 1) clause)) some ∙ sym (ap left_as whole)
 
 -- what is asked of a clause, by what is left of it

@@ -1,8 +1,8 @@
 -- Lists of literals of different variables.
-use Rattle.std.proofs.Common.{◌≡◌, ◌≢◌, ℕ, suc, ◌+◌, ◌-◌, ◌*◌, ◌/◌, ◌%◌, ◌<◌, ◌≤◌, ◌⊎◌, Bool, true, false, ◌||◌, eqb, List, [], ◌∷◌, ◌++◌, length, get_or, take, drop, map, refl, sym, ap, ◌∙◌, arith, inl, inr}
+use Rattle.std.proofs.Common.{◌≡◌, ℕ, suc, ◌+◌, ◌/◌, ◌<◌, ◌≤◌, ◌⊎◌, Bool, true, false, ◌||◌, eqb, List, [], ◌∷◌, ◌++◌, length, map, refl, sym, ◌∙◌, arith, inl, inr}
 use Rattle.std.specs.List.{list_any, AllByRecursion, IsDistinct}
-use Rattle.std.proofs.lemmas.Bool.{eqb-true, eqb-false, eq-eqb, ne_eqb, cases_eq, cases_Bool, both_ways, or_parts, or_from, or_left, or_right, or_cases, ltb-false, le-ltb}
-use Rattle.std.proofs.lemmas.List.{take-append-drop, drop_more, take_more, length-append, length-map, append_assoc}
+use Rattle.std.proofs.lemmas.Bool.{eqb-true, eqb-false, eq-eqb, ne_eqb, cases_eq, cases_Bool, both_ways, or_parts, or_from, or_left, or_right, or_cases, ltb-false}
+use Rattle.std.proofs.lemmas.List.{length-map}
 use Rattle.std.proofs.lemmas.List.Folds.{list_any-append}
 use Rattle.std.proofs.lemmas.Map.Steps.{length-le_from_distinct_below}
 use Rattle.pv_cnf.specs.Literal.{variable_of, complement, is_outside}
@@ -23,9 +23,9 @@ apart : (x y : ℕ) → eqb y x ≡ false → eqb (complement y) x ≡ false →
 apart x y other opposite =
     elim (cases_Bool (same_variable x y)) [
       | inl same ↦ elim (same_cases x y same) [
-          | inl e ↦ absurd (eqb-false y x other e)
-          | inr e ↦ absurd (eqb-false (complement y) x opposite e)
-        ]
+        | inl e ↦ absurd (eqb-false y x other e)
+        | inr e ↦ absurd (eqb-false (complement y) x opposite e)
+      ]
       | inr differs ↦ differs
     ]
 
@@ -138,9 +138,9 @@ zero-first v xs h d = (not-zero v xs h, distinct-variables xs d)
 pub length-le-variables : (v : ℕ) (xs : List ℕ) → has_outside v xs ≡ false → has_double xs ≡ false → length xs ≤ v
 length-le-variables v xs h d =
     let below : (q : ℕ) → list_any (eqb q) (0 ∷ map variable_of xs) ≡ true → q < v + 1 = λ q there.
-        elim (or_cases (eqb q 0) (list_any (eqb q) (map variable_of xs)) there) [
-          | inl e ↦ (let same : q ≡ 0 = eqb-true q 0 e in omega arith)
-          | inr more ↦ variables-below v xs h q more
-        ] in
+    elim (or_cases (eqb q 0) (list_any (eqb q) (map variable_of xs)) there) [
+      | inl e ↦ (let same : q ≡ 0 = eqb-true q 0 e in omega arith)
+      | inr more ↦ variables-below v xs h q more
+    ] in
     let bound : suc (length (map variable_of xs)) ≤ v + 1 = length-le_from_distinct_below (0 ∷ map variable_of xs) (v + 1) (zero-first v xs h d) below in
     omega (arith, length-map xs variable_of)

@@ -1,14 +1,13 @@
 -- What follows is true wherever the clauses before it are.
-use Rattle.std.proofs.Common.{◌≡◌, ℕ, zero, suc, ◌+◌, ◌-◌, ◌*◌, ◌/◌, ◌%◌, ◌<◌, ◌≤◌, ◌⊎◌, ◌||◌, Bool, true, false, not, cond, eqb, List, [], ◌∷◌, ◌++◌, length, refl, sym, ap, subst, ◌∙◌, arith, Option, Some, None, inl, inr}
-use Rattle.std.specs.Prelude.{slice_get}
-use Rattle.std.specs.List.{list_any, list_all, AllByRecursion}
-use Rattle.std.proofs.lemmas.Bool.{eqb-true, eq-eqb, ne_eqb, cases_eq, cases_Bool, and_parts, and_from, or_parts, or_from, or_left, or_right, or_cases, both_ways}
+use Rattle.std.proofs.Common.{◌≡◌, ℕ, zero, suc, ◌/◌, ◌%◌, ◌||◌, Bool, true, false, not, cond, eqb, List, [], ◌∷◌, ◌++◌, length, refl, sym, ap, subst, ◌∙◌, arith, Some, None, inl, inr}
+use Rattle.std.specs.List.{list_all, AllByRecursion}
+use Rattle.std.proofs.lemmas.Bool.{eqb-true, eq-eqb, ne_eqb, cases_eq, cases_Bool, and_parts, and_from, or_parts, or_left, or_right, or_cases, both_ways}
 use Rattle.std.proofs.lemmas.List.{nil_from_length}
 use Rattle.std.proofs.lemmas.List.Folds.{list_any-append}
-use Rattle.pv_cnf.specs.Literal.{complement, literal_value, variable_of, is_negated}
-use Rattle.pv_cnf.specs.Clause.{clause_value, Holds}
+use Rattle.pv_cnf.specs.Literal.{complement, literal_value}
+use Rattle.pv_cnf.specs.Clause.{clause_value}
 use Rattle.pv_log.specs.declared.line.Line.{Line}
-use Rattle.pv_log.specs.Propagation.{is_false, left_of, sole_unset, unit_of, is_falsified, named, LeadsToFalse}
+use Rattle.pv_log.specs.Propagation.{is_false, left_of, sole_unset, named, LeadsToFalse}
 use Rattle.pv_log.specs.Follows.{Follows, EachFollows, ends_empty}
 use Rattle.pv_log.proofs.FindLaws.{slice_get-all}
 
@@ -29,8 +28,8 @@ value-complement : (values : ℕ → Bool) (lit : ℕ) → literal_value values 
 value-complement values lit =
     let same : complement lit / 2 ≡ lit / 2 = omega arith in
     ap (λ (w : ℕ). cond (eqb (complement lit % 2) 1) (not (values w)) (values w)) same
-      ∙ ap (λ (b : Bool). cond b (not (values (lit / 2))) (values (lit / 2))) (negated-complement lit)
-      ∙ cond-not (eqb (lit % 2) 1) (values (lit / 2))
+    ∙ ap (λ (b : Bool). cond b (not (values (lit / 2))) (values (lit / 2))) (negated-complement lit)
+    ∙ cond-not (eqb (lit % 2) 1) (values (lit / 2))
 
 -- under these values each of the literals is false
 pub record AreFalse (values : ℕ → Bool) (falses : List ℕ) : Type 0 where
@@ -43,9 +42,9 @@ module _ (values : ℕ → Bool) where
   true-left falses (x ∷ xs) f h =
       elim (cases_Bool (is_false falses x)) [
         | inl there ↦ (let rest : clause_value values xs ≡ true = elim (or_cases (literal_value values x) (clause_value values xs) h) [
-              | inl t ↦ absurd (both_ways (literal_value values x) (f.at x there) t)
-              | inr t ↦ t
-            ] in
+          | inl t ↦ absurd (both_ways (literal_value values x) (f.at x there) t)
+          | inr t ↦ t
+        ] in
             ap (λ (b : Bool). clause_value values (cond (not b) (x ∷ left_of falses xs) (left_of falses xs))) there ∙ true-left falses xs f rest)
         | inr absent ↦ ap (λ (b : Bool). clause_value values (cond (not b) (x ∷ left_of falses xs) (left_of falses xs))) absent
             ∙ elim (or_cases (literal_value values x) (clause_value values xs) h) [
@@ -74,9 +73,9 @@ module _ (values : ℕ → Bool) where
     at = λ l there. elim (or_cases (is_false falses l) (eqb l (complement lit) || false) (sym (list_any-append (eqb l) falses (complement lit ∷ [])) ∙ there)) [
       | inl before ↦ f.at l before
       | inr here ↦ elim (or_cases (eqb l (complement lit)) false here) [
-          | inl e ↦ (let same = eqb-true l (complement lit) e in ap (literal_value values) same ∙ value-complement values lit ∙ ap not t)
-          | inr none ↦ absurd (both_ways false refl none)
-        ]
+        | inl e ↦ (let same = eqb-true l (complement lit) e in ap (literal_value values) same ∙ value-complement values lit ∙ ap not t)
+        | inr none ↦ absurd (both_ways false refl none)
+      ]
     ];
   }
 

@@ -1,13 +1,13 @@
 -- Each text of a line is read whole, and what was read goes on to some line.
-use Rattle.std.proofs.Common.{◌≡◌, ℕ, zero, suc, ◌+◌, ◌-◌, ◌*◌, ◌/◌, ◌%◌, ◌^◌, ◌<◌, ◌≤◌, ◌⊎◌, ◌&&◌, Bool, true, false, cond, eqb, leb, List, [], ◌∷◌, ◌++◌, length, take, drop, Option, Some, None, Result, Ok, Err, refl, sym, ap, subst, ◌∙◌, arith, inl, inr, append_assoc}
+use Rattle.std.proofs.Common.{◌≡◌, ℕ, ◌+◌, ◌-◌, ◌*◌, ◌/◌, ◌%◌, ◌^◌, ◌<◌, ◌≤◌, ◌&&◌, Bool, true, false, cond, eqb, leb, List, [], ◌∷◌, ◌++◌, length, take, drop, Option, Some, None, Result, Ok, Err, refl, sym, ap, subst, ◌∙◌, arith, inl, inr, append_assoc}
 use Rattle.std.specs.Prelude.{codes, IfOk}
 use Rattle.std.specs.Option.{option_map}
-use Rattle.std.specs.List.{AllByRecursion, flat_map}
+use Rattle.std.specs.List.{AllByRecursion}
 use Rattle.std.specs.Fmt.{decimal}
 use Rattle.std.proofs.lemmas.Fmt.{decimal_by_steps}
 use Rattle.std.proofs.lemmas.List.{append-nil, take-append-drop, take_all, take-take}
-use Rattle.std.proofs.lemmas.Bool.{cases_lt, cases_order, ne_eqb, eq-eqb, le-leb, both_ways, eqb-true, eqb-false, cases_Bool}
-use Rattle.pv_cnf.specs.Literal.{variable_of, is_negated}
+use Rattle.std.proofs.lemmas.Bool.{cases_lt, cases_order, ne_eqb, le-leb, both_ways, eqb-true, eqb-false}
+use Rattle.pv_cnf.specs.Literal.{is_negated}
 use Rattle.pv_cnf.specs.Dimacs.{literal_text}
 use Rattle.pv_log.specs.declared.line.Line.{Line}
 use Rattle.pv_log.specs.declared.stage.Stage.{Stage}
@@ -15,9 +15,9 @@ use Rattle.pv_log.specs.declared.stage.Stage.TheVariants.{Start, Id, Literals, M
 use Rattle.pv_log.specs.declared.fault.LratFault.{LratFault}
 use Rattle.pv_log.specs.declared.fault.LratFault.TheVariants.{NotLrat, NoMemory}
 use Rattle.pv_log.specs.LineText.{literals_text, hints_text, line_text, IsLiteral, IsHint, HasText, Spells, Begins, IsStuckAt, IsUnlessNoMemory}
-use Rattle.pv_log.specs.Reading.{is_digit_from, with_digit, first_digit, stage_after, code_of, with_number, after_byte, after_bytes, at_start, is_end, StopsAt, Reads}
+use Rattle.pv_log.specs.Reading.{is_digit_from, with_digit, first_digit, code_of, after_byte, after_bytes, at_start, is_end, StopsAt, Reads}
 use Rattle.pv_log.proofs.ReadingLaws.{onward, after_bytes-append, after-one, then-read}
-use Rattle.pv_log.proofs.Spelling.{so_far, IsGood, some-is, start-good, digit-is, byte-other, other_stage, bytes-lead}
+use Rattle.pv_log.proofs.Spelling.{so_far, IsGood, some-is, start-good, digit-is, byte-other, bytes-lead}
 
 -- ---- numbers are read
 
@@ -32,14 +32,13 @@ more-reads : (greatest n d : ℕ) → 1 ≤ n → d < 10 → 10 * n + d ≤ grea
 more-reads greatest n d some high fits =
     let back : 48 + d - 48 ≡ d = omega arith in
     ap (λ (k : ℕ). cond (leb 1 n && (is_digit_from 48 (48 + d) && leb (10 * n + k) greatest)) (Some (10 * n + k)) None) back
-      ∙ ap (λ (b : Bool). cond (b && (is_digit_from 48 (48 + d) && leb (10 * n + d) greatest)) (Some (10 * n + d)) None) (le-leb 1 n some)
-      ∙ ap (λ (b : Bool). cond (b && leb (10 * n + d) greatest) (Some (10 * n + d)) None) (digit-is 48 (48 + d) (omega arith) (omega arith))
-      ∙ ap (chosen (10 * n + d)) (le-leb (10 * n + d) greatest fits)
+    ∙ ap (λ (b : Bool). cond (b && (is_digit_from 48 (48 + d) && leb (10 * n + d) greatest)) (Some (10 * n + d)) None) (le-leb 1 n some)
+    ∙ ap (λ (b : Bool). cond (b && leb (10 * n + d) greatest) (Some (10 * n + d)) None) (digit-is 48 (48 + d) (omega arith) (omega arith))
+    ∙ ap (chosen (10 * n + d)) (le-leb (10 * n + d) greatest fits)
 
 module _ (line : Line) (start : Stage) (wrap : ℕ → Stage) (least greatest : ℕ) (small : least ≤ 1) (fits : greatest < 2 ^ 64)
-  (first : (d : ℕ) → least ≤ d → d < 10 → after_byte (line, start) (48 + d) ≡ Some (line, wrap d))
-  (more : (n d : ℕ) → 1 ≤ n → d < 10 → 10 * n + d ≤ greatest → after_byte (line, wrap n) (48 + d) ≡ Some (line, wrap (10 * n + d))) where
-
+    (first : (d : ℕ) → least ≤ d → d < 10 → after_byte (line, start) (48 + d) ≡ Some (line, wrap d))
+    (more : (n d : ℕ) → 1 ≤ n → d < 10 → 10 * n + d ≤ greatest → after_byte (line, wrap n) (48 + d) ≡ Some (line, wrap (10 * n + d))) where
   ReadsSo : ℕ → List ℕ → Type 0
   ReadsSo n ds = least ≤ n → n ≤ greatest → after_bytes (line, start) ds ≡ Some (line, wrap n)
 
@@ -52,7 +51,7 @@ module _ (line : Line) (start : Stage) (wrap : ℕ → Stage) (least greatest : 
   next-reads n ds ten front low high =
       let whole : 10 * (n / 10) + n % 10 ≡ n = omega arith in
       then-read (line, start) (line, wrap (n / 10)) ds ((48 + n % 10) ∷ []) (Some (line, wrap n)) (front (omega arith) (omega arith))
-        (after-one (line, wrap (n / 10)) (48 + n % 10) ∙ more (n / 10) (n % 10) (omega arith) (omega arith) (omega arith) ∙ ap (λ (k : ℕ). Some (line, wrap k)) whole)
+      (after-one (line, wrap (n / 10)) (48 + n % 10) ∙ more (n / 10) (n % 10) (omega arith) (omega arith) (omega arith) ∙ ap (λ (k : ℕ). Some (line, wrap k)) whole)
 
   pub number-reads : (n : ℕ) → least ≤ n → n ≤ greatest → after_bytes (line, start) (decimal n) ≡ Some (line, wrap n)
   unfolding ReadsSo
@@ -67,35 +66,35 @@ at_stage line stage = (line, stage)
 id-reads : (line : Line) (n : ℕ) → n < 2 ^ 32 → after_bytes (line, Start) (decimal n) ≡ Some (line, Id n)
 id-reads line n lt =
     number-reads line Start Id 0 4294967295 (omega arith) (omega arith)
-      (λ d low high. byte-other line Start (48 + d) (not-blank d) ∙ ap (λ (o : Option ℕ). option_map (at_stage line) (option_map Id o)) (first-reads 48 d (omega arith) high))
-      (λ k d some high fits. byte-other line (Id k) (48 + d) (not-blank d) ∙ ap (λ (o : Option ℕ). option_map (at_stage line) (option_map Id o)) (more-reads 4294967295 k d some high fits))
-      n (omega arith) (omega arith)
+    (λ d low high. byte-other line Start (48 + d) (not-blank d) ∙ ap (λ (o : Option ℕ). option_map (at_stage line) (option_map Id o)) (first-reads 48 d (omega arith) high))
+    (λ k d some high fits. byte-other line (Id k) (48 + d) (not-blank d) ∙ ap (λ (o : Option ℕ). option_map (at_stage line) (option_map Id o)) (more-reads 4294967295 k d some high fits))
+    n (omega arith) (omega arith)
 
 hint-reads : (line : Line) (n : ℕ) → IsHint n → after_bytes (line, Hints) (decimal n) ≡ Some (line, Hint n)
 hint-reads line n h =
     number-reads line Hints Hint 1 4294967295 (omega arith) (omega arith)
-      (λ d low high. byte-other line Hints (48 + d) (not-blank d)
-        ∙ ap (λ (b : Bool). option_map (at_stage line) (cond b (Some End) (option_map Hint (first_digit 49 (48 + d))))) (ne_eqb (48 + d) 48 (λ e. omega arith))
-        ∙ ap (λ (o : Option ℕ). option_map (at_stage line) (option_map Hint o)) (first-reads 49 d (omega arith) high))
-      (λ k d some high fits. byte-other line (Hint k) (48 + d) (not-blank d) ∙ ap (λ (o : Option ℕ). option_map (at_stage line) (option_map Hint o)) (more-reads 4294967295 k d some high fits))
-      n h.0 (omega (arith, h.1))
+    (λ d low high. byte-other line Hints (48 + d) (not-blank d)
+    ∙ ap (λ (b : Bool). option_map (at_stage line) (cond b (Some End) (option_map Hint (first_digit 49 (48 + d))))) (ne_eqb (48 + d) 48 (λ e. omega arith))
+    ∙ ap (λ (o : Option ℕ). option_map (at_stage line) (option_map Hint o)) (first-reads 49 d (omega arith) high))
+    (λ k d some high fits. byte-other line (Hint k) (48 + d) (not-blank d) ∙ ap (λ (o : Option ℕ). option_map (at_stage line) (option_map Hint o)) (more-reads 4294967295 k d some high fits))
+    n h.0 (omega (arith, h.1))
 
 variable-reads : (line : Line) (n : ℕ) → 1 ≤ n → n < 2 ^ 31 → after_bytes (line, Literals) (decimal n) ≡ Some (line, Literal false n)
 variable-reads line n low lt =
     number-reads line Literals (Literal false) 1 2147483647 (omega arith) (omega arith)
-      (λ d some high. byte-other line Literals (48 + d) (not-blank d)
-        ∙ ap (λ (b : Bool). option_map (at_stage line) (cond b (Some Break) (cond (eqb (48 + d) 45) (Some Minus) (option_map (Literal false) (first_digit 49 (48 + d)))))) (ne_eqb (48 + d) 48 (λ e. omega arith))
-        ∙ ap (λ (b : Bool). option_map (at_stage line) (cond b (Some Minus) (option_map (Literal false) (first_digit 49 (48 + d))))) (ne_eqb (48 + d) 45 (λ e. omega arith))
-        ∙ ap (λ (o : Option ℕ). option_map (at_stage line) (option_map (Literal false) o)) (first-reads 49 d (omega arith) high))
-      (λ k d some high fits. byte-other line (Literal false k) (48 + d) (not-blank d) ∙ ap (λ (o : Option ℕ). option_map (at_stage line) (option_map (Literal false) o)) (more-reads 2147483647 k d some high fits))
-      n low (omega arith)
+    (λ d some high. byte-other line Literals (48 + d) (not-blank d)
+    ∙ ap (λ (b : Bool). option_map (at_stage line) (cond b (Some Break) (cond (eqb (48 + d) 45) (Some Minus) (option_map (Literal false) (first_digit 49 (48 + d)))))) (ne_eqb (48 + d) 48 (λ e. omega arith))
+    ∙ ap (λ (b : Bool). option_map (at_stage line) (cond b (Some Minus) (option_map (Literal false) (first_digit 49 (48 + d))))) (ne_eqb (48 + d) 45 (λ e. omega arith))
+    ∙ ap (λ (o : Option ℕ). option_map (at_stage line) (option_map (Literal false) o)) (first-reads 49 d (omega arith) high))
+    (λ k d some high fits. byte-other line (Literal false k) (48 + d) (not-blank d) ∙ ap (λ (o : Option ℕ). option_map (at_stage line) (option_map (Literal false) o)) (more-reads 2147483647 k d some high fits))
+    n low (omega arith)
 
 negation-reads : (line : Line) (n : ℕ) → 1 ≤ n → n < 2 ^ 31 → after_bytes (line, Minus) (decimal n) ≡ Some (line, Literal true n)
 negation-reads line n low lt =
     number-reads line Minus (Literal true) 1 2147483647 (omega arith) (omega arith)
-      (λ d some high. byte-other line Minus (48 + d) (not-blank d) ∙ ap (λ (o : Option ℕ). option_map (at_stage line) (option_map (Literal true) o)) (first-reads 49 d (omega arith) high))
-      (λ k d some high fits. byte-other line (Literal true k) (48 + d) (not-blank d) ∙ ap (λ (o : Option ℕ). option_map (at_stage line) (option_map (Literal true) o)) (more-reads 2147483647 k d some high fits))
-      n low (omega arith)
+    (λ d some high. byte-other line Minus (48 + d) (not-blank d) ∙ ap (λ (o : Option ℕ). option_map (at_stage line) (option_map (Literal true) o)) (first-reads 49 d (omega arith) high))
+    (λ k d some high fits. byte-other line (Literal true k) (48 + d) (not-blank d) ∙ ap (λ (o : Option ℕ). option_map (at_stage line) (option_map (Literal true) o)) (more-reads 2147483647 k d some high fits))
+    n low (omega arith)
 
 -- ---- lists are read
 
@@ -114,16 +113,16 @@ literal-reads : (line : Line) (lit : ℕ) → IsLiteral lit → after_bytes (lin
 unfolding with_lits
 literal-reads line lit h =
     then-read (line, Literals) (line, Literal (is_negated lit) (lit / 2)) (literal_text lit) (codes " ") (Some (with_lits line (line.lits ++ lit ∷ []), Literals))
-      (signed-reads line (is_negated lit) (lit / 2) (omega (arith, h.0)) (omega (arith, h.1)))
-      (after-one (line, Literal (is_negated lit) (lit / 2)) 32 ∙ ap (λ (k : ℕ). Some (with_lits line (line.lits ++ k ∷ []), Literals)) (code-is lit (is_negated lit) refl))
+    (signed-reads line (is_negated lit) (lit / 2) (omega (arith, h.0)) (omega (arith, h.1)))
+    (after-one (line, Literal (is_negated lit) (lit / 2)) 32 ∙ ap (λ (k : ℕ). Some (with_lits line (line.lits ++ k ∷ []), Literals)) (code-is lit (is_negated lit) refl))
 
 literals-read : (lits : List ℕ) (line : Line) → AllByRecursion IsLiteral lits → after_bytes (line, Literals) (literals_text lits) ≡ Some (with_lits line (line.lits ++ lits), Literals)
 unfolding with_lits
 literals-read [] line h = ap (λ (ls : List ℕ). Some (with_lits line ls, Literals)) (sym (append-nil line.lits))
 literals-read (lit ∷ lits) line h =
     then-read (line, Literals) (with_lits line (line.lits ++ lit ∷ []), Literals) (literal_text lit ++ codes " ") (literals_text lits) (Some (with_lits line (line.lits ++ lit ∷ lits), Literals))
-      (literal-reads line lit h.0)
-      (literals-read lits (with_lits line (line.lits ++ lit ∷ [])) h.1 ∙ ap (λ (ls : List ℕ). Some (with_lits line ls, Literals)) (append_assoc line.lits (lit ∷ []) lits))
+    (literal-reads line lit h.0)
+    (literals-read lits (with_lits line (line.lits ++ lit ∷ [])) h.1 ∙ ap (λ (ls : List ℕ). Some (with_lits line ls, Literals)) (append_assoc line.lits (lit ∷ []) lits))
 
 with_hints : Line → List ℕ → Line
 with_hints line hints = record line { hints = hints }
@@ -133,8 +132,8 @@ unfolding with_hints
 hints-read [] line h = ap (λ (hs : List ℕ). Some (with_hints line hs, Hints)) (sym (append-nil line.hints))
 hints-read (hint ∷ hints) line h =
     then-read (line, Hints) (with_hints line (line.hints ++ hint ∷ []), Hints) (decimal hint ++ codes " ") (hints_text hints) (Some (with_hints line (line.hints ++ hint ∷ hints), Hints))
-      (then-read (line, Hints) (line, Hint hint) (decimal hint) (codes " ") (Some (with_hints line (line.hints ++ hint ∷ []), Hints)) (hint-reads line hint h.0) (after-one (line, Hint hint) 32))
-      (hints-read hints (with_hints line (line.hints ++ hint ∷ [])) h.1 ∙ ap (λ (hs : List ℕ). Some (with_hints line hs, Hints)) (append_assoc line.hints (hint ∷ []) hints))
+    (then-read (line, Hints) (line, Hint hint) (decimal hint) (codes " ") (Some (with_hints line (line.hints ++ hint ∷ []), Hints)) (hint-reads line hint h.0) (after-one (line, Hint hint) 32))
+    (hints-read hints (with_hints line (line.hints ++ hint ∷ [])) h.1 ∙ ap (λ (hs : List ℕ). Some (with_hints line hs, Hints)) (append_assoc line.hints (hint ∷ []) hints))
 
 -- the text of a line is read whole
 pub line-reads : (line : Line) → HasText line → after_bytes at_start (line_text line) ≡ Some (line, End)
@@ -201,7 +200,7 @@ onward-some (Some p) rest q e none = absurd cc
 pub begins-read : (front : List ℕ) → Begins front → after_bytes at_start front ≡ None → ⊥
 begins-read front b none =
     onward-some (after_bytes at_start front) b.rest (b.line, End)
-      (sym (after_bytes-append at_start front b.rest) ∙ ap (after_bytes at_start) b.spells.text ∙ line-reads b.line b.spells.valid) none
+    (sym (after_bytes-append at_start front b.rest) ∙ ap (after_bytes at_start) b.spells.text ∙ line-reads b.line b.spells.valid) none
 
 pub read-spells : (bytes : List ℕ) (line : Line) → after_bytes at_start bytes ≡ Some (line, End) → Spells bytes line
 read-spells bytes line e =

@@ -1,20 +1,18 @@
 -- What of a line's text was read at each stage, and how it goes on.
-use Rattle.std.proofs.Common.{◌≡◌, ℕ, zero, suc, ◌+◌, ◌-◌, ◌*◌, ◌/◌, ◌%◌, ◌^◌, ◌<◌, ◌≤◌, ◌⊎◌, ◌&&◌, Bool, true, false, cond, eqb, leb, List, [], ◌∷◌, ◌++◌, length, Option, Some, None, refl, sym, ap, subst, ◌∙◌, arith, inl, inr, append_assoc}
+use Rattle.std.proofs.Common.{◌≡◌, ℕ, ◌+◌, ◌-◌, ◌*◌, ◌/◌, ◌%◌, ◌^◌, ◌<◌, ◌≤◌, ◌&&◌, Bool, true, false, cond, eqb, leb, List, [], ◌∷◌, ◌++◌, Option, Some, None, refl, sym, ap, subst, ◌∙◌, arith, inl, inr, append_assoc}
 use Rattle.std.specs.Prelude.{codes}
 use Rattle.std.specs.Option.{option_map}
-use Rattle.std.specs.List.{AllByRecursion, flat_map}
+use Rattle.std.specs.List.{AllByRecursion}
 use Rattle.std.specs.Fmt.{decimal}
-use Rattle.std.proofs.lemmas.Fmt.{decimal_digit, decimal_step, decimal_by_steps}
+use Rattle.std.proofs.lemmas.Fmt.{decimal_digit, decimal_step}
 use Rattle.std.proofs.lemmas.List.{append-nil, flat_map_more}
-use Rattle.std.proofs.lemmas.Bool.{cases_eq, cases_Bool, eqb-true, eq-eqb, ne_eqb, and_parts, leb-true, le-leb}
-use Rattle.pv_cnf.specs.Literal.{variable_of, is_negated}
+use Rattle.std.proofs.lemmas.Bool.{cases_eq, eq-eqb, ne_eqb, and_parts, leb-true, le-leb}
 use Rattle.pv_cnf.specs.Dimacs.{literal_text}
 use Rattle.pv_log.specs.declared.line.Line.{Line}
 use Rattle.pv_log.specs.declared.stage.Stage.{Stage}
 use Rattle.pv_log.specs.declared.stage.Stage.TheVariants.{Start, Id, Literals, Minus, Literal, Break, Hints, Hint, End}
-use Rattle.pv_log.specs.LineText.{literals_text, hints_text, line_text, IsLiteral, IsHint, HasText, Spells, Begins}
+use Rattle.pv_log.specs.LineText.{literals_text, hints_text, IsLiteral, IsHint, HasText}
 use Rattle.pv_log.specs.Reading.{is_digit_from, with_digit, first_digit, stage_after, code_of, with_number, after_byte, after_bytes, at_start}
-use Rattle.pv_log.proofs.ReadingLaws.{after_bytes-append, after-one, then-read}
 
 -- ---- the text so far
 
@@ -127,24 +125,28 @@ some-is p q e = cc
 blank-leads : (line : Line) (stage : Stage) (next : Line × Stage) → IsGood line stage → after_byte (line, stage) 32 ≡ Some next → LeadsTo line stage 32 next
 blank-leads line Start next g e = absurd cc
 blank-leads line (Id n) next g e =
-    subst (LeadsTo line (Id n) 32) (some-is (record line { id = n }, Literals) next e)
-      (record { valid = record { id = g.here.0; lits = g.valid.lits; hints = g.valid.hints }; here = g.here.2 },
-       ap (λ (lits : List ℕ). decimal n ++ codes " " ++ literals_text lits) g.here.1 ∙ append-nil (decimal n ++ codes " "))
+    subst (LeadsTo line (Id n) 32) (some-is (record line { id = n }, Literals) next e) (
+      record { valid = record { id = g.here.0; lits = g.valid.lits; hints = g.valid.hints }; here = g.here.2 },
+      ap (λ (lits : List ℕ). decimal n ++ codes " " ++ literals_text lits) g.here.1 ∙ append-nil (decimal n ++ codes " "),
+    )
 blank-leads line Literals next g e = absurd cc
 blank-leads line Minus next g e = absurd cc
 blank-leads line (Literal negated n) next g e =
-    subst (LeadsTo line (Literal negated n) 32) (some-is (record line { lits = line.lits ++ code_of negated n ∷ [] }, Literals) next e)
-      (record { valid = record { id = g.valid.id; lits = all-push IsLiteral line.lits (code_of negated n) g.valid.lits (code-fits negated n g.here.0 g.here.1); hints = g.valid.hints }; here = g.here.2 },
-       sym (flat_map_more (λ (lit : ℕ). literal_text lit ++ codes " ") (decimal line.id ++ codes " ") line.lits (code_of negated n)) ∙ sym (append_assoc (front line) (literal_text (code_of negated n)) (codes " ")))
+    subst (LeadsTo line (Literal negated n) 32) (some-is (record line { lits = line.lits ++ code_of negated n ∷ [] }, Literals) next e) (
+      record { valid = record { id = g.valid.id; lits = all-push IsLiteral line.lits (code_of negated n) g.valid.lits (code-fits negated n g.here.0 g.here.1); hints = g.valid.hints }; here = g.here.2 },
+      sym (flat_map_more (λ (lit : ℕ). literal_text lit ++ codes " ") (decimal line.id ++ codes " ") line.lits (code_of negated n)) ∙ sym (append_assoc (front line) (literal_text (code_of negated n)) (codes " ")),
+    )
 blank-leads line Break next g e =
-    subst (LeadsTo line Break 32) (some-is (line, Hints) next e)
-      (record { valid = g.valid; here = tt },
-       ap (λ (hints : List ℕ). front line ++ codes "0 " ++ hints_text hints) g.here ∙ append-nil (front line ++ codes "0 ") ∙ sym (append_assoc (front line) (codes "0") (codes " ")))
+    subst (LeadsTo line Break 32) (some-is (line, Hints) next e) (
+      record { valid = g.valid; here = tt },
+      ap (λ (hints : List ℕ). front line ++ codes "0 " ++ hints_text hints) g.here ∙ append-nil (front line ++ codes "0 ") ∙ sym (append_assoc (front line) (codes "0") (codes " ")),
+    )
 blank-leads line Hints next g e = absurd cc
 blank-leads line (Hint n) next g e =
-    subst (LeadsTo line (Hint n) 32) (some-is (record line { hints = line.hints ++ n ∷ [] }, Hints) next e)
-      (record { valid = record { id = g.valid.id; lits = g.valid.lits; hints = all-push IsHint line.hints n g.valid.hints g.here }; here = tt },
-       sym (flat_map_more (λ (h : ℕ). decimal h ++ codes " ") (front line ++ codes "0 ") line.hints n) ∙ sym (append_assoc (back line) (decimal n) (codes " ")))
+    subst (LeadsTo line (Hint n) 32) (some-is (record line { hints = line.hints ++ n ∷ [] }, Hints) next e) (
+      record { valid = record { id = g.valid.id; lits = g.valid.lits; hints = all-push IsHint line.hints n g.valid.hints g.here }; here = tt },
+      sym (flat_map_more (λ (h : ℕ). decimal h ++ codes " ") (front line ++ codes "0 ") line.hints n) ∙ sym (append_assoc (back line) (decimal n) (codes " ")),
+    )
 blank-leads line End next g e = absurd cc
 
 -- ---- another byte
@@ -197,16 +199,17 @@ goes-literal : (line : Line) (negated : Bool) (n byte : ℕ) (next : Stage) → 
 goes-literal line negated n byte next g e =
     let m = mapped (Literal negated) (with_digit 2147483647 n byte) next e in
     let d = more-is 2147483647 n byte m.0 m.1 in
-    subst (Goes line (Literal negated n) byte) m.2
-      ((omega arith, omega arith, g.here.2),
-       ap (λ (t : List ℕ). front line ++ t) (literal-more negated n m.0 byte (more-text n byte m.0 d.0 d.1 d.2 d.4 (omega arith))) ∙ sym (append_assoc (front line) (literal_text (code_of negated n)) (byte ∷ [])))
+    subst (Goes line (Literal negated n) byte) m.2 (
+      (omega arith, omega arith, g.here.2),
+      ap (λ (t : List ℕ). front line ++ t) (literal-more negated n m.0 byte (more-text n byte m.0 d.0 d.1 d.2 d.4 (omega arith))) ∙ sym (append_assoc (front line) (literal_text (code_of negated n)) (byte ∷ [])),
+    )
 
 goes-hint : (line : Line) (n byte : ℕ) (next : Stage) → IsGood line (Hint n) → option_map Hint (with_digit 4294967295 n byte) ≡ Some next → Goes line (Hint n) byte next
 goes-hint line n byte next g e =
     let m = mapped Hint (with_digit 4294967295 n byte) next e in
     let d = more-is 4294967295 n byte m.0 m.1 in
     subst (Goes line (Hint n) byte) m.2
-      ((omega arith, omega arith), ap (λ (t : List ℕ). back line ++ t) (more-text n byte m.0 d.0 d.1 d.2 d.4 (omega arith)) ∙ sym (append_assoc (back line) (decimal n) (byte ∷ [])))
+    ((omega arith, omega arith), ap (λ (t : List ℕ). back line ++ t) (more-text n byte m.0 d.0 d.1 d.2 d.4 (omega arith)) ∙ sym (append_assoc (back line) (decimal n) (byte ∷ [])))
 
 -- a first digit
 goes-start : (line : Line) (byte : ℕ) (next : Stage) → IsGood line Start → option_map Id (first_digit 48 byte) ≡ Some next → Goes line Start byte next
@@ -219,23 +222,24 @@ goes-minus : (line : Line) (byte : ℕ) (next : Stage) → IsGood line Minus →
 goes-minus line byte next g e =
     let m = mapped (Literal true) (first_digit 49 byte) next e in
     let d = first-is 49 byte m.0 m.1 in
-    subst (Goes line Minus byte) m.2
-      ((omega arith, omega arith, g.here),
-       ap (λ (t : List ℕ). front line ++ t) (negated-text m.0 ∙ ap (λ (t : List ℕ). codes "-" ++ t) (digit-text byte m.0 (omega arith) d.1 d.2)) ∙ sym (append_assoc (front line) (codes "-") (byte ∷ [])))
+    subst (Goes line Minus byte) m.2 (
+      (omega arith, omega arith, g.here),
+      ap (λ (t : List ℕ). front line ++ t) (negated-text m.0 ∙ ap (λ (t : List ℕ). codes "-" ++ t) (digit-text byte m.0 (omega arith) d.1 d.2)) ∙ sym (append_assoc (front line) (codes "-") (byte ∷ [])),
+    )
 
 goes-first : (line : Line) (byte : ℕ) (next : Stage) → IsGood line Literals → option_map (Literal false) (first_digit 49 byte) ≡ Some next → Goes line Literals byte next
 goes-first line byte next g e =
     let m = mapped (Literal false) (first_digit 49 byte) next e in
     let d = first-is 49 byte m.0 m.1 in
     subst (Goes line Literals byte) m.2
-      ((omega arith, omega arith, g.here), ap (λ (t : List ℕ). front line ++ t) (plain-text m.0 ∙ digit-text byte m.0 (omega arith) d.1 d.2))
+    ((omega arith, omega arith, g.here), ap (λ (t : List ℕ). front line ++ t) (plain-text m.0 ∙ digit-text byte m.0 (omega arith) d.1 d.2))
 
 goes-hints : (line : Line) (byte : ℕ) (next : Stage) → IsGood line Hints → option_map Hint (first_digit 49 byte) ≡ Some next → Goes line Hints byte next
 goes-hints line byte next g e =
     let m = mapped Hint (first_digit 49 byte) next e in
     let d = first-is 49 byte m.0 m.1 in
     subst (Goes line Hints byte) m.2
-      ((omega arith, omega arith), ap (λ (t : List ℕ). back line ++ t) (digit-text byte m.0 (omega arith) d.1 d.2))
+    ((omega arith, omega arith), ap (λ (t : List ℕ). back line ++ t) (digit-text byte m.0 (omega arith) d.1 d.2))
 
 stage-is : (s t : Stage) → Some s ≡ Some t → s ≡ t
 stage-is s t e = cc
@@ -248,10 +252,10 @@ other-goes line Literals byte next g e =
       | inl is ↦ (let done = stage-is Break next (sym (ap (choose (Some Break) (cond (eqb byte 45) (Some Minus) (option_map (Literal false) (first_digit 49 byte)))) (eq-eqb byte 48 is)) ∙ e) in
           subst (Goes line Literals byte) done (g.here, ap (λ (b : ℕ). front line ++ b ∷ []) (sym is)))
       | inr ne ↦ elim (cases_eq byte 45) [
-          | inl is ↦ (let done = stage-is Minus next (sym (ap (choose (Some Break) (cond (eqb byte 45) (Some Minus) (option_map (Literal false) (first_digit 49 byte)))) (ne_eqb byte 48 ne) ∙ ap (choose (Some Minus) (option_map (Literal false) (first_digit 49 byte))) (eq-eqb byte 45 is)) ∙ e) in
-              subst (Goes line Literals byte) done (g.here, ap (λ (b : ℕ). front line ++ b ∷ []) (sym is)))
-          | inr other ↦ goes-first line byte next g (sym (ap (choose (Some Break) (cond (eqb byte 45) (Some Minus) (option_map (Literal false) (first_digit 49 byte)))) (ne_eqb byte 48 ne) ∙ ap (choose (Some Minus) (option_map (Literal false) (first_digit 49 byte))) (ne_eqb byte 45 other)) ∙ e)
-        ]
+        | inl is ↦ (let done = stage-is Minus next (sym (ap (choose (Some Break) (cond (eqb byte 45) (Some Minus) (option_map (Literal false) (first_digit 49 byte)))) (ne_eqb byte 48 ne) ∙ ap (choose (Some Minus) (option_map (Literal false) (first_digit 49 byte))) (eq-eqb byte 45 is)) ∙ e) in
+            subst (Goes line Literals byte) done (g.here, ap (λ (b : ℕ). front line ++ b ∷ []) (sym is)))
+        | inr other ↦ goes-first line byte next g (sym (ap (choose (Some Break) (cond (eqb byte 45) (Some Minus) (option_map (Literal false) (first_digit 49 byte)))) (ne_eqb byte 48 ne) ∙ ap (choose (Some Minus) (option_map (Literal false) (first_digit 49 byte))) (ne_eqb byte 45 other)) ∙ e)
+      ]
     ]
 other-goes line Minus byte next g e = goes-minus line byte next g e
 other-goes line (Literal negated n) byte next g e = goes-literal line negated n byte next g e
@@ -277,7 +281,7 @@ byte-leads line stage byte next g e =
     ]
 
 bytes-next : (line : Line) (stage : Stage) (byte : ℕ) (bytes : List ℕ) (last : Line × Stage) (next : Option (Line × Stage)) → after_byte (line, stage) byte ≡ next
-  → (elim next as (λ _. Option (Line × Stage)) [ None ↦ None | Some q ↦ after_bytes q bytes ]) ≡ Some last → (q : Line × Stage) × (after_byte (line, stage) byte ≡ Some q) × (after_bytes q bytes ≡ Some last)
+    → (elim next as (λ _. Option (Line × Stage)) [ None ↦ None | Some q ↦ after_bytes q bytes ]) ≡ Some last → (q : Line × Stage) × (after_byte (line, stage) byte ≡ Some q) × (after_bytes q bytes ≡ Some last)
 bytes-next line stage byte bytes last None at e = absurd cc
 bytes-next line stage byte bytes last (Some q) at e = (q, at, e)
 

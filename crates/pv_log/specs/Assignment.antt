@@ -1,5 +1,5 @@
 -- A partial assignment as a checker keeps it: a mark for each literal, and a list of those that are marked.
-use Rattle.std.specs.Prelude.{◌≡◌, ℕ, ◌+◌, ◌*◌, Bool, false, List, [], ◌∷◌, length, slice_index_or}
+use Rattle.std.specs.Prelude.{◌≡◌, ℕ, ◌+◌, ◌*◌, Bool, false, List, length, slice_index_or}
 use Rattle.pv_cnf.specs.Clause.{has_outside, has_double}
 use Rattle.pv_log.specs.Propagation.{is_false}
 

@@ -1,6 +1,6 @@
 -- The text of a line of an LRAT proof (Cruz-Filipe, Heule, Hunt, Kaufmann and Schneider-Kamp, 2017), without
 -- the line feed: the id, the clause's literals as DIMACS writes them, 0, the hints, 0, with one blank between.
-use Rattle.std.specs.Prelude.{◌≡◌, ℕ, ◌+◌, ◌^◌, ◌<◌, ◌≤◌, List, [], ◌∷◌, ◌++◌, length, take, codes, ◌⊎◌, Result, Err}
+use Rattle.std.specs.Prelude.{◌≡◌, ℕ, ◌+◌, ◌^◌, ◌<◌, ◌≤◌, List, ◌++◌, length, take, codes, ◌⊎◌, Result, Err}
 use Rattle.std.specs.List.{flat_map, AllByRecursion}
 use Rattle.std.specs.Fmt.{decimal}
 use Rattle.pv_cnf.specs.Dimacs.{literal_text}

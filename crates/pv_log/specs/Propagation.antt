@@ -42,7 +42,7 @@ LeadsToFalse clauses falses (h ∷ []) =
     (clause : List ℕ) × (named clauses h ≡ Some clause) × (is_falsified falses clause ≡ true)
 LeadsToFalse clauses falses (h ∷ next ∷ hints) =
     (clause : List ℕ) × (lit : ℕ) × (named clauses h ≡ Some clause) × (unit_of falses clause ≡ Some lit)
-      × LeadsToFalse clauses (falses ++ complement lit ∷ []) (next ∷ hints)
+    × LeadsToFalse clauses (falses ++ complement lit ∷ []) (next ∷ hints)
 
 -- what a last hint that names this clause shows
 abbrev pub last_step : List ℕ → Option (List ℕ) → Result (List ℕ) LineFault
@@ -60,6 +60,6 @@ abbrev pub hints_fault : List (List ℕ) → List ℕ → List ℕ → Option Li
 hints_fault clauses falses [] = Some LastNotFalse
 hints_fault clauses falses (h ∷ []) = result_err (last_step falses (named clauses h))
 hints_fault clauses falses (h ∷ next ∷ hints) = elim (unit_step falses (named clauses h)) [
-    | Err fault ↦ Some fault
-    | Ok more ↦ hints_fault clauses more (next ∷ hints)
-  ]
+  | Err fault ↦ Some fault
+  | Ok more ↦ hints_fault clauses more (next ∷ hints)
+]

@@ -14,7 +14,12 @@ use crate::view::LogView;
 use pv_cnf::{ClauseView, flip};
 
 /// The clause with an id: one of the formula's, or that of one of the first `lines` lines.
-fn find<'a, F: ClauseView, L: LogView>(f: &'a F, log: &'a L, lines: u32, id: u32) -> Option<&'a [u32]>
+fn find<'a, F: ClauseView, L: LogView>(
+    f: &'a F,
+    log: &'a L,
+    lines: u32,
+    id: u32,
+) -> Option<&'a [u32]>
     requires few { lines ≤ length (L.all_lines log.now) }
     requires inside { AreInside (F.variables f.now) (lemmas (L.all_lines log.now) lines) }
     ensures value { option_copied result ≡ named (known (F.clauses f.now) (L.all_lines log.now) lines) id }
@@ -28,7 +33,11 @@ fn find<'a, F: ClauseView, L: LogView>(f: &'a F, log: &'a L, lines: u32, id: u32
         return Some(f.clause(id));
     }
     let line = id - count;
-    if line <= lines { Some(log.lits(line)) } else { None }
+    if line <= lines {
+        Some(log.lits(line))
+    } else {
+        None
+    }
 }
 
 /// Makes the literals of a lemma false.
@@ -55,7 +64,13 @@ fn assume(values: &mut Assignment, variables: u32, lits: &[u32]) -> Result<(), L
 }
 
 /// Follows the hints in order.
-fn follow<F: ClauseView, L: LogView>(values: &mut Assignment, f: &F, log: &L, lines: u32, hints: &[u32]) -> Result<(), LineFault>
+fn follow<F: ClauseView, L: LogView>(
+    values: &mut Assignment,
+    f: &F,
+    log: &L,
+    lines: u32,
+    hints: &[u32],
+) -> Result<(), LineFault>
     requires few { lines ≤ length (L.all_lines log.now) }
     requires enough { F.variables f.now ≤ values.old.variables }
     requires inside { AreInside (F.variables f.now) (lemmas (L.all_lines log.now) lines) }
@@ -76,7 +91,12 @@ fn follow<F: ClauseView, L: LogView>(values: &mut Assignment, f: &F, log: &L, li
 }
 
 /// Tries the line behind the first `lines` lines, and leaves its values.
-fn try_line<F: ClauseView, L: LogView>(values: &mut Assignment, f: &F, log: &L, lines: u32) -> Result<(), LineFault>
+fn try_line<F: ClauseView, L: LogView>(
+    values: &mut Assignment,
+    f: &F,
+    log: &L,
+    lines: u32,
+) -> Result<(), LineFault>
     requires few { lines < length (L.all_lines log.now) }
     requires fits { lines < 2 ^ 32 - 1 }
     requires enough { F.variables f.now ≤ values.old.variables }
@@ -95,7 +115,12 @@ fn try_line<F: ClauseView, L: LogView>(values: &mut Assignment, f: &F, log: &L, 
 }
 
 /// Tries the line behind the first `lines` lines.
-pub(crate) fn check_line<F: ClauseView, L: LogView>(values: &mut Assignment, f: &F, log: &L, lines: u32) -> Result<(), LineFault>
+pub(crate) fn check_line<F: ClauseView, L: LogView>(
+    values: &mut Assignment,
+    f: &F,
+    log: &L,
+    lines: u32,
+) -> Result<(), LineFault>
     requires few { lines < length (L.all_lines log.now) }
     requires fits { lines < 2 ^ 32 - 1 }
     requires enough { F.variables f.now ≤ values.old.variables }

@@ -1,6 +1,8 @@
 ghost use Rattle.std.specs.Prelude.{◌≡◌, ◌-◌, ◌^◌, ◌<◌, ◌≤◌, length, IfOk};
 
-use crate::{Checker, Line, LineFault, Log, LogView, LratFault, Numbers, Verdict, read_line, write_line};
+use crate::{
+    Checker, Line, LineFault, Log, LogView, LratFault, Numbers, Verdict, read_line, write_line,
+};
 use pv_cnf::{ClauseView, Clauses, Formula, PushFault};
 use std::alloc::Global;
 use std::test::Fail;
@@ -68,7 +70,10 @@ fn verdicts_on_the_step_formula(rt: HostRuntime) -> Result<(), Fail> {
         (&["12 8 0 11 8 9 5 0"], refused(1, LineFault::Tautology)),
         (&["12 7 0 11 0", "13 0 11 8 9 5 0"], Verdict::Accepted),
         (&["12 7 0 11 0", "13 0 12 8 9 5 0"], Verdict::Accepted),
-        (&["12 7 0 11 0", "14 0 11 8 9 5 0"], refused(2, LineFault::BadId)),
+        (
+            &["12 7 0 11 0", "14 0 11 8 9 5 0"],
+            refused(2, LineFault::BadId),
+        ),
     ];
     for (texts, want) in cases {
         let log = log_of(rt.alloc(), texts)?;
@@ -94,7 +99,10 @@ const PIGEONS: [&[u32]; 9] = [
 fn pigeons_have_no_room(rt: HostRuntime) -> Result<(), Fail> {
     let formula = formula_of(rt.alloc(), 6, &PIGEONS)?;
     let mut checker = Checker::make(rt.alloc(), 10)?;
-    let log = log_of(rt.alloc(), &["10 -1 0 4 2 5 3 9 0", "11 0 10 1 7 8 2 3 6 0"])?;
+    let log = log_of(
+        rt.alloc(),
+        &["10 -1 0 4 2 5 3 9 0", "11 0 10 1 7 8 2 3 6 0"],
+    )?;
     assert_eq!(rt; log.lines(), 2);
     assert_eq!(rt; checker.check(&formula, &log), Verdict::Accepted);
     Ok(())
@@ -102,14 +110,21 @@ fn pigeons_have_no_room(rt: HostRuntime) -> Result<(), Fail> {
 
 #[test]
 fn lines_are_read_and_written(rt: HostRuntime) -> Result<(), Fail> {
-    for text in ["12 0 11 8 9 5 0", "0 0 0", "4294967295 -2147483647 2147483647 0 4294967295 0"] {
+    for text in [
+        "12 0 11 8 9 5 0",
+        "0 0 0",
+        "4294967295 -2147483647 2147483647 0 4294967295 0",
+    ] {
         let line = read_line(rt.alloc(), text.as_bytes())?;
         let made = Line {
             id: line.id,
             lits: Numbers::from_slice(rt.alloc(), line.lits.as_slice())?,
             hints: Numbers::from_slice(rt.alloc(), line.hints.as_slice())?,
         };
-        assert!(rt; write_line(rt.alloc(), &made)?.as_slice() == text.as_bytes(), "{text}");
+        assert!(rt;
+            write_line(rt.alloc(), &made)?.as_slice() == text.as_bytes(),
+            "{text}"
+        );
     }
     let line = read_line(rt.alloc(), b"12 -3 4 0 11 8 0")?;
     assert_eq!(rt; line.id, 12);

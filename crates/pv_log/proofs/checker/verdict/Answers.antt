@@ -1,10 +1,5 @@
-use Rattle.std.proofs.Common.{◌≡◌, ◌+◌, ◌-◌, ◌∷◌, List, ℕ, suc, false, refl, sym, ◌∙◌, ap, subst, arith, Some, None, Option, Result, Err, Ok, get_or, take}
-use Rattle.std.specs.Prelude.{slice_get}
+use Rattle.std.proofs.Common.{sym, ◌∙◌, ap, arith}
 use Rattle.std.specs.Result.{result_err}
-use Rattle.pv_log.specs.declared.line.Line.{Line}
-use Rattle.pv_log.specs.declared.fault.LineFault.{LineFault}
-use Rattle.pv_log.specs.Follows.{FailsFirst, EachFollows, fault_of}
-use Rattle.pv_log.specs.Checking.{known}
 use Rattle.pv_log.proofs.FollowLaws.{inside-lines, follows-next, fails-next, all-follow, ends-empty, ends-nowhere}
 use Rattle.pv_log.proofs.checker.verdict.Goals as goal
 use Rattle.pv_log.proofs.checker.verdict.Goals.{else-lines-gt0-via-then-lines-gt0+else-is_empty, else-lines-gt0-via-else-lines-gt0}

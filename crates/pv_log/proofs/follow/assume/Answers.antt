@@ -1,20 +1,20 @@
-use Rattle.std.proofs.Common.{◌≡◌, ℕ, ◌+◌, ◌++◌, ◌∷◌, [], List, true, false, get_or, take, drop, subst, sym, ◌∙◌, ap, refl, arith, inl, inr}
+use Rattle.std.proofs.Common.{ℕ, ◌++◌, ◌∷◌, [], List, get_or, take, sym, ◌∙◌, ap, refl}
 use Rattle.std.proofs.lemmas.Bool.{or_right}
-use Rattle.std.proofs.lemmas.List.{take-append-drop, drop_more, take_more}
-use Rattle.pv_cnf.specs.Literal.{complement, is_outside}
+use Rattle.std.proofs.lemmas.List.{take_more}
 use Rattle.pv_cnf.specs.Clause.{has_outside, has_double}
-use Rattle.pv_log.specs.Propagation.{is_false}
 use Rattle.pv_log.proofs.AssumeLaws.{doubled, doubled_complement, undoubled, not-outside}
 use Rattle.pv_log.proofs.Literals.{outside-push}
 use Rattle.pv_log.proofs.follow.assume.Goals as goal
 use Rattle.pv_log.proofs.follow.assume.Goals.{then-is_false-via-then-is_false, then-is_false-via-else-is_false+then-is_false-2}
 
 pub returns-then-is_false-clause-tautology : goal.returns-then-is_false-clause-tautology
-returns-then-is_false-clause-tautology c =
-    (refl, or_right (has_outside c.args.variables c.args.lits.now) (has_double c.args.lits.now) (elim c.then-is_false.branch [
-      | then-is_false-via-then-is_false w ↦ doubled c.args.lits.now c.loop-lit.lit-index c.loop-lit.values.falses c.loop-lit-test.true c.loop-lit.invariant.falses (sym c.is_false.ensures ∙ w.if-is_false.true)
-      | then-is_false-via-else-is_false+then-is_false-2 w ↦ doubled_complement c.args.lits.now c.loop-lit.lit-index c.loop-lit.values.falses w.flip.result c.loop-lit-test.true c.loop-lit.invariant.falses w.flip.ensures.complement (sym w.is_false-else-is_false.ensures ∙ w.if-is_false-2.true)
-    ]))
+returns-then-is_false-clause-tautology c = (
+  refl,
+  or_right (has_outside c.args.variables c.args.lits.now) (has_double c.args.lits.now) (elim c.then-is_false.branch [
+    | then-is_false-via-then-is_false w ↦ doubled c.args.lits.now c.loop-lit.lit-index c.loop-lit.values.falses c.loop-lit-test.true c.loop-lit.invariant.falses (sym c.is_false.ensures ∙ w.if-is_false.true)
+    | then-is_false-via-else-is_false+then-is_false-2 w ↦ doubled_complement c.args.lits.now c.loop-lit.lit-index c.loop-lit.values.falses w.flip.result c.loop-lit-test.true c.loop-lit.invariant.falses w.flip.ensures.complement (sym w.is_false-else-is_false.ensures ∙ w.if-is_false-2.true)
+  ]),
+)
 
 pub loop-lit-preserved : goal.loop-lit-preserved
 loop-lit-preserved c =

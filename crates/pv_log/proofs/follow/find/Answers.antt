@@ -1,6 +1,6 @@
 use Rattle.std.proofs.Common.{◌≡◌, ◌-◌, List, ℕ, false, sym, ◌∙◌, arith}
 use Rattle.pv_cnf.specs.Clause.{has_outside}
-use Rattle.pv_log.proofs.FindLaws.{named-formula, named-line, named-past, lemma-inside}
+use Rattle.pv_log.proofs.FindLaws.{named-line, named-past, lemma-inside}
 use Rattle.pv_log.proofs.follow.find.Goals as goal
 
 pub returns-then-line-lines-clause-value : goal.returns-then-line-lines-clause-value

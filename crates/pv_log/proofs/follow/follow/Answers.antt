@@ -1,4 +1,4 @@
-use Rattle.std.proofs.Common.{◌≡◌, List, ℕ, false, sym, ◌∙◌, subst, arith}
+use Rattle.std.proofs.Common.{arith}
 use Rattle.pv_log.proofs.FollowLaws.{outside-wider}
 use Rattle.pv_log.proofs.follow.follow.Goals as goal
 

@@ -1,4 +1,4 @@
-use Rattle.std.proofs.Common.{◌≡◌, ◌+◌, ◌-◌, ◌||◌, List, ℕ, true, false, Option, refl, sym, ◌∙◌, ap, subst, arith, Some, Result, Err, Ok}
+use Rattle.std.proofs.Common.{◌≡◌, ◌+◌, ◌||◌, List, ℕ, true, false, Option, refl, ◌∙◌, ap, subst, arith, Some}
 use Rattle.std.specs.Result.{result_err}
 use Rattle.std.proofs.lemmas.Result.{err_from_is_err_and}
 use Rattle.pv_cnf.specs.Clause.{has_outside, has_double}

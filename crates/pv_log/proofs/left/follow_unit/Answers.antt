@@ -1,6 +1,5 @@
-use Rattle.std.proofs.Common.{◌≡◌, ℕ, false, subst, sym, ◌∙◌, ap, arith}
-use Rattle.pv_cnf.specs.Literal.{complement, is_outside}
-use Rattle.pv_log.specs.Propagation.{is_false}
+use Rattle.std.proofs.Common.{arith}
+use Rattle.pv_cnf.specs.Literal.{complement}
 use Rattle.pv_log.proofs.Literals.{inside-bounds}
 use Rattle.pv_log.proofs.LeftLaws.{one-inside, complement-inside, complement-complement}
 use Rattle.pv_log.proofs.left.follow_unit.Goals as goal

@@ -1,9 +1,8 @@
-use Rattle.std.proofs.Common.{◌≡◌, ◌+◌, ℕ, sym, ap, subst, ◌∙◌, arith, get_or, Option, Some, None}
+use Rattle.std.proofs.Common.{sym, ap, subst, ◌∙◌, arith, Option}
 use Rattle.std.specs.Prelude.{IfSome}
 use Rattle.std.specs.Option.{option_map}
-use Rattle.pv_log.specs.declared.line.Line.{Line}
 use Rattle.pv_log.specs.declared.stage.Stage.{Stage}
-use Rattle.pv_log.specs.Reading.{StageFits, at_start, after_byte}
+use Rattle.pv_log.specs.Reading.{StageFits, at_start}
 use Rattle.pv_log.proofs.ReadingLaws.{after_bytes-more}
 use Rattle.pv_log.proofs.read.read.Goals as goal
 

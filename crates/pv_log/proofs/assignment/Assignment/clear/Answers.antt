@@ -1,4 +1,4 @@
-use Rattle.std.proofs.Common.{◌≡◌, ℕ, List, [], ◌∷◌, ◌++◌, subst, arith}
+use Rattle.std.proofs.Common.{ℕ, List, subst, arith}
 use Rattle.pv_log.specs.Assignment.{Agree}
 use Rattle.pv_log.proofs.AssignmentLaws.{Agree-unset}
 use Rattle.pv_log.proofs.assignment.Assignment.clear.Goals as goal

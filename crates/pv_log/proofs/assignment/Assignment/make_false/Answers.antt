@@ -1,5 +1,4 @@
-use Rattle.std.proofs.Common.{◌≡◌, ◌<◌, ◌++◌, ◌∷◌, [], List, ℕ, true, false, set, length, sym, subst, ap, arith}
-use Rattle.std.specs.Prelude.{vec_len}
+use Rattle.std.proofs.Common.{◌≡◌, ◌++◌, ◌∷◌, [], List, ℕ, true, false, set, sym, subst, arith}
 use Rattle.pv_cnf.specs.Literal.{complement, is_outside}
 use Rattle.pv_log.specs.Propagation.{is_false}
 use Rattle.pv_log.specs.Assignment.{Agree, Partial}
