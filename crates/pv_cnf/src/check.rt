@@ -1,6 +1,6 @@
-ghost use Rattle.std.specs.Prelude.{◌≡◌, true, false, ◌+◌, ◌<◌, ◌≤◌, nat_lt, length, take, All, IfSome, IfNone, Option};
+ghost use Rattle.std.specs.Prelude.{◌≡◌, true, false, ◌+◌, ◌<◌, ◌≤◌, nat_lt, length, take, All};
 ghost use Rattle.pv_cnf.specs.Literal.{variable_of};
-ghost use Rattle.pv_cnf.specs.Clause.{has_outside, has_double, has_variable, IsClause};
+ghost use Rattle.pv_cnf.specs.Clause.{has_outside, has_double, has_variable};
 ghost use Rattle.pv_cnf.specs.Fault.{first_fault};
 ghost use Rattle.pv_cnf.specs.Layout.{MarksAre, MarksWithin};
 

@@ -1,4 +1,4 @@
-ghost use Rattle.std.specs.Prelude.{◌≡◌, ◌+◌, ◌^◌, ◌<◌, ◌≤◌, [], ◌∷◌, ◌++◌, length, take, slice_get, slice_index, IfOk, OnOk, OnErr};
+ghost use Rattle.std.specs.Prelude.{◌≡◌, ◌+◌, ◌^◌, ◌<◌, ◌≤◌, [], ◌∷◌, ◌++◌, length, slice_get, slice_index, IfOk, OnOk, OnErr};
 ghost use Rattle.pv_cnf.specs.Clause.{Cnf};
 ghost use Rattle.pv_cnf.specs.Layout.{LeadTo, parts_from};
 
@@ -14,7 +14,9 @@ use std::marker::Model;
 pub struct Formula {
     variables: u32,
     lits: Vec<u32>,
+    /// For each clause the number of literals up to its end.
     ends: Vec<usize>,
+    /// A mark for 0 and each variable; `push` sets those of a clause and takes them away again.
     marks: Vec<bool>,
 }
 

@@ -1,4 +1,4 @@
-ghost use Rattle.std.specs.Prelude.{◌≡◌, ℕ, Bool, false, ◌-◌, ◌^◌, ◌<◌, length, slice_index_or, IfOk};
+ghost use Rattle.std.specs.Prelude.{◌≡◌, false, ◌-◌, ◌^◌, ◌<◌, length, slice_index_or, IfOk};
 
 use crate::{ClauseView, Clauses, Formula, PushFault, Values, flip, holds, to_dimacs};
 use std::alloc::Global;
