@@ -15,9 +15,9 @@ ROOT = HERE.parent.parent
 
 def build(place):
     """The two programs."""
-    kept = shutil.ignore_patterns("must-fail", "tests")
+    left_out = shutil.ignore_patterns("must-fail", "out")
     for crate in ["pv_cnf", "pv_log"]:
-        shutil.copytree(ROOT / "crates" / crate, place / "crates" / crate, ignore=kept)
+        shutil.copytree(ROOT / "crates" / crate, place / "crates" / crate, ignore=left_out)
     shutil.copy(ROOT / "HANDLES", place)
     (place / "crates.txt").write_text(
         "pv_cnf: itoa thiserror\npv_log: itoa pv_cnf thiserror\nlog_bench: anyhow pv_cnf pv_log\n"
