@@ -1,0 +1,11 @@
+pub mod Literals
+pub mod AssignmentLaws
+pub mod LeftLaws
+pub mod FindLaws
+pub mod AssumeLaws
+pub mod FollowLaws
+pub mod Sound
+pub mod VerdictLaws
+pub mod ReadingLaws
+pub mod Spelling
+pub mod Spelled

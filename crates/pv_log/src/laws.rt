@@ -1,0 +1,22 @@
+ghost use Rattle.std.specs.Prelude.{◌≡◌, ◌↔◌, ℕ, Bool, List, None, IsTrue};
+ghost use Rattle.pv_cnf.specs.Clause.{Holds, clause_value};
+ghost use Rattle.pv_log.specs.declared.line.Line.{Line};
+ghost use Rattle.pv_log.specs.LineText.{Spells};
+ghost use Rattle.pv_log.specs.Follows.{Follows, fault_of};
+
+/// A law: the clause of a line that follows is true wherever the clauses before it are.
+pub fn line_is_true()
+    ensures { (variables : ℕ) (clauses : List (List ℕ)) (line : Line) (values : ℕ → Bool)
+        → Follows variables clauses line → Holds values clauses → IsTrue (clause_value values line.lits) }
+{}
+
+/// A law: a line follows exactly where nothing is wrong with it.
+pub fn line_without_fault_follows()
+    ensures { (variables : ℕ) (clauses : List (List ℕ)) (line : Line)
+        → (fault_of variables clauses line ≡ None) ↔ Follows variables clauses line }
+{}
+
+/// A law: a text is that of at most one line.
+pub fn text_determines_line()
+    ensures { (bytes : List ℕ) (line other : Line) → Spells bytes line → Spells bytes other → line ≡ other }
+{}

@@ -1,0 +1,27 @@
+//! Logs of clauses that follow from a formula, a checker for them, and the text of their lines (LRAT).
+#![tactic(auto)]
+
+mod assignment;
+mod checker;
+mod fault;
+mod follow;
+mod laws;
+mod left;
+mod line;
+mod numbers;
+mod read;
+mod stage;
+mod view;
+mod write;
+
+pub use checker::Checker;
+pub use fault::{LineFault, LratFault, Verdict};
+pub use laws::{line_is_true, line_without_fault_follows, text_determines_line};
+pub use line::Line;
+pub use numbers::Numbers;
+pub use read::read_line;
+pub use view::{Log, LogView};
+pub use write::write_line;
+
+#[cfg(test)]
+mod tests;
