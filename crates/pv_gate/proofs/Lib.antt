@@ -1,0 +1,3 @@
+pub mod Nodes
+pub mod Lists
+pub mod Values

@@ -1,0 +1,5 @@
+pub mod Node
+pub mod Value
+pub mod Netlist
+pub mod Build
+pub mod Index

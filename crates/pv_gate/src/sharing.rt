@@ -1,0 +1,173 @@
+//! The nodes of a circuit, and an index in which each gate is found again.
+
+ghost use Rattle.std.specs.Prelude.{◌≡◌, ℕ, ◌+◌, ◌-◌, ◌*◌, ◌≤◌, ◌<◌, ◌^◌, ◌↔◌, ℤ, pos, neg_ℤ, unsigned_abs, Bool, [], ◌∷◌, ◌++◌, length, take, slice_get, None, IsTrue, IfOk, OnOk, OnErr};
+ghost use Rattle.std.specs.Option.{option_map};
+ghost use Rattle.pv_gate.specs.declared.netlist.Node.TheVariants.{True};
+ghost use Rattle.pv_gate.specs.Value.{value_of};
+
+use crate::fault::GateFault;
+use crate::netlist::{MOST, Node};
+use std::alloc::{AllocError, Global};
+use std::collections::BTreeMap;
+use std::marker::Model;
+
+/// A circuit that grows by one node at a time. No gate is made twice, and a look-up of a gate costs
+/// about the logarithm of their number.
+#[derive(Drop)]
+pub struct Gates {
+    nodes: Vec<Node>,
+    // The literal of each And, Xor and Mux node.
+    index: BTreeMap<Node, i32>,
+    gates: u32,
+    inputs: u32,
+    limit: u32,
+}
+
+impl Model for Gates {
+    ghost use Rattle.pv_gate.specs.Netlist.{Netlist};
+
+    ghost Value = { Netlist };
+
+    ghost use Rattle.std.specs.BTreeMap as tree;
+    ghost use Rattle.pv_gate.specs.Index.{IsKept, node_cmp};
+
+    ghost view = { λ g. record { nodes = g.nodes.items; limit = g.limit } };
+
+    ghost invariant = { λ g. IsKept g.nodes.items (tree.get node_cmp g.index) g.gates g.inputs g.limit };
+}
+
+/// A circuit of node 1 alone, constant true. The limit is on And, Xor and Mux nodes together.
+pub fn make(alloc: Global, limit: u32) -> Result<Gates, AllocError>
+    requires { limit ≤ MOST }
+    ensures made { IfOk result (λ gates. gates ≡ record { nodes = True ∷ []; limit = limit }) }
+{
+    let mut nodes = Vec::new(alloc);
+    nodes.push(Node::True)?;
+    Ok(Gates {
+        nodes,
+        index: BTreeMap::new(alloc),
+        gates: 0,
+        inputs: 0,
+        limit,
+    })
+}
+
+impl Gates {
+    ghost use Rattle.pv_gate.specs.Node.{Names, is_gate, gate_count, input_count};
+    ghost use Rattle.pv_gate.specs.Netlist.{IsNetlist, MayFollow, Extends, KeepsValues};
+    ghost use Rattle.pv_gate.specs.Build.{share, number_of, added, input_gate, IsBeyond};
+
+    /// The number of nodes, node 1 included: at most 2,000,000,001.
+    pub fn nodes(&self) -> u32
+        ensures count { result ≡ length self.now.nodes }
+
+        // What every circuit keeps.
+        ensures netlist { IsNetlist self.now.nodes }
+        ensures few { length self.now.nodes ≤ 1 + 2 * MOST }
+        ensures within { gate_count self.now.nodes ≤ self.now.limit }
+    {
+        self.nodes.len() as u32
+    }
+
+    /// Node number `n`, from 1.
+    pub fn node(&self, n: u32) -> Node
+        requires from_one { 1 ≤ n }
+        requires to_last { n ≤ length self.now.nodes }
+        ensures node { slice_get self.now.nodes (n - 1) ≡ Some result }
+        ensures operands { MayFollow (take (n - 1) self.now.nodes) result }
+    {
+        self.nodes[n as usize - 1]
+    }
+
+    /// The next node as an input, which the limit does not count. Inputs are numbered from 0.
+    pub fn input(&mut self) -> Result<i32, GateFault>
+        requires { input_count self.old.nodes < MOST }
+        ensures literal { IfOk result (λ literal. literal ≡ (input_gate self.old.nodes).literal) }
+        ensures nodes { OnOk result (self.new ≡ record self.old { nodes = (input_gate self.old.nodes).nodes }) }
+        ensures err { OnErr result ((result ≡ Err GateFault.NoMemory) × (self.new ≡ self.old)) }
+
+        // The literal has the input's value, and older ones keep theirs.
+        ensures value { IfOk result (λ literal. (inputs : ℕ → Bool) → value_of inputs self.new.nodes literal ≡ inputs (input_count self.old.nodes)) }
+        ensures names { IfOk result (λ literal. Names (length self.new.nodes) literal) }
+        ensures extends { Extends self.old.nodes self.new.nodes }
+        ensures older { KeepsValues self.old.nodes self.new.nodes }
+    {
+        let literal = self.nodes.len() as i32 + 1;
+        if self.nodes.push(Node::Input(self.inputs)).is_err() {
+            return Err(GateFault::NoMemory);
+        }
+        self.inputs += 1;
+        Ok(literal)
+    }
+
+    // The complement of a literal, which fits since there are few nodes.
+    pub(crate) fn complement(&self, literal: i32) -> i32
+        requires { Names (length self.now.nodes) literal }
+        ensures { result ≡ neg_ℤ literal }
+    {
+        let _nodes = &self.nodes;
+        -literal
+    }
+
+    // The literal without its complement.
+    pub(crate) fn uncomplemented(&self, literal: i32) -> i32
+        requires { Names (length self.now.nodes) literal }
+        ensures { result ≡ pos (unsigned_abs literal) }
+    {
+        let _nodes = &self.nodes;
+        literal.abs()
+    }
+
+    // The gate where it is there, or else the next node.
+    pub(crate) fn share(&mut self, node: Node) -> Result<i32, GateFault>
+        requires gate { IsTrue (is_gate node) }
+        requires follows { MayFollow self.old.nodes node }
+        ensures literal { IfOk result (λ literal. literal ≡ (share self.old.nodes node).literal) }
+        ensures nodes { OnOk result (self.new ≡ record self.old { nodes = (share self.old.nodes node).nodes }) }
+        ensures limit { (result ≡ Err GateFault.Limit) ↔ IsBeyond self.old (share self.old.nodes node) }
+        ensures err { OnErr result (self.new ≡ self.old) }
+    {
+        if let Some(literal) = self.find(node) {
+            return Ok(literal);
+        }
+        if self.is_full() {
+            return Err(GateFault::Limit);
+        }
+        self.add(node).map_err(|_| GateFault::NoMemory)
+    }
+
+    // The literal of a gate that is there.
+    fn find(&self, node: Node) -> Option<i32>
+        requires { IsTrue (is_gate node) }
+        ensures { result ≡ option_map pos (number_of node self.now.nodes) }
+    {
+        self.index.get(&node).copied()
+    }
+
+    fn is_full(&self) -> bool
+        ensures full { IsTrue result ↔ (gate_count self.now.nodes ≡ self.now.limit) }
+        ensures within { gate_count self.now.nodes ≤ self.now.limit }
+    {
+        self.gates == self.limit
+    }
+
+    // Another gate, as the next node.
+    fn add(&mut self, node: Node) -> Result<i32, AllocError>
+        requires gate { IsTrue (is_gate node) }
+        requires follows { MayFollow self.old.nodes node }
+        requires new { number_of node self.old.nodes ≡ None }
+        requires room { gate_count self.old.nodes < self.old.limit }
+        ensures literal { IfOk result (λ literal. literal ≡ (added self.old.nodes node).literal) }
+        ensures nodes { OnOk result (self.new ≡ record self.old { nodes = (added self.old.nodes node).nodes }) }
+        ensures err { OnErr result (self.new ≡ self.old) }
+    {
+        let literal = self.nodes.len() as i32 + 1;
+        self.nodes.push(node)?;
+        if self.index.insert(node, literal).is_err() {
+            self.nodes.pop();
+            return Err(AllocError);
+        }
+        self.gates += 1;
+        Ok(literal)
+    }
+}
