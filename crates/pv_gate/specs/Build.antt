@@ -69,6 +69,10 @@ unfoldable pub or_gate : List Node → ℤ → ℤ → Made
 or_gate nodes a b = complemented (and_gate nodes (neg_ℤ a) (neg_ℤ b))
 
 -- an Xor node has no complemented operand: the result is complemented once for each
+unfoldable pub xor_node : List Node → ℤ → ℤ → Made
+xor_node nodes a b =
+    complemented_if (xor (is_negative a) (is_negative b)) (share nodes (Xor (lower (pos (unsigned_abs a)) (pos (unsigned_abs b))) (higher (pos (unsigned_abs a)) (pos (unsigned_abs b)))))
+
 unfoldable pub xor_gate : List Node → ℤ → ℤ → Made
 xor_gate nodes a b =
     if int_eq a false_literal then present nodes b
@@ -77,7 +81,13 @@ xor_gate nodes a b =
     else if int_eq b true_literal then present nodes (neg_ℤ a)
     else if int_eq a b then present nodes false_literal
     else if int_eq a (neg_ℤ b) then present nodes true_literal
-    else complemented_if (xor (is_negative a) (is_negative b)) (share nodes (Xor (lower (pos (unsigned_abs a)) (pos (unsigned_abs b))) (higher (pos (unsigned_abs a)) (pos (unsigned_abs b)))))
+    else xor_node nodes a b
+
+-- a Mux node's first choice is no complement: else both are complemented, and the result
+unfoldable pub mux_node : List Node → ℤ → ℤ → ℤ → Made
+mux_node nodes s a b =
+    if is_negative a then complemented (share nodes (Mux s (neg_ℤ a) (neg_ℤ b)))
+    else share nodes (Mux s a b)
 
 -- a where s, else b, for an s that is a node and no complement or constant, and a and b that differ
 unfoldable pub choice_gate : List Node → ℤ → ℤ → ℤ → Made
@@ -87,8 +97,7 @@ choice_gate nodes s a b =
     else if int_eq b true_literal then or_gate nodes (neg_ℤ s) a
     else if int_eq b false_literal then and_gate nodes s a
     else if int_eq b (neg_ℤ a) then complemented (xor_gate nodes s a)
-    else if is_negative a then complemented (share nodes (Mux s (neg_ℤ a) (neg_ℤ b)))
-    else share nodes (Mux s a b)
+    else mux_node nodes s a b
 
 -- a where s, else b
 unfoldable pub mux_gate : List Node → ℤ → ℤ → ℤ → Made

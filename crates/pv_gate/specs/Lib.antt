@@ -3,3 +3,4 @@ pub mod Value
 pub mod Netlist
 pub mod Build
 pub mod Index
+pub mod Given

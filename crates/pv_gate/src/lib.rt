@@ -5,6 +5,8 @@
 #![tactic(auto)]
 
 mod fault;
+mod folding;
+mod literal;
 mod netlist;
 mod operations;
 mod sharing;

@@ -1,11 +1,12 @@
 //! The nodes of a circuit, and an index in which each gate is found again.
 
-ghost use Rattle.std.specs.Prelude.{◌≡◌, ℕ, ◌+◌, ◌-◌, ◌*◌, ◌≤◌, ◌<◌, ◌^◌, ◌↔◌, ℤ, pos, neg_ℤ, unsigned_abs, Bool, [], ◌∷◌, ◌++◌, length, take, slice_get, None, IsTrue, IfOk, OnOk, OnErr};
+ghost use Rattle.std.specs.Prelude.{◌≡◌, ℕ, ◌+◌, ◌-◌, ◌*◌, ◌≤◌, ◌<◌, ◌^◌, ◌↔◌, ℤ, pos, suc, unsigned_abs, Bool, [], ◌∷◌, ◌++◌, length, take, slice_get, None, IsTrue, IfOk, OnOk, OnErr};
 ghost use Rattle.std.specs.Option.{option_map};
 ghost use Rattle.pv_gate.specs.declared.netlist.Node.TheVariants.{True};
 ghost use Rattle.pv_gate.specs.Value.{value_of};
 
 use crate::fault::GateFault;
+use crate::literal::Literal;
 use crate::netlist::{MOST, Node};
 use std::alloc::{AllocError, Global};
 use std::collections::BTreeMap;
@@ -17,7 +18,7 @@ use std::marker::Model;
 pub struct Gates {
     nodes: Vec<Node>,
     // The literal of each And, Xor and Mux node.
-    index: BTreeMap<Node, i32>,
+    index: BTreeMap<Node, Literal>,
     gates: u32,
     inputs: u32,
     limit: u32,
@@ -29,11 +30,12 @@ impl Model for Gates {
     ghost Value = { Netlist };
 
     ghost use Rattle.std.specs.BTreeMap as tree;
+    ghost use Rattle.std.specs.Option.{option_map};
     ghost use Rattle.pv_gate.specs.Index.{IsKept, node_cmp};
 
     ghost view = { λ g. record { nodes = g.nodes.items; limit = g.limit } };
 
-    ghost invariant = { λ g. IsKept g.nodes.items (tree.get node_cmp g.index) g.gates g.inputs g.limit };
+    ghost invariant = { λ g. IsKept g.nodes.items (λ node. option_map (λ literal. literal.code) (tree.get node_cmp g.index node)) g.gates g.inputs g.limit };
 }
 
 /// A circuit of node 1 alone, constant true. The limit is on And, Xor and Mux nodes together.
@@ -55,7 +57,8 @@ pub fn make(alloc: Global, limit: u32) -> Result<Gates, AllocError>
 impl Gates {
     ghost use Rattle.pv_gate.specs.Node.{Names, is_gate, gate_count, input_count};
     ghost use Rattle.pv_gate.specs.Netlist.{IsNetlist, MayFollow, Extends, KeepsValues};
-    ghost use Rattle.pv_gate.specs.Build.{share, number_of, added, input_gate, IsBeyond};
+    ghost use Rattle.pv_gate.specs.Build.{share, number_of, added, input_gate};
+    ghost use Rattle.pv_gate.specs.Given.{Gives};
 
     /// The number of nodes, node 1 included: at most 2,000,000,001.
     pub fn nodes(&self) -> u32
@@ -92,40 +95,35 @@ impl Gates {
         ensures extends { Extends self.old.nodes self.new.nodes }
         ensures older { KeepsValues self.old.nodes self.new.nodes }
     {
-        let literal = self.nodes.len() as i32 + 1;
+        let literal = self.next_literal();
         if self.nodes.push(Node::Input(self.inputs)).is_err() {
             return Err(GateFault::NoMemory);
         }
         self.inputs += 1;
-        Ok(literal)
+        Ok(literal.code())
     }
 
-    // The complement of a literal, which fits since there are few nodes.
-    pub(crate) fn complement(&self, literal: i32) -> i32
-        requires { Names (length self.now.nodes) literal }
-        ensures { result ≡ neg_ℤ literal }
+    // The literal, whose number has a complement since there are few nodes.
+    pub(crate) fn literal(&self, code: i32) -> Literal
+        requires { Names (length self.now.nodes) code }
+        ensures code { result.code ≡ code }
+        ensures netlist { IsNetlist self.now.nodes }
     {
         let _nodes = &self.nodes;
-        -literal
+        Literal::new(code)
     }
 
-    // The literal without its complement.
-    pub(crate) fn uncomplemented(&self, literal: i32) -> i32
-        requires { Names (length self.now.nodes) literal }
-        ensures { result ≡ pos (unsigned_abs literal) }
+    fn next_literal(&self) -> Literal
+        ensures { result.code ≡ pos (suc (length self.now.nodes)) }
     {
-        let _nodes = &self.nodes;
-        literal.abs()
+        Literal::new(self.nodes.len() as i32 + 1)
     }
 
     // The gate where it is there, or else the next node.
-    pub(crate) fn share(&mut self, node: Node) -> Result<i32, GateFault>
+    pub(crate) fn share(&mut self, node: Node) -> Result<Literal, GateFault>
         requires gate { IsTrue (is_gate node) }
         requires follows { MayFollow self.old.nodes node }
-        ensures literal { IfOk result (λ literal. literal ≡ (share self.old.nodes node).literal) }
-        ensures nodes { OnOk result (self.new ≡ record self.old { nodes = (share self.old.nodes node).nodes }) }
-        ensures limit { (result ≡ Err GateFault.Limit) ↔ IsBeyond self.old (share self.old.nodes node) }
-        ensures err { OnErr result (self.new ≡ self.old) }
+        ensures { Gives self.old self.new (share self.old.nodes node) result }
     {
         if let Some(literal) = self.find(node) {
             return Ok(literal);
@@ -137,9 +135,9 @@ impl Gates {
     }
 
     // The literal of a gate that is there.
-    fn find(&self, node: Node) -> Option<i32>
+    fn find(&self, node: Node) -> Option<Literal>
         requires { IsTrue (is_gate node) }
-        ensures { result ≡ option_map pos (number_of node self.now.nodes) }
+        ensures { option_map (λ literal. literal.code) result ≡ option_map pos (number_of node self.now.nodes) }
     {
         self.index.get(&node).copied()
     }
@@ -152,16 +150,16 @@ impl Gates {
     }
 
     // Another gate, as the next node.
-    fn add(&mut self, node: Node) -> Result<i32, AllocError>
+    fn add(&mut self, node: Node) -> Result<Literal, AllocError>
         requires gate { IsTrue (is_gate node) }
         requires follows { MayFollow self.old.nodes node }
         requires new { number_of node self.old.nodes ≡ None }
         requires room { gate_count self.old.nodes < self.old.limit }
-        ensures literal { IfOk result (λ literal. literal ≡ (added self.old.nodes node).literal) }
+        ensures literal { IfOk result (λ literal. literal.code ≡ (added self.old.nodes node).literal) }
         ensures nodes { OnOk result (self.new ≡ record self.old { nodes = (added self.old.nodes node).nodes }) }
         ensures err { OnErr result (self.new ≡ self.old) }
     {
-        let literal = self.nodes.len() as i32 + 1;
+        let literal = self.next_literal();
         self.nodes.push(node)?;
         if self.index.insert(node, literal).is_err() {
             self.nodes.pop();
