@@ -1,10 +1,10 @@
 -- Which literal `and`, `xor` and `mux` give over a list of nodes, and which nodes there are then. Constants and complements fold, and a node that is there is used again.
 use Rattle.std.specs.Prelude.{ℕ, ◌+◌, ◌<◌, suc, ℤ, pos, neg_ℤ, unsigned_abs, nat_le, Bool, ◌||◌, if◌then◌else◌, Option, None, Some, List, [], ◌∷◌, ◌++◌, length}
-use Rattle.std.specs.Bool.{xor}
 use Rattle.std.specs.Int.{is_negative}
 use Rattle.std.specs.Ordering.{int_eq}
 use Rattle.pv_gate.specs.declared.netlist.Node.{Node}
 use Rattle.pv_gate.specs.declared.netlist.Node.TheVariants.{True, Input, And, Xor, Mux}
+use Rattle.pv_gate.specs.Value.{exclusive_or}
 use Rattle.pv_gate.specs.Netlist.{Netlist}
 use Rattle.pv_gate.specs.Node.{is_same, gate_count, input_count, true_literal, false_literal}
 
@@ -55,7 +55,7 @@ lower a b = if nat_le (unsigned_abs a) (unsigned_abs b) then a else b
 abbrev pub higher : ℤ → ℤ → ℤ
 higher a b = if nat_le (unsigned_abs a) (unsigned_abs b) then b else a
 
-unfoldable pub input_gate : List Node → Made
+abbrev pub input_gate : List Node → Made
 input_gate nodes = added nodes (Input (input_count nodes))
 
 unfoldable pub and_gate : List Node → ℤ → ℤ → Made
@@ -69,9 +69,9 @@ unfoldable pub or_gate : List Node → ℤ → ℤ → Made
 or_gate nodes a b = complemented (and_gate nodes (neg_ℤ a) (neg_ℤ b))
 
 -- an Xor node has no complemented operand: the result is complemented once for each
-unfoldable pub xor_node : List Node → ℤ → ℤ → Made
-xor_node nodes a b =
-    complemented_if (xor (is_negative a) (is_negative b)) (share nodes (Xor (lower (pos (unsigned_abs a)) (pos (unsigned_abs b))) (higher (pos (unsigned_abs a)) (pos (unsigned_abs b)))))
+unfoldable pub xor_made : List Node → ℤ → ℤ → Made
+xor_made nodes a b =
+    complemented_if (exclusive_or (is_negative a) (is_negative b)) (share nodes (Xor (lower (pos (unsigned_abs a)) (pos (unsigned_abs b))) (higher (pos (unsigned_abs a)) (pos (unsigned_abs b)))))
 
 unfoldable pub xor_gate : List Node → ℤ → ℤ → Made
 xor_gate nodes a b =
@@ -81,11 +81,11 @@ xor_gate nodes a b =
     else if int_eq b true_literal then present nodes (neg_ℤ a)
     else if int_eq a b then present nodes false_literal
     else if int_eq a (neg_ℤ b) then present nodes true_literal
-    else xor_node nodes a b
+    else xor_made nodes a b
 
 -- a Mux node's first choice is no complement: else both are complemented, and the result
-unfoldable pub mux_node : List Node → ℤ → ℤ → ℤ → Made
-mux_node nodes s a b =
+unfoldable pub mux_made : List Node → ℤ → ℤ → ℤ → Made
+mux_made nodes s a b =
     if is_negative a then complemented (share nodes (Mux s (neg_ℤ a) (neg_ℤ b)))
     else share nodes (Mux s a b)
 
@@ -97,7 +97,7 @@ choice_gate nodes s a b =
     else if int_eq b true_literal then or_gate nodes (neg_ℤ s) a
     else if int_eq b false_literal then and_gate nodes s a
     else if int_eq b (neg_ℤ a) then complemented (xor_gate nodes s a)
-    else mux_node nodes s a b
+    else mux_made nodes s a b
 
 -- a where s, else b
 unfoldable pub mux_gate : List Node → ℤ → ℤ → ℤ → Made

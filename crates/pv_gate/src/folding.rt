@@ -1,20 +1,27 @@
 //! Which literal an operation gives, and which node it makes for it.
 
-ghost use Rattle.std.specs.Prelude.{length};
+ghost use Rattle.std.specs.Prelude.{◌≡◌, ◌≤◌, neg_ℤ, length, MatchResult, IsOkAnd};
 
 use crate::fault::GateFault;
-use crate::literal::Literal;
-use crate::netlist::Node;
+use crate::literal::{Literal, and_node, mux_node, xor_node};
 use crate::sharing::Gates;
 
+// The literal's complement, where there is one.
+fn complemented(made: Result<Literal, GateFault>) -> Result<Literal, GateFault>
+    ensures { MatchResult made (λ literal. IsOkAnd result (λ other. other.code ≡ neg_ℤ literal.code)) (λ fault. result ≡ Err fault) }
+{
+    made.map(|literal| literal.complement())
+}
+
 impl Gates {
-    ghost use Rattle.pv_gate.specs.Node.{Names};
-    ghost use Rattle.pv_gate.specs.Build.{and_gate, or_gate, xor_gate, xor_node, choice_gate, mux_gate, mux_node};
+    ghost use Rattle.pv_gate.specs.Node.{Names, gate_count};
+    ghost use Rattle.pv_gate.specs.Build.{and_gate, or_gate, xor_gate, xor_made, choice_gate, mux_gate, mux_made};
     ghost use Rattle.pv_gate.specs.Given.{Gives};
 
     pub(crate) fn and_gate(&mut self, a: Literal, b: Literal) -> Result<Literal, GateFault>
         requires first { Names (length self.old.nodes) a.code }
         requires second { Names (length self.old.nodes) b.code }
+        requires within { gate_count self.old.nodes ≤ self.old.limit }
         ensures { Gives self.old self.new (and_gate self.old.nodes a.code b.code) result }
     {
         if a == Literal::FALSE || b == Literal::FALSE || a == b.complement() {
@@ -26,22 +33,22 @@ impl Gates {
         if b == Literal::TRUE || a == b {
             return Ok(a);
         }
-        let (first, second) = a.in_order(b);
-        self.share(Node::And(first.code(), second.code()))
+        self.share(and_node(a, b))
     }
 
     fn or_gate(&mut self, a: Literal, b: Literal) -> Result<Literal, GateFault>
         requires first { Names (length self.old.nodes) a.code }
         requires second { Names (length self.old.nodes) b.code }
+        requires within { gate_count self.old.nodes ≤ self.old.limit }
         ensures { Gives self.old self.new (or_gate self.old.nodes a.code b.code) result }
     {
-        let neither = self.and_gate(a.complement(), b.complement())?;
-        Ok(neither.complement())
+        complemented(self.and_gate(a.complement(), b.complement()))
     }
 
     pub(crate) fn xor_gate(&mut self, a: Literal, b: Literal) -> Result<Literal, GateFault>
         requires first { Names (length self.old.nodes) a.code }
         requires second { Names (length self.old.nodes) b.code }
+        requires within { gate_count self.old.nodes ≤ self.old.limit }
         ensures { Gives self.old self.new (xor_gate self.old.nodes a.code b.code) result }
     {
         if a == Literal::FALSE {
@@ -62,21 +69,21 @@ impl Gates {
         if a == b.complement() {
             return Ok(Literal::TRUE);
         }
-        self.xor_node(a, b)
+        self.xor_made(a, b)
     }
 
     // An Xor node has no complemented operand: the result is complemented once for each.
-    fn xor_node(&mut self, a: Literal, b: Literal) -> Result<Literal, GateFault>
+    fn xor_made(&mut self, a: Literal, b: Literal) -> Result<Literal, GateFault>
         requires first { Names (length self.old.nodes) a.code }
         requires second { Names (length self.old.nodes) b.code }
-        ensures { Gives self.old self.new (xor_node self.old.nodes a.code b.code) result }
+        requires within { gate_count self.old.nodes ≤ self.old.limit }
+        ensures { Gives self.old self.new (xor_made self.old.nodes a.code b.code) result }
     {
-        let (first, second) = a.node().in_order(b.node());
-        let literal = self.share(Node::Xor(first.code(), second.code()))?;
+        let made = self.share(xor_node(a.node(), b.node()));
         if a.is_complement() != b.is_complement() {
-            return Ok(literal.complement());
+            return complemented(made);
         }
-        Ok(literal)
+        made
     }
 
     fn choice_gate(
@@ -88,6 +95,7 @@ impl Gates {
         requires selector { Names (length self.old.nodes) s.code }
         requires first { Names (length self.old.nodes) a.code }
         requires second { Names (length self.old.nodes) b.code }
+        requires within { gate_count self.old.nodes ≤ self.old.limit }
         ensures { Gives self.old self.new (choice_gate self.old.nodes s.code a.code b.code) result }
     {
         if a == Literal::TRUE {
@@ -103,25 +111,23 @@ impl Gates {
             return self.and_gate(s, a);
         }
         if b == a.complement() {
-            let differ = self.xor_gate(s, a)?;
-            return Ok(differ.complement());
+            return complemented(self.xor_gate(s, a));
         }
-        self.mux_node(s, a, b)
+        self.mux_made(s, a, b)
     }
 
     // A Mux node's first choice is no complement: else both are complemented, and the result.
-    fn mux_node(&mut self, s: Literal, a: Literal, b: Literal) -> Result<Literal, GateFault>
+    fn mux_made(&mut self, s: Literal, a: Literal, b: Literal) -> Result<Literal, GateFault>
         requires selector { Names (length self.old.nodes) s.code }
         requires first { Names (length self.old.nodes) a.code }
         requires second { Names (length self.old.nodes) b.code }
-        ensures { Gives self.old self.new (mux_node self.old.nodes s.code a.code b.code) result }
+        requires within { gate_count self.old.nodes ≤ self.old.limit }
+        ensures { Gives self.old self.new (mux_made self.old.nodes s.code a.code b.code) result }
     {
         if a.is_complement() {
-            let (not_a, not_b) = (a.complement(), b.complement());
-            let other = self.share(Node::Mux(s.code(), not_a.code(), not_b.code()))?;
-            return Ok(other.complement());
+            return complemented(self.share(mux_node(s, a.complement(), b.complement())));
         }
-        self.share(Node::Mux(s.code(), a.code(), b.code()))
+        self.share(mux_node(s, a, b))
     }
 
     pub(crate) fn mux_gate(
@@ -133,6 +139,7 @@ impl Gates {
         requires selector { Names (length self.old.nodes) s.code }
         requires first { Names (length self.old.nodes) a.code }
         requires second { Names (length self.old.nodes) b.code }
+        requires within { gate_count self.old.nodes ≤ self.old.limit }
         ensures { Gives self.old self.new (mux_gate self.old.nodes s.code a.code b.code) result }
     {
         if s == Literal::TRUE {

@@ -4,7 +4,7 @@ ghost use Rattle.std.specs.Prelude.{◌≡◌, ◌<◌, ◌^◌, pos, neg_ℤ, u
 ghost use Rattle.std.specs.Int.{is_negative};
 ghost use Rattle.pv_gate.specs.Build.{lower, higher};
 
-use crate::netlist::{FALSE, TRUE};
+use crate::netlist::{FALSE, Node, TRUE};
 
 /// A literal's number, which has a complement: node n is n, and its complement -n.
 #[derive(Clone, Copy, PartialEq, Eq)]
@@ -62,4 +62,27 @@ impl Literal {
             (other, self)
         }
     }
+}
+
+/// The And node of two literals.
+pub(crate) fn and_node(a: Literal, b: Literal) -> Node
+    ensures { result ≡ Node.And (lower a.code b.code) (higher a.code b.code) }
+{
+    let (first, second) = a.in_order(b);
+    Node::And(first.code, second.code)
+}
+
+/// The Xor node of two literals.
+pub(crate) fn xor_node(a: Literal, b: Literal) -> Node
+    ensures { result ≡ Node.Xor (lower a.code b.code) (higher a.code b.code) }
+{
+    let (first, second) = a.in_order(b);
+    Node::Xor(first.code, second.code)
+}
+
+/// The Mux node of three literals.
+pub(crate) fn mux_node(s: Literal, a: Literal, b: Literal) -> Node
+    ensures { result ≡ Node.Mux s.code a.code b.code }
+{
+    Node::Mux(s.code, a.code, b.code)
 }

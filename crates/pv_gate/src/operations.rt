@@ -1,8 +1,7 @@
 //! The operations on literals: which value each has.
 
 ghost use Rattle.std.specs.Prelude.{◌≡◌, ℕ, ◌↔◌, ℤ, Bool, ◌&&◌, if◌then◌else◌, length, IfOk, OnOk, OnErr};
-ghost use Rattle.std.specs.Bool.{xor as differ};
-ghost use Rattle.pv_gate.specs.Value.{value_of};
+ghost use Rattle.pv_gate.specs.Value.{value_of, exclusive_or};
 
 use crate::fault::GateFault;
 use crate::sharing::Gates;
@@ -43,7 +42,7 @@ impl Gates {
         ensures err { OnErr result (self.new ≡ self.old) }
 
         // The value, and older literals keep theirs.
-        ensures value { IfOk result (λ literal. (inputs : ℕ → Bool) → value_of inputs self.new.nodes literal ≡ differ (value_of inputs self.old.nodes a) (value_of inputs self.old.nodes b)) }
+        ensures value { IfOk result (λ literal. (inputs : ℕ → Bool) → value_of inputs self.new.nodes literal ≡ exclusive_or (value_of inputs self.old.nodes a) (value_of inputs self.old.nodes b)) }
         ensures names { IfOk result (λ literal. Names (length self.new.nodes) literal) }
         ensures extends { Extends self.old.nodes self.new.nodes }
         ensures older { KeepsValues self.old.nodes self.new.nodes }

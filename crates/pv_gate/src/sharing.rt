@@ -108,6 +108,7 @@ impl Gates {
         requires { Names (length self.now.nodes) code }
         ensures code { result.code ≡ code }
         ensures netlist { IsNetlist self.now.nodes }
+        ensures within { gate_count self.now.nodes ≤ self.now.limit }
     {
         let _nodes = &self.nodes;
         Literal::new(code)
@@ -131,13 +132,14 @@ impl Gates {
         if self.is_full() {
             return Err(GateFault::Limit);
         }
-        self.add(node).map_err(|_| GateFault::NoMemory)
+        self.add(node)
     }
 
     // The literal of a gate that is there.
     fn find(&self, node: Node) -> Option<Literal>
         requires { IsTrue (is_gate node) }
-        ensures { option_map (λ literal. literal.code) result ≡ option_map pos (number_of node self.now.nodes) }
+        ensures found { option_map (λ literal. literal.code) result ≡ option_map pos (number_of node self.now.nodes) }
+        ensures within { gate_count self.now.nodes ≤ self.now.limit }
     {
         self.index.get(&node).copied()
     }
@@ -150,20 +152,22 @@ impl Gates {
     }
 
     // Another gate, as the next node.
-    fn add(&mut self, node: Node) -> Result<Literal, AllocError>
+    fn add(&mut self, node: Node) -> Result<Literal, GateFault>
         requires gate { IsTrue (is_gate node) }
         requires follows { MayFollow self.old.nodes node }
         requires new { number_of node self.old.nodes ≡ None }
         requires room { gate_count self.old.nodes < self.old.limit }
         ensures literal { IfOk result (λ literal. literal.code ≡ (added self.old.nodes node).literal) }
         ensures nodes { OnOk result (self.new ≡ record self.old { nodes = (added self.old.nodes node).nodes }) }
-        ensures err { OnErr result (self.new ≡ self.old) }
+        ensures err { OnErr result ((result ≡ Err GateFault.NoMemory) × (self.new ≡ self.old)) }
     {
         let literal = self.next_literal();
-        self.nodes.push(node)?;
+        if self.nodes.push(node).is_err() {
+            return Err(GateFault::NoMemory);
+        }
         if self.index.insert(node, literal).is_err() {
             self.nodes.pop();
-            return Err(AllocError);
+            return Err(GateFault::NoMemory);
         }
         self.gates += 1;
         Ok(literal)
