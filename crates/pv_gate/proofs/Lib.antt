@@ -2,3 +2,6 @@ pub mod Nodes
 pub mod Lists
 pub mod Values
 pub mod Given
+pub mod Kept
+pub mod Order
+pub mod Building

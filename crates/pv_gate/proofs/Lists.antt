@@ -4,6 +4,7 @@ use Rattle.std.specs.List.{slice_get}
 use Rattle.std.specs.Option.{option_map, option_or}
 use Rattle.std.proofs.lemmas.Option.{slice_get_within}
 use Rattle.std.proofs.lemmas.List.{take-append-le, take_at}
+use Rattle.std.proofs.lemmas.Bool.{cases_Bool, cond-true, cond-false}
 use Rattle.pv_gate.specs.declared.netlist.Node.{Node}
 use Rattle.pv_gate.specs.declared.netlist.Node.TheVariants.{True, Input, And, Xor, Mux}
 use Rattle.pv_gate.specs.Node.{is_same, Names, is_gate, gate_count, input_count}
@@ -34,12 +35,27 @@ IsNetlist-push nodes node h next = record {
     ]
 }
 
+push_step : (b : Bool) (n : ℕ) (r s t : Option ℕ) → r ≡ option_or s t → cond b (Some n) r ≡ option_or (cond b (Some n) s) t
+push_step true n r s t h = refl
+push_step false n r s t h = h
+
 -- where a node stands once there is one more
 pub number_from-push : (n : ℕ) (q : Node) (xs : List Node) (x : Node) → number_from n q (xs ++ x ∷ []) ≡ option_or (number_from n q xs) (cond (is_same x q) (Some (n + length xs)) None)
 number_from-push n q [] x = rw add-zero
-number_from-push n q (y ∷ ys) x = ?
+number_from-push n q (y ∷ ys) x =
+    let e : suc n + length ys ≡ n + suc (length ys) = omega arith in
+    push_step (is_same y q) n _ _ _
+    (number_from-push (suc n) q ys x ∙ ap (λ m. option_or (number_from (suc n) q ys) (cond (is_same x q) (Some m) None)) e)
 
 -- a node that is found stands at the number that is answered
 pub number_from-found : (n : ℕ) (q : Node) (xs : List Node) (m : ℕ) → number_from n q xs ≡ Some m → (k : ℕ) × (m ≡ n + k) × (slice_get xs k ≡ Some q)
 number_from-found n q [] m h = cc
-number_from-found n q (y ∷ ys) m h = ?
+number_from-found n q (y ∷ ys) m h =
+    elim (cases_Bool (is_same y q)) [
+      inl e ↦ let s : Some n ≡ Some m = sym (cond-true _ _ _ e) ∙ h in
+              let t : n ≡ m = cc in
+              (0, omega arith, ap Some (is_same-true y q e))
+    | inr e ↦ let p = number_from-found (suc n) q ys m (sym (cond-false _ _ _ e) ∙ h) in
+              let f : m ≡ suc n + p.0 = p.1 in
+              (suc p.0, omega arith, p.2)
+    ]

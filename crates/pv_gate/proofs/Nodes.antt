@@ -1,11 +1,11 @@
 -- Nodes that the index tells apart are different nodes.
-use Rattle.std.proofs.Common.{◌≡◌, ℕ, ℤ, Bool, true, false, ◌&&◌, refl, sym, ◌∙◌, ap, subst, cond, eqb, arith, ltb, unsigned_abs}
+use Rattle.std.proofs.Common.{◌≡◌, ◌<◌, ℕ, ℤ, Bool, true, false, ◌&&◌, refl, sym, ◌∙◌, ap, subst, cond, eqb, arith, ltb, unsigned_abs}
 use Rattle.std.specs.declared.cmp.Ordering.{Ordering}
 use Rattle.std.specs.declared.cmp.Ordering.TheVariants.{Less, Equal, Greater}
 use Rattle.std.specs.Ordering.{int_eq, nat_cmp, is_eq, ordering_then}
 use Rattle.std.specs.Cmp.{signed_Decides}
-use Rattle.std.proofs.lemmas.Bool.{eqb-true, eq-eqb, and_parts, and_from}
-use Rattle.std.proofs.lemmas.Cmp.{nat_cmp_total, eq_by_cmp_equiv}
+use Rattle.std.proofs.lemmas.Bool.{eqb-true, eq-eqb, ne_eqb, and_parts}
+use Rattle.std.proofs.lemmas.Cmp.{by_ranked, ranked}
 use Rattle.pv_gate.specs.declared.netlist.Node.{Node}
 use Rattle.pv_gate.specs.declared.netlist.Node.TheVariants.{True, Input, And, Xor, Mux}
 use Rattle.pv_gate.specs.Node.{is_same}
@@ -17,7 +17,11 @@ is_eq-ordering_then Equal b = refl
 is_eq-ordering_then Greater b = refl
 
 is_eq-nat_cmp : (m n : ℕ) → is_eq (nat_cmp m n) ≡ eqb m n
-is_eq-nat_cmp m n = ?
+is_eq-nat_cmp m n =
+    by_ranked (m < n) (m ≡ n) (n < m) (nat_cmp m n) (ranked m n _ refl)
+    (λ e h. ap is_eq e ∙ sym (ne_eqb m n (λ x. omega arith)))
+    (λ e h. ap is_eq e ∙ sym (eq-eqb m n h))
+    (λ e h. ap is_eq e ∙ sym (ne_eqb m n (λ x. omega arith)))
 
 -- the index's order ties just the nodes that are the same
 pub is_eq-node_cmp : (x y : Node) → is_eq (node_cmp x y) ≡ is_same x y
