@@ -1,10 +1,12 @@
 -- What is made has the value that is meant, and older literals keep theirs.
-use Rattle.std.proofs.Common.{◌≡◌, ℕ, ◌+◌, ◌<◌, ◌≤◌, ℤ, pos, negsuc, suc, zero, Bool, true, false, not, ◌&&◌, ◌||◌, List, [], ◌∷◌, ◌++◌, length, get_or, refl, sym, ◌∙◌, ap, subst, cond, arith, Some, None, Option, inl, inr, length-append, append-nil, unsigned_abs, neg_ℤ, int_eq}
+use Rattle.std.proofs.Common.{◌≡◌, ℕ, ◌+◌, ◌<◌, ◌≤◌, ℤ, pos, negsuc, suc, zero, Bool, true, false, not, ◌&&◌, ◌||◌, List, [], ◌∷◌, ◌++◌, length, get_or, refl, sym, ◌∙◌, ap, subst, cond, arith, Some, None, Option, inl, inr, length-append, append-nil, unsigned_abs, neg_ℤ, int_eq, Ok}
+use Rattle.pv_gate.specs.declared.literal.Literal.{Literal}
+use Rattle.pv_gate.specs.Given.{Gives}
 use Rattle.std.specs.Bool.{nat_le}
 use Rattle.std.specs.Int.{is_negative}
 use Rattle.std.specs.Cmp.{signed_Decides}
 use Rattle.std.specs.List.{slice_get}
-use Rattle.std.proofs.lemmas.Bool.{cond_both, or_cases}
+use Rattle.std.proofs.lemmas.Bool.{cond_both, le-ltb}
 use Rattle.std.proofs.lemmas.List.{length_push}
 use Rattle.std.proofs.lemmas.Option.{slice_get_within}
 use Rattle.pv_gate.specs.declared.netlist.Node.{Node}
@@ -53,12 +55,16 @@ literal_value-neg vs n (negsuc k) h = sym (not-not (get_or vs k false))
 
 literal_value-abs : (vs : List Bool) (l : ℤ) → literal_value vs (pos (unsigned_abs l)) ≡ exclusive_or (is_negative l) (literal_value vs l)
 literal_value-abs vs (pos zero) = refl
-literal_value-abs vs (pos (suc k)) = refl
+literal_value-abs vs (pos (suc k)) = ap (λ b. exclusive_or b (get_or vs k false)) (sym (le-ltb (suc k) 0 (omega arith)))
 literal_value-abs vs (negsuc k) = sym (not-not (get_or vs k false))
 
 pub value_of-neg : (inputs : ℕ → Bool) (nodes : List Node) (n : ℕ) (l : ℤ) → Names n l → value_of inputs nodes (neg_ℤ l) ≡ not (value_of inputs nodes l)
 unfolding value_of
 value_of-neg inputs nodes n l h = literal_value-neg (node_values inputs nodes) n l h
+
+pub value_of-abs : (inputs : ℕ → Bool) (nodes : List Node) (l : ℤ) → value_of inputs nodes (pos (unsigned_abs l)) ≡ exclusive_or (is_negative l) (value_of inputs nodes l)
+unfolding value_of
+value_of-abs inputs nodes l = literal_value-abs (node_values inputs nodes) l
 
 pub value_of-true : (inputs : ℕ → Bool) (nodes : List Node) → IsNetlist nodes → value_of inputs nodes true_literal ≡ true
 unfolding value_of
@@ -68,7 +74,7 @@ pub value_of-false : (inputs : ℕ → Bool) (nodes : List Node) → IsNetlist n
 unfolding value_of
 value_of-false inputs nodes h = ap not (node_values_at inputs nodes 0 True h h.first)
 
-int_eq-true : (x y : ℤ) → int_eq x y ≡ true → x ≡ y
+pub int_eq-true : (x y : ℤ) → int_eq x y ≡ true → x ≡ y
 int_eq-true x y h = (signed_Decides x y).0 h
 
 -- ---- how one thing that is made is made of another
@@ -118,3 +124,36 @@ builds_shared nodes node None e h next = builds_added nodes node h next
 pub builds_share : (nodes : List Node) (node : Node) → IsNetlist nodes → MayFollow nodes node → Builds nodes (λ inputs. node_value inputs (node_values inputs nodes) node) (share nodes node)
 unfolding share
 builds_share nodes node h next = builds_shared nodes node _ refl h next
+
+-- ---- in the terms of the calls
+
+-- the clauses of a call that made this
+pub record Told (old new : Netlist) (v : (ℕ → Bool) → Bool) (literal : ℤ) : Type 0 where
+  pub value : (inputs : ℕ → Bool) → value_of inputs new.nodes literal ≡ v inputs
+  pub names : Names (length new.nodes) literal
+  pub extends : Extends old.nodes new.nodes
+  pub longer : length old.nodes ≤ length new.nodes
+  pub older : KeepsValues old.nodes new.nodes
+
+pub told : (old new : Netlist) (v : (ℕ → Bool) → Bool) (made : Made) (literal : ℤ) → Builds old.nodes v made → literal ≡ made.literal → new ≡ record old { nodes = made.nodes } → Told old new v literal
+told old new v made literal h e f =
+    subst (λ (n : Netlist). Told old n v literal) (sym f)
+    (subst (λ l. Told old (record old { nodes = made.nodes }) v l) (sym e) (record {
+      value = h.value;
+      names = h.names;
+      extends = h.extends;
+      longer = omega (arith, ap (λ (ns : List Node). length ns) h.extends.is, length-append old.nodes h.extends.added);
+      older = λ inputs l names. ap (λ ns. value_of inputs ns l) h.extends.is ∙ value_of-append inputs old.nodes h.extends.added l names
+    }))
+
+pub told_given : (old new : Netlist) (v : (ℕ → Bool) → Bool) (made other : Made) (l : Literal) (literal : ℤ) → Builds old.nodes v made → made ≡ other → Gives old new other (Ok l) → literal ≡ l.code → Told old new v literal
+told_given old new v made other l literal h e g f =
+    told old new v other literal (subst (λ (m : Made). Builds old.nodes v m) e h) (f ∙ g.literal) g.nodes
+
+-- a new input, in the terms of the code
+pub told_input : (old : Netlist) (nodes new : List Node) (limit inputs : ℕ) → record { nodes = nodes; limit = limit } ≡ old → IsNetlist nodes → new ≡ nodes ++ Input inputs ∷ [] → inputs ≡ input_count nodes → (literal : ℤ) → literal ≡ pos (suc (length old.nodes)) → Told old (record { nodes = new; limit = limit }) (λ values. values (input_count old.nodes)) literal
+told_input old nodes new limit inputs e h f g literal =
+    subst (λ (o : Netlist). literal ≡ pos (suc (length o.nodes)) → Told o (record { nodes = new; limit = limit }) (λ values. values (input_count o.nodes)) literal) e
+    (λ l. told (record { nodes = nodes; limit = limit }) (record { nodes = new; limit = limit }) (λ values. values (input_count nodes)) (added nodes (Input (input_count nodes))) literal
+      (builds_added nodes (Input (input_count nodes)) h refl) l
+      (ap (λ (xs : List Node). let n : Netlist = record { nodes = xs; limit = limit } in n) (f ∙ ap (λ n. nodes ++ Input n ∷ []) g)))

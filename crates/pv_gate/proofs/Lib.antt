@@ -5,3 +5,4 @@ pub mod Given
 pub mod Kept
 pub mod Order
 pub mod Building
+pub mod OperationValues

@@ -10,6 +10,8 @@ mod literal;
 mod netlist;
 mod operations;
 mod sharing;
+#[cfg(test)]
+mod tests;
 
 pub use fault::GateFault;
 pub use netlist::{FALSE, MOST, Node, TRUE};

@@ -1,6 +1,6 @@
 //! The operations on literals: which value each has.
 
-ghost use Rattle.std.specs.Prelude.{◌≡◌, ℕ, ◌↔◌, ℤ, Bool, ◌&&◌, if◌then◌else◌, length, IfOk, OnOk, OnErr};
+ghost use Rattle.std.specs.Prelude.{◌≡◌, ℕ, ◌≤◌, ◌↔◌, ℤ, Bool, ◌&&◌, if◌then◌else◌, length, IfOk, OnOk, OnErr};
 ghost use Rattle.pv_gate.specs.Value.{value_of, exclusive_or};
 
 use crate::fault::GateFault;
@@ -25,6 +25,7 @@ impl Gates {
         ensures value { IfOk result (λ literal. (inputs : ℕ → Bool) → value_of inputs self.new.nodes literal ≡ (value_of inputs self.old.nodes a && value_of inputs self.old.nodes b)) }
         ensures names { IfOk result (λ literal. Names (length self.new.nodes) literal) }
         ensures extends { Extends self.old.nodes self.new.nodes }
+        ensures longer { length self.old.nodes ≤ length self.new.nodes }
         ensures older { KeepsValues self.old.nodes self.new.nodes }
     {
         let (a, b) = (self.literal(a), self.literal(b));
@@ -45,6 +46,7 @@ impl Gates {
         ensures value { IfOk result (λ literal. (inputs : ℕ → Bool) → value_of inputs self.new.nodes literal ≡ exclusive_or (value_of inputs self.old.nodes a) (value_of inputs self.old.nodes b)) }
         ensures names { IfOk result (λ literal. Names (length self.new.nodes) literal) }
         ensures extends { Extends self.old.nodes self.new.nodes }
+        ensures longer { length self.old.nodes ≤ length self.new.nodes }
         ensures older { KeepsValues self.old.nodes self.new.nodes }
     {
         let (a, b) = (self.literal(a), self.literal(b));
@@ -66,6 +68,7 @@ impl Gates {
         ensures value { IfOk result (λ literal. (inputs : ℕ → Bool) → value_of inputs self.new.nodes literal ≡ (if value_of inputs self.old.nodes s then value_of inputs self.old.nodes a else value_of inputs self.old.nodes b)) }
         ensures names { IfOk result (λ literal. Names (length self.new.nodes) literal) }
         ensures extends { Extends self.old.nodes self.new.nodes }
+        ensures longer { length self.old.nodes ≤ length self.new.nodes }
         ensures older { KeepsValues self.old.nodes self.new.nodes }
     {
         let (s, a, b) = (self.literal(s), self.literal(a), self.literal(b));

@@ -93,6 +93,7 @@ impl Gates {
         ensures value { IfOk result (λ literal. (inputs : ℕ → Bool) → value_of inputs self.new.nodes literal ≡ inputs (input_count self.old.nodes)) }
         ensures names { IfOk result (λ literal. Names (length self.new.nodes) literal) }
         ensures extends { Extends self.old.nodes self.new.nodes }
+        ensures longer { length self.old.nodes ≤ length self.new.nodes }
         ensures older { KeepsValues self.old.nodes self.new.nodes }
     {
         let literal = self.next_literal();

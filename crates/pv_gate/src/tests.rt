@@ -1,0 +1,25 @@
+//! Small circuits, built by the public calls.
+
+use super::{GateFault, Node, make};
+use std::test::Fail;
+
+// `run := (start OR run) AND NOT stop` with the invariant `NOT (run AND stop)`: start is node 2, stop
+// node 3 and run node 4.
+#[test]
+fn step_of_a_latch(rt: HostRuntime) -> Result<(), Fail> {
+    let mut gates = make(rt.alloc(), 3)?;
+    let start = gates.input()?;
+    let stop = gates.input()?;
+    let run = gates.input()?;
+    let either = -gates.and(-start, -run)?;
+    let next = gates.and(either, -stop)?;
+    let bad = gates.and(next, stop)?;
+    assert_eq!(rt; (either, next, bad), (-5, 6, 7));
+    assert_eq!(rt; gates.nodes(), 7);
+    assert_eq!(rt; gates.node(1), Node::True);
+    assert_eq!(rt; gates.node(4), Node::Input(2));
+    assert_eq!(rt; gates.node(5), Node::And(-2, -4));
+    assert_eq!(rt; gates.node(6), Node::And(-3, -5));
+    assert_eq!(rt; gates.node(7), Node::And(3, 6));
+    Ok(())
+}
