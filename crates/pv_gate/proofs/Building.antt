@@ -83,7 +83,7 @@ pub builds_present : (nodes : List Node) (v : (ℕ → Bool) → Bool) (l : ℤ)
 builds_present nodes v l names value = record {
   extends = record { added = []; is = sym (append-nil nodes) };
   names = names;
-  value = value
+  value = value;
 }
 
 pub builds_same : (nodes : List Node) (v w : (ℕ → Bool) → Bool) (made : Made) → ((inputs : ℕ → Bool) → v inputs ≡ w inputs) → Builds nodes v made → Builds nodes w made
@@ -93,7 +93,7 @@ pub builds_complemented : (nodes : List Node) (v : (ℕ → Bool) → Bool) (mad
 builds_complemented nodes v made h = record {
   extends = h.extends;
   names = Names-neg (length made.nodes) made.literal h.names;
-  value = λ inputs. value_of-neg inputs made.nodes (length made.nodes) made.literal h.names ∙ ap not (h.value inputs)
+  value = λ inputs. value_of-neg inputs made.nodes (length made.nodes) made.literal h.names ∙ ap not (h.value inputs);
 }
 
 pub builds_complemented_if : (nodes : List Node) (v : (ℕ → Bool) → Bool) (flip : Bool) (made : Made) → Builds nodes v made → Builds nodes (λ inputs. exclusive_or flip (v inputs)) (complemented_if flip made)
@@ -104,7 +104,7 @@ pub builds_added : (nodes : List Node) (node : Node) → IsNetlist nodes → May
 builds_added nodes node h next = record {
   extends = record { added = node ∷ []; is = refl };
   names = record { from_one = omega arith; to_last = omega (arith, length_push nodes node) };
-  value = λ inputs. value_of_next inputs nodes node
+  value = λ inputs. value_of_next inputs nodes node;
 }
 
 builds_found : (nodes : List Node) (node : Node) (k : ℕ) → IsNetlist nodes → slice_get nodes k ≡ Some node → Builds nodes (λ inputs. node_value inputs (node_values inputs nodes) node) (present nodes (pos (suc k)))
@@ -143,7 +143,7 @@ told old new v made literal h e f =
       names = h.names;
       extends = h.extends;
       longer = omega (arith, ap (λ (ns : List Node). length ns) h.extends.is, length-append old.nodes h.extends.added);
-      older = λ inputs l names. ap (λ ns. value_of inputs ns l) h.extends.is ∙ value_of-append inputs old.nodes h.extends.added l names
+      older = λ inputs l names. ap (λ ns. value_of inputs ns l) h.extends.is ∙ value_of-append inputs old.nodes h.extends.added l names;
     }))
 
 pub told_given : (old new : Netlist) (v : (ℕ → Bool) → Bool) (made other : Made) (l : Literal) (literal : ℤ) → Builds old.nodes v made → made ≡ other → Gives old new other (Ok l) → literal ≡ l.code → Told old new v literal
@@ -155,5 +155,5 @@ pub told_input : (old : Netlist) (nodes new : List Node) (limit inputs : ℕ) �
 told_input old nodes new limit inputs e h f g literal =
     subst (λ (o : Netlist). literal ≡ pos (suc (length o.nodes)) → Told o (record { nodes = new; limit = limit }) (λ values. values (input_count o.nodes)) literal) e
     (λ l. told (record { nodes = nodes; limit = limit }) (record { nodes = new; limit = limit }) (λ values. values (input_count nodes)) (added nodes (Input (input_count nodes))) literal
-      (builds_added nodes (Input (input_count nodes)) h refl) l
-      (ap (λ (xs : List Node). let n : Netlist = record { nodes = xs; limit = limit } in n) (f ∙ ap (λ n. nodes ++ Input n ∷ []) g)))
+    (builds_added nodes (Input (input_count nodes)) h refl) l
+    (ap (λ (xs : List Node). let n : Netlist = record { nodes = xs; limit = limit } in n) (f ∙ ap (λ n. nodes ++ Input n ∷ []) g)))

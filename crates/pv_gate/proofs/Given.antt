@@ -20,7 +20,7 @@ gives_present old made literal within e =
       literal = refl;
       nodes = refl;
       limit = (λ h. cc, λ h. absurd (omega arith));
-      err = tt
+      err = tt;
     })
 
 pub gives_same : (old new : Netlist) (made other : Made) (result : Result Literal GateFault) → made ≡ other → Gives old new other result → Gives old new made result
@@ -32,7 +32,7 @@ gives_complemented old new made (Ok literal) (Ok l) e h = record {
   literal = e ∙ ap neg_ℤ h.literal;
   nodes = h.nodes;
   limit = (λ x. cc, λ x. cc (h.limit.1 x));
-  err = tt
+  err = tt;
 }
 gives_complemented old new made (Ok literal) (Err fault) e h = absurd e
 gives_complemented old new made (Err fault) other e h =
@@ -40,7 +40,7 @@ gives_complemented old new made (Err fault) other e h =
       literal = tt;
       nodes = tt;
       limit = h.limit;
-      err = h.err
+      err = h.err;
     })
 
 xor_is : (r s : Bool) → exclusive_or r s ≡ not (beq r s)
@@ -82,7 +82,7 @@ gives_limit old node e gate full = gives_same old old _ _ _ e (record {
   literal = tt;
   nodes = tt;
   limit = (λ h. omega (arith, gate_count-push old.nodes node gate), λ h. refl);
-  err = refl
+  err = refl;
 })
 
 -- another gate, or no memory for one
@@ -91,11 +91,11 @@ gives_added old new node (Ok l) e gate room literal nodes err = gives_same old n
   literal = literal;
   nodes = nodes;
   limit = (λ h. cc, λ h. absurd (omega (arith, gate_count-push old.nodes node gate)));
-  err = tt
+  err = tt;
 })
 gives_added old new node (Err f) e gate room literal nodes err = gives_same old new _ _ _ e (record {
   literal = tt;
   nodes = tt;
   limit = (λ h. cc (h, err.0), λ h. absurd (omega (arith, gate_count-push old.nodes node gate)));
-  err = err.1
+  err = err.1;
 })

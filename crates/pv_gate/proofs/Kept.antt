@@ -55,11 +55,11 @@ kept_gate nodes find found gates inputs limit node h gate follows new room says 
   few_gates = h.few_gates;
   few_inputs = h.few_inputs;
   finds = λ q is.
-    says q
-    ∙ (ap (λ b. cond b (Some (pos (suc (length nodes)))) (find q)) (is_eq-node_cmp node q)
-    ∙ (finds_step (is_same node q) (number_of q nodes) (find q) (suc (length nodes)) (1 + length nodes)
-        (λ e. subst (λ x. number_of x nodes ≡ None) (is_same-true node q e) new) (omega arith) (h.finds q is)
-    ∙ ap (option_map pos) (sym (number_from-push 1 q nodes node))))
+      says q
+      ∙ (ap (λ b. cond b (Some (pos (suc (length nodes)))) (find q)) (is_eq-node_cmp node q)
+      ∙ (finds_step (is_same node q) (number_of q nodes) (find q) (suc (length nodes)) (1 + length nodes)
+      (λ e. subst (λ x. number_of x nodes ≡ None) (is_same-true node q e) new) (omega arith) (h.finds q is)
+      ∙ ap (option_map pos) (sym (number_from-push 1 q nodes node))));
 }
 
 -- an input
@@ -73,8 +73,8 @@ kept_input nodes find gates inputs limit h room = record {
   few_gates = h.few_gates;
   few_inputs = omega arith;
   finds = λ q is.
-    finds_step false (number_of q nodes) (find q) 0 0 (λ e. cc) refl (h.finds q is)
-    ∙ ap (option_map pos) (ap (λ b. option_or (number_of q nodes) (cond b (Some (1 + length nodes)) None)) (sym (input_apart inputs q is)) ∙ sym (number_from-push 1 q nodes (Input inputs)))
+      finds_step false (number_of q nodes) (find q) 0 0 (λ e. cc) refl (h.finds q is)
+      ∙ ap (option_map pos) (ap (λ b. option_or (number_of q nodes) (cond b (Some (1 + length nodes)) None)) (sym (input_apart inputs q is)) ∙ sym (number_from-push 1 q nodes (Input inputs)));
 }
 
 -- ---- the same in the terms of the code

@@ -30,9 +30,9 @@ pub IsNetlist-push : (nodes : List Node) (node : Node) → IsNetlist nodes → M
 IsNetlist-push nodes node h next = record {
   first = slice_get_push_old nodes node 0 True h.first;
   each = λ k x at. elim (slice_get_push nodes node k x at) [
-      inl e ↦ subst (λ before. MayFollow before x) (sym (take-append-le k nodes (node ∷ []) (omega (arith, slice_get_within nodes k x e)))) (h.each k x e)
+    | inl e ↦ subst (λ before. MayFollow before x) (sym (take-append-le k nodes (node ∷ []) (omega (arith, slice_get_within nodes k x e)))) (h.each k x e)
     | inr p ↦ subst (λ before. MayFollow before x) (sym (take_at nodes (node ∷ []) k (sym p.0))) (subst (MayFollow nodes) p.1 next)
-    ]
+  ];
 }
 
 push_step : (b : Bool) (n : ℕ) (r s t : Option ℕ) → r ≡ option_or s t → cond b (Some n) r ≡ option_or (cond b (Some n) s) t
@@ -52,10 +52,14 @@ pub number_from-found : (n : ℕ) (q : Node) (xs : List Node) (m : ℕ) → numb
 number_from-found n q [] m h = cc
 number_from-found n q (y ∷ ys) m h =
     elim (cases_Bool (is_same y q)) [
-      inl e ↦ let s : Some n ≡ Some m = sym (cond-true _ _ _ e) ∙ h in
-              let t : n ≡ m = cc in
-              (0, omega arith, ap Some (is_same-true y q e))
-    | inr e ↦ let p = number_from-found (suc n) q ys m (sym (cond-false _ _ _ e) ∙ h) in
-              let f : m ≡ suc n + p.0 = p.1 in
-              (suc p.0, omega arith, p.2)
+      | inl e ↦ let s : Some n ≡ Some m = sym (cond-true _ _ _ e) ∙ h in
+          let t : n ≡ m = cc in
+          (0, omega arith, ap Some (is_same-true y q e))
+      | inr e ↦ let p = number_from-found (suc n) q ys m (sym (cond-false _ _ _ e) ∙ h) in
+          let f : m ≡ suc n + p.0 = p.1 in
+          (suc p.0, omega arith, p.2)
     ]
+
+-- node 1 is there
+pub one_node : (nodes : List Node) → IsNetlist nodes → 1 ≤ length nodes
+one_node nodes h = omega (arith, slice_get_within nodes 0 True h.first)

@@ -144,18 +144,18 @@ value_at_same inputs nodes k l e = ap (value_of inputs nodes) (int_eq-true k l e
 and_value_false : (inputs : ℕ → Bool) (nodes : List Node) (a b : ℤ) → IsNetlist nodes → Names (length nodes) b → (int_eq a false_literal || (int_eq b false_literal || int_eq a (neg_ℤ b))) ≡ true → (value_of inputs nodes a && value_of inputs nodes b) ≡ false
 and_value_false inputs nodes a b h names e =
     elim (or_cases (int_eq a false_literal) (int_eq b false_literal || int_eq a (neg_ℤ b)) e) [
-      inl p ↦ ap (λ x. x && value_of inputs nodes b) (value_at_false inputs nodes a h p)
-    | inr r ↦ elim (or_cases (int_eq b false_literal) (int_eq a (neg_ℤ b)) r) [
-          inl p ↦ ap (λ y. value_of inputs nodes a && y) (value_at_false inputs nodes b h p) ∙ and-false (value_of inputs nodes a)
+      | inl p ↦ ap (λ x. x && value_of inputs nodes b) (value_at_false inputs nodes a h p)
+      | inr r ↦ elim (or_cases (int_eq b false_literal) (int_eq a (neg_ℤ b)) r) [
+        | inl p ↦ ap (λ y. value_of inputs nodes a && y) (value_at_false inputs nodes b h p) ∙ and-false (value_of inputs nodes a)
         | inr p ↦ ap (λ x. x && value_of inputs nodes b) (value_at_neg inputs nodes a b names p) ∙ and-not (value_of inputs nodes b)
-        ]
+      ]
     ]
 
 and_value_same : (inputs : ℕ → Bool) (nodes : List Node) (a b : ℤ) → IsNetlist nodes → (int_eq b true_literal || int_eq a b) ≡ true → (value_of inputs nodes a && value_of inputs nodes b) ≡ value_of inputs nodes a
 and_value_same inputs nodes a b h e =
     elim (or_cases (int_eq b true_literal) (int_eq a b) e) [
-      inl p ↦ ap (λ y. value_of inputs nodes a && y) (value_at_true inputs nodes b h p) ∙ and-true (value_of inputs nodes a)
-    | inr p ↦ ap (λ y. value_of inputs nodes a && y) (sym (value_at_same inputs nodes a b p)) ∙ and-same (value_of inputs nodes a)
+      | inl p ↦ ap (λ y. value_of inputs nodes a && y) (value_at_true inputs nodes b h p) ∙ and-true (value_of inputs nodes a)
+      | inr p ↦ ap (λ y. value_of inputs nodes a && y) (sym (value_at_same inputs nodes a b p)) ∙ and-same (value_of inputs nodes a)
     ]
 
 pub and_builds : (nodes : List Node) (a b : ℤ) → IsNetlist nodes → Names (length nodes) a → Names (length nodes) b → Builds nodes (λ inputs. value_of inputs nodes a && value_of inputs nodes b) (and_gate nodes a b)
@@ -169,16 +169,16 @@ and_builds nodes a b h p q =
     (λ _. cond_both _ _ _ (Builds nodes V)
     (λ e. builds_present nodes V a p (λ inputs. sym (and_value_same inputs nodes a b h e)))
     (λ _. builds_same nodes _ V _ (λ inputs. and_node_value inputs nodes a b)
-      (builds_share nodes (And (lower a b) (higher a b)) h (Names-lower (length nodes) a b p q, Names-higher (length nodes) a b p q)))))
+    (builds_share nodes (And (lower a b) (higher a b)) h (Names-lower (length nodes) a b p q, Names-higher (length nodes) a b p q)))))
 
 pub or_builds : (nodes : List Node) (a b : ℤ) → IsNetlist nodes → Names (length nodes) a → Names (length nodes) b → Builds nodes (λ inputs. not (not (value_of inputs nodes a) && not (value_of inputs nodes b))) (or_gate nodes a b)
 unfolding or_gate
 or_builds nodes a b h p q =
     builds_complemented nodes (λ inputs. not (value_of inputs nodes a) && not (value_of inputs nodes b)) (and_gate nodes (neg_ℤ a) (neg_ℤ b))
     (builds_same nodes _ _ _
-      (λ inputs. ap (λ x. x && value_of inputs nodes (neg_ℤ b)) (value_of-neg inputs nodes (length nodes) a p)
-        ∙ ap (λ y. not (value_of inputs nodes a) && y) (value_of-neg inputs nodes (length nodes) b q))
-      (and_builds nodes (neg_ℤ a) (neg_ℤ b) h (Names-neg (length nodes) a p) (Names-neg (length nodes) b q)))
+    (λ inputs. ap (λ x. x && value_of inputs nodes (neg_ℤ b)) (value_of-neg inputs nodes (length nodes) a p)
+    ∙ ap (λ y. not (value_of inputs nodes a) && y) (value_of-neg inputs nodes (length nodes) b q))
+    (and_builds nodes (neg_ℤ a) (neg_ℤ b) h (Names-neg (length nodes) a p) (Names-neg (length nodes) b q)))
 
 -- ---- xor
 
@@ -194,8 +194,8 @@ xor_made_value : (inputs : ℕ → Bool) (nodes : List Node) (a b : ℤ) → exc
 xor_made_value inputs nodes a b =
     ap (exclusive_or (exclusive_or (is_negative a) (is_negative b)))
     (xor_node_value inputs nodes (pos (unsigned_abs a)) (pos (unsigned_abs b))
-     ∙ (ap (λ x. exclusive_or x (value_of inputs nodes (pos (unsigned_abs b)))) (value_of-abs inputs nodes a)
-     ∙ ap (exclusive_or (exclusive_or (is_negative a) (value_of inputs nodes a))) (value_of-abs inputs nodes b)))
+    ∙ (ap (λ x. exclusive_or x (value_of inputs nodes (pos (unsigned_abs b)))) (value_of-abs inputs nodes a)
+    ∙ ap (exclusive_or (exclusive_or (is_negative a) (value_of inputs nodes a))) (value_of-abs inputs nodes b)))
     ∙ xor-flips (is_negative a) (is_negative b) (value_of inputs nodes a) (value_of inputs nodes b)
 
 pub xor_made_builds : (nodes : List Node) (a b : ℤ) → IsNetlist nodes → Names (length nodes) a → Names (length nodes) b → Builds nodes (λ inputs. exclusive_or (value_of inputs nodes a) (value_of inputs nodes b)) (xor_made nodes a b)
@@ -205,8 +205,8 @@ xor_made_builds nodes a b h p q =
     let n : Names (length nodes) (pos (unsigned_abs b)) = Names-abs (length nodes) b q in
     builds_same nodes _ _ _ (λ inputs. xor_made_value inputs nodes a b)
     (builds_complemented_if nodes _ (exclusive_or (is_negative a) (is_negative b)) _
-      (builds_share nodes (Xor (lower (pos (unsigned_abs a)) (pos (unsigned_abs b))) (higher (pos (unsigned_abs a)) (pos (unsigned_abs b)))) h
-        (Names-lower (length nodes) (pos (unsigned_abs a)) (pos (unsigned_abs b)) m n, Names-higher (length nodes) (pos (unsigned_abs a)) (pos (unsigned_abs b)) m n)))
+    (builds_share nodes (Xor (lower (pos (unsigned_abs a)) (pos (unsigned_abs b))) (higher (pos (unsigned_abs a)) (pos (unsigned_abs b)))) h
+    (Names-lower (length nodes) (pos (unsigned_abs a)) (pos (unsigned_abs b)) m n, Names-higher (length nodes) (pos (unsigned_abs a)) (pos (unsigned_abs b)) m n)))
 
 pub xor_builds : (nodes : List Node) (a b : ℤ) → IsNetlist nodes → Names (length nodes) a → Names (length nodes) b → Builds nodes (λ inputs. exclusive_or (value_of inputs nodes a) (value_of inputs nodes b)) (xor_gate nodes a b)
 unfolding xor_gate
@@ -235,8 +235,8 @@ mux_node_value inputs nodes s a b = refl
 mux_node_value-neg : (inputs : ℕ → Bool) (nodes : List Node) (s a b : ℤ) → Names (length nodes) a → Names (length nodes) b → not (node_value inputs (node_values inputs nodes) (Mux s (neg_ℤ a) (neg_ℤ b))) ≡ cond (value_of inputs nodes s) (value_of inputs nodes a) (value_of inputs nodes b)
 mux_node_value-neg inputs nodes s a b p q =
     ap not (mux_node_value inputs nodes s (neg_ℤ a) (neg_ℤ b)
-      ∙ (ap (λ x. cond (value_of inputs nodes s) x (value_of inputs nodes (neg_ℤ b))) (value_of-neg inputs nodes (length nodes) a p)
-      ∙ ap (cond (value_of inputs nodes s) (not (value_of inputs nodes a))) (value_of-neg inputs nodes (length nodes) b q)))
+    ∙ (ap (λ x. cond (value_of inputs nodes s) x (value_of inputs nodes (neg_ℤ b))) (value_of-neg inputs nodes (length nodes) a p)
+    ∙ ap (cond (value_of inputs nodes s) (not (value_of inputs nodes a))) (value_of-neg inputs nodes (length nodes) b q)))
     ∙ not_choice (value_of inputs nodes s) (value_of inputs nodes a) (value_of inputs nodes b)
 
 pub mux_made_builds : (nodes : List Node) (s a b : ℤ) → IsNetlist nodes → Names (length nodes) s → Names (length nodes) a → Names (length nodes) b → Builds nodes (λ inputs. cond (value_of inputs nodes s) (value_of inputs nodes a) (value_of inputs nodes b)) (mux_made nodes s a b)
@@ -245,7 +245,7 @@ mux_made_builds nodes s a b h o p q =
     let V : (ℕ → Bool) → Bool = λ inputs. cond (value_of inputs nodes s) (value_of inputs nodes a) (value_of inputs nodes b) in
     cond_both _ _ _ (Builds nodes V)
     (λ _. builds_same nodes _ V _ (λ inputs. mux_node_value-neg inputs nodes s a b p q)
-      (builds_complemented nodes _ _ (builds_share nodes (Mux s (neg_ℤ a) (neg_ℤ b)) h (o, (Names-neg (length nodes) a p, Names-neg (length nodes) b q)))))
+    (builds_complemented nodes _ _ (builds_share nodes (Mux s (neg_ℤ a) (neg_ℤ b)) h (o, (Names-neg (length nodes) a p, Names-neg (length nodes) b q)))))
     (λ _. builds_same nodes _ V _ (λ inputs. mux_node_value inputs nodes s a b) (builds_share nodes (Mux s a b) h (o, (p, q))))
 
 pub choice_builds : (nodes : List Node) (s a b : ℤ) → IsNetlist nodes → Names (length nodes) s → Names (length nodes) a → Names (length nodes) b → Builds nodes (λ inputs. cond (value_of inputs nodes s) (value_of inputs nodes a) (value_of inputs nodes b)) (choice_gate nodes s a b)
@@ -254,26 +254,26 @@ choice_builds nodes s a b h o p q =
     let V : (ℕ → Bool) → Bool = λ inputs. cond (value_of inputs nodes s) (value_of inputs nodes a) (value_of inputs nodes b) in
     cond_both _ _ _ (Builds nodes V)
     (λ e. builds_same nodes _ V _
-      (λ inputs. or_choice (value_of inputs nodes s) (value_of inputs nodes b) ∙ ap (λ x. cond (value_of inputs nodes s) x (value_of inputs nodes b)) (sym (value_at_true inputs nodes a h e)))
-      (or_builds nodes s b h o q))
+    (λ inputs. or_choice (value_of inputs nodes s) (value_of inputs nodes b) ∙ ap (λ x. cond (value_of inputs nodes s) x (value_of inputs nodes b)) (sym (value_at_true inputs nodes a h e)))
+    (or_builds nodes s b h o q))
     (λ _. cond_both _ _ _ (Builds nodes V)
     (λ e. builds_same nodes _ V _
-      (λ inputs. ap (λ x. x && value_of inputs nodes b) (value_of-neg inputs nodes (length nodes) s o)
-        ∙ (and_not_choice (value_of inputs nodes s) (value_of inputs nodes b) ∙ ap (λ x. cond (value_of inputs nodes s) x (value_of inputs nodes b)) (sym (value_at_false inputs nodes a h e))))
-      (and_builds nodes (neg_ℤ s) b h (Names-neg (length nodes) s o) q))
+    (λ inputs. ap (λ x. x && value_of inputs nodes b) (value_of-neg inputs nodes (length nodes) s o)
+    ∙ (and_not_choice (value_of inputs nodes s) (value_of inputs nodes b) ∙ ap (λ x. cond (value_of inputs nodes s) x (value_of inputs nodes b)) (sym (value_at_false inputs nodes a h e))))
+    (and_builds nodes (neg_ℤ s) b h (Names-neg (length nodes) s o) q))
     (λ _. cond_both _ _ _ (Builds nodes V)
     (λ e. builds_same nodes _ V _
-      (λ inputs. ap (λ x. not (not x && not (value_of inputs nodes a))) (value_of-neg inputs nodes (length nodes) s o)
-        ∙ (or_not_choice (value_of inputs nodes s) (value_of inputs nodes a) ∙ ap (cond (value_of inputs nodes s) (value_of inputs nodes a)) (sym (value_at_true inputs nodes b h e))))
-      (or_builds nodes (neg_ℤ s) a h (Names-neg (length nodes) s o) p))
+    (λ inputs. ap (λ x. not (not x && not (value_of inputs nodes a))) (value_of-neg inputs nodes (length nodes) s o)
+    ∙ (or_not_choice (value_of inputs nodes s) (value_of inputs nodes a) ∙ ap (cond (value_of inputs nodes s) (value_of inputs nodes a)) (sym (value_at_true inputs nodes b h e))))
+    (or_builds nodes (neg_ℤ s) a h (Names-neg (length nodes) s o) p))
     (λ _. cond_both _ _ _ (Builds nodes V)
     (λ e. builds_same nodes _ V _
-      (λ inputs. and_choice (value_of inputs nodes s) (value_of inputs nodes a) ∙ ap (cond (value_of inputs nodes s) (value_of inputs nodes a)) (sym (value_at_false inputs nodes b h e)))
-      (and_builds nodes s a h o p))
+    (λ inputs. and_choice (value_of inputs nodes s) (value_of inputs nodes a) ∙ ap (cond (value_of inputs nodes s) (value_of inputs nodes a)) (sym (value_at_false inputs nodes b h e)))
+    (and_builds nodes s a h o p))
     (λ _. cond_both _ _ _ (Builds nodes V)
     (λ e. builds_same nodes _ V _
-      (λ inputs. xor_choice (value_of inputs nodes s) (value_of inputs nodes a) ∙ ap (cond (value_of inputs nodes s) (value_of inputs nodes a)) (sym (value_at_neg inputs nodes b a p e)))
-      (builds_complemented nodes _ _ (xor_builds nodes s a h o p)))
+    (λ inputs. xor_choice (value_of inputs nodes s) (value_of inputs nodes a) ∙ ap (cond (value_of inputs nodes s) (value_of inputs nodes a)) (sym (value_at_neg inputs nodes b a p e)))
+    (builds_complemented nodes _ _ (xor_builds nodes s a h o p)))
     (λ _. mux_made_builds nodes s a b h o p q)))))
 
 pub mux_builds : (nodes : List Node) (s a b : ℤ) → IsNetlist nodes → Names (length nodes) s → Names (length nodes) a → Names (length nodes) b → Builds nodes (λ inputs. cond (value_of inputs nodes s) (value_of inputs nodes a) (value_of inputs nodes b)) (mux_gate nodes s a b)
@@ -288,7 +288,7 @@ mux_builds nodes s a b h o p q =
     (λ e. builds_present nodes V a p (λ inputs. sym (ap (cond (value_of inputs nodes s) (value_of inputs nodes a)) (sym (value_at_same inputs nodes a b e)) ∙ same_choice (value_of inputs nodes s) (value_of inputs nodes a))))
     (λ _. cond_both _ _ _ (Builds nodes V)
     (λ _. builds_same nodes _ V _
-      (λ inputs. ap (λ t. cond t (value_of inputs nodes b) (value_of inputs nodes a)) (value_of-neg inputs nodes (length nodes) s o)
-        ∙ swap_choice (value_of inputs nodes s) (value_of inputs nodes a) (value_of inputs nodes b))
-      (choice_builds nodes (neg_ℤ s) b a h (Names-neg (length nodes) s o) q p))
+    (λ inputs. ap (λ t. cond t (value_of inputs nodes b) (value_of inputs nodes a)) (value_of-neg inputs nodes (length nodes) s o)
+    ∙ swap_choice (value_of inputs nodes s) (value_of inputs nodes a) (value_of inputs nodes b))
+    (choice_builds nodes (neg_ℤ s) b a h (Names-neg (length nodes) s o) q p))
     (λ _. choice_builds nodes s a b h o p q))))

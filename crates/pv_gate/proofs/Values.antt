@@ -66,14 +66,14 @@ values_after_at inputs before values (x ∷ xs) same zero node at h =
     let t : take (length before + 0) (before ++ x ∷ xs) ≡ before = take_at before (x ∷ xs) (length before + 0) (omega arith) in
     subst (λ y. get_or (values_after inputs values (x ∷ xs)) (length before + 0) false ≡ node_value inputs (values_after inputs values (x ∷ xs)) y) e
     (value_at_seam inputs values x xs (length before + 0) n
-     ∙ sym (node_value_agrees inputs before values (values_after inputs values (x ∷ xs))
-         (λ k below. get_or-values_after inputs values (x ∷ xs) k (omega arith))
-         x (subst (λ y. MayFollow before y) (sym e) (subst (λ ns. MayFollow ns node) t h))))
+    ∙ sym (node_value_agrees inputs before values (values_after inputs values (x ∷ xs))
+    (λ k below. get_or-values_after inputs values (x ∷ xs) k (omega arith))
+    x (subst (λ y. MayFollow before y) (sym e) (subst (λ ns. MayFollow ns node) t h))))
 values_after_at inputs before values (x ∷ xs) same (suc k) node at h =
     let n : length (before ++ x ∷ []) + k ≡ length before + suc k = omega (arith, length-append before (x ∷ [])) in
     let s : length (values ++ node_value inputs values x ∷ []) ≡ length (before ++ x ∷ []) = omega (arith, length-append before (x ∷ []), length-append values (node_value inputs values x ∷ [])) in
     let m : take (length (before ++ x ∷ []) + k) ((before ++ x ∷ []) ++ xs) ≡ take (length before + suc k) (before ++ x ∷ xs) =
-        ap (λ i. take i ((before ++ x ∷ []) ++ xs)) n ∙ ap (take (length before + suc k)) (append_assoc before (x ∷ []) xs) in
+    ap (λ i. take i ((before ++ x ∷ []) ++ xs)) n ∙ ap (take (length before + suc k)) (append_assoc before (x ∷ []) xs) in
     subst (λ i. get_or (values_after inputs values (x ∷ xs)) i false ≡ node_value inputs (values_after inputs values (x ∷ xs)) node) n
     (values_after_at inputs (before ++ x ∷ []) (values ++ node_value inputs values x ∷ []) xs s k node at (subst (λ ns. MayFollow ns node) (sym m) h))
 
@@ -89,8 +89,8 @@ unfolding value_of
 value_of-append inputs nodes more l h =
     ap (λ vs. literal_value vs l) (fold-append _ [] nodes more)
     ∙ literal_value_agrees (length nodes) (node_values inputs nodes) (values_after inputs (node_values inputs nodes) more)
-        (λ k below. get_or-values_after inputs (node_values inputs nodes) more k (omega (arith, length-values_after inputs [] nodes)))
-        l h
+    (λ k below. get_or-values_after inputs (node_values inputs nodes) more k (omega (arith, length-values_after inputs [] nodes)))
+    l h
 
 -- the next node's literal has the node's value
 pub value_of_next : (inputs : ℕ → Bool) (nodes : List Node) (node : Node) → value_of inputs (nodes ++ node ∷ []) (pos (suc (length nodes))) ≡ node_value inputs (node_values inputs nodes) node

@@ -58,6 +58,7 @@ higher a b = if nat_le (unsigned_abs a) (unsigned_abs b) then b else a
 abbrev pub input_gate : List Node → Made
 input_gate nodes = added nodes (Input (input_count nodes))
 
+-- false where one is false or one is the other's complement; the other where one is true; either where they are the same; else the node
 unfoldable pub and_gate : List Node → ℤ → ℤ → Made
 and_gate nodes a b =
     if int_eq a false_literal || (int_eq b false_literal || int_eq a (neg_ℤ b)) then present nodes false_literal
@@ -65,6 +66,7 @@ and_gate nodes a b =
     else if int_eq b true_literal || int_eq a b then present nodes a
     else share nodes (And (lower a b) (higher a b))
 
+-- no public call: `mux` is made of it, and so are the circuits of the crates above, by `and` and complements
 unfoldable pub or_gate : List Node → ℤ → ℤ → Made
 or_gate nodes a b = complemented (and_gate nodes (neg_ℤ a) (neg_ℤ b))
 

@@ -3,7 +3,7 @@ use Rattle.std.specs.Prelude.{ℕ, ℤ, pos, negsuc, zero, suc, Bool, true, fals
 use Rattle.pv_gate.specs.declared.netlist.Node.{Node}
 use Rattle.pv_gate.specs.declared.netlist.Node.TheVariants.{True, Input, And, Xor, Mux}
 
--- the value of a literal, where the list has the values of the nodes from node 1 on
+-- the value of a literal, where the list has the values of the nodes from node 1 on; 0 is no literal, and is never asked for
 abbrev pub literal_value : List Bool → ℤ → Bool
 literal_value values (pos zero) = false
 literal_value values (pos (suc n)) = slice_index_or values n false

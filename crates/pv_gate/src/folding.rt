@@ -86,12 +86,7 @@ impl Gates {
         made
     }
 
-    fn choice_gate(
-        &mut self,
-        s: Literal,
-        a: Literal,
-        b: Literal,
-    ) -> Result<Literal, GateFault>
+    fn choice_gate(&mut self, s: Literal, a: Literal, b: Literal) -> Result<Literal, GateFault>
         requires selector { Names (length self.old.nodes) s.code }
         requires first { Names (length self.old.nodes) a.code }
         requires second { Names (length self.old.nodes) b.code }

@@ -14,5 +14,5 @@ mod sharing;
 mod tests;
 
 pub use fault::GateFault;
-pub use netlist::{FALSE, MOST, Node, TRUE};
+pub use netlist::{FALSE, MAX_GATES, MAX_INPUTS, Node, TRUE};
 pub use sharing::{Gates, make};

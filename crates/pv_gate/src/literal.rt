@@ -15,6 +15,7 @@ pub(crate) struct Literal {
 
 impl Literal {
     pub(crate) const TRUE: Literal = Literal { code: TRUE };
+
     pub(crate) const FALSE: Literal = Literal { code: FALSE };
 
     pub(crate) fn new(code: i32) -> Literal

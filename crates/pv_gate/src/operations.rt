@@ -1,14 +1,13 @@
 //! The operations on literals: which value each has.
 
-ghost use Rattle.std.specs.Prelude.{◌≡◌, ℕ, ◌≤◌, ◌↔◌, ℤ, Bool, ◌&&◌, if◌then◌else◌, length, IfOk, OnOk, OnErr};
-ghost use Rattle.pv_gate.specs.Value.{value_of, exclusive_or};
+ghost use Rattle.std.specs.Prelude.{◌≡◌, ℕ, ◌≤◌, ◌↔◌, ℤ, length, IfOk, OnOk, OnErr};
 
 use crate::fault::GateFault;
 use crate::sharing::Gates;
 
 impl Gates {
     ghost use Rattle.pv_gate.specs.Node.{Names};
-    ghost use Rattle.pv_gate.specs.Netlist.{Extends, KeepsValues};
+    ghost use Rattle.pv_gate.specs.Netlist.{Extends, KeepsValues, IsAnd, IsXor, IsMux};
     ghost use Rattle.pv_gate.specs.Build.{and_gate, xor_gate, mux_gate, IsBeyond};
 
     /// The literal of `a AND b`: false where one is false or one is the other's complement, the other
@@ -22,7 +21,7 @@ impl Gates {
         ensures err { OnErr result (self.new ≡ self.old) }
 
         // The value, and older literals keep theirs.
-        ensures value { IfOk result (λ literal. (inputs : ℕ → Bool) → value_of inputs self.new.nodes literal ≡ (value_of inputs self.old.nodes a && value_of inputs self.old.nodes b)) }
+        ensures value { IfOk result (IsAnd self.old.nodes a b self.new.nodes) }
         ensures names { IfOk result (λ literal. Names (length self.new.nodes) literal) }
         ensures extends { Extends self.old.nodes self.new.nodes }
         ensures longer { length self.old.nodes ≤ length self.new.nodes }
@@ -43,7 +42,7 @@ impl Gates {
         ensures err { OnErr result (self.new ≡ self.old) }
 
         // The value, and older literals keep theirs.
-        ensures value { IfOk result (λ literal. (inputs : ℕ → Bool) → value_of inputs self.new.nodes literal ≡ exclusive_or (value_of inputs self.old.nodes a) (value_of inputs self.old.nodes b)) }
+        ensures value { IfOk result (IsXor self.old.nodes a b self.new.nodes) }
         ensures names { IfOk result (λ literal. Names (length self.new.nodes) literal) }
         ensures extends { Extends self.old.nodes self.new.nodes }
         ensures longer { length self.old.nodes ≤ length self.new.nodes }
@@ -65,7 +64,7 @@ impl Gates {
         ensures err { OnErr result (self.new ≡ self.old) }
 
         // The value, and older literals keep theirs.
-        ensures value { IfOk result (λ literal. (inputs : ℕ → Bool) → value_of inputs self.new.nodes literal ≡ (if value_of inputs self.old.nodes s then value_of inputs self.old.nodes a else value_of inputs self.old.nodes b)) }
+        ensures value { IfOk result (IsMux self.old.nodes s a b self.new.nodes) }
         ensures names { IfOk result (λ literal. Names (length self.new.nodes) literal) }
         ensures extends { Extends self.old.nodes self.new.nodes }
         ensures longer { length self.old.nodes ≤ length self.new.nodes }

@@ -3,11 +3,10 @@
 ghost use Rattle.std.specs.Prelude.{◌≡◌, ℕ, ◌+◌, ◌-◌, ◌*◌, ◌≤◌, ◌<◌, ◌^◌, ◌↔◌, ℤ, pos, suc, unsigned_abs, Bool, [], ◌∷◌, ◌++◌, length, take, slice_get, None, IsTrue, IfOk, OnOk, OnErr};
 ghost use Rattle.std.specs.Option.{option_map};
 ghost use Rattle.pv_gate.specs.declared.netlist.Node.TheVariants.{True};
-ghost use Rattle.pv_gate.specs.Value.{value_of};
 
 use crate::fault::GateFault;
 use crate::literal::Literal;
-use crate::netlist::{MOST, Node};
+use crate::netlist::{MAX_GATES, MAX_INPUTS, Node};
 use std::alloc::{AllocError, Global};
 use std::collections::BTreeMap;
 use std::marker::Model;
@@ -40,7 +39,7 @@ impl Model for Gates {
 
 /// A circuit of node 1 alone, constant true. The limit is on And, Xor and Mux nodes together.
 pub fn make(alloc: Global, limit: u32) -> Result<Gates, AllocError>
-    requires { limit ≤ MOST }
+    requires { limit ≤ MAX_GATES }
     ensures made { IfOk result (λ gates. gates ≡ record { nodes = True ∷ []; limit = limit }) }
 {
     let mut nodes = Vec::new(alloc);
@@ -56,7 +55,7 @@ pub fn make(alloc: Global, limit: u32) -> Result<Gates, AllocError>
 
 impl Gates {
     ghost use Rattle.pv_gate.specs.Node.{Names, is_gate, gate_count, input_count};
-    ghost use Rattle.pv_gate.specs.Netlist.{IsNetlist, MayFollow, Extends, KeepsValues};
+    ghost use Rattle.pv_gate.specs.Netlist.{IsNetlist, MayFollow, Extends, KeepsValues, IsInput};
     ghost use Rattle.pv_gate.specs.Build.{share, number_of, added, input_gate};
     ghost use Rattle.pv_gate.specs.Given.{Gives};
 
@@ -66,7 +65,8 @@ impl Gates {
 
         // What every circuit keeps.
         ensures netlist { IsNetlist self.now.nodes }
-        ensures few { length self.now.nodes ≤ 1 + 2 * MOST }
+        ensures one { 1 ≤ length self.now.nodes }
+        ensures few { length self.now.nodes ≤ 1 + MAX_INPUTS + MAX_GATES }
         ensures within { gate_count self.now.nodes ≤ self.now.limit }
     {
         self.nodes.len() as u32
@@ -84,13 +84,13 @@ impl Gates {
 
     /// The next node as an input, which the limit does not count. Inputs are numbered from 0.
     pub fn input(&mut self) -> Result<i32, GateFault>
-        requires { input_count self.old.nodes < MOST }
+        requires { input_count self.old.nodes < MAX_INPUTS }
         ensures literal { IfOk result (λ literal. literal ≡ (input_gate self.old.nodes).literal) }
         ensures nodes { OnOk result (self.new ≡ record self.old { nodes = (input_gate self.old.nodes).nodes }) }
         ensures err { OnErr result ((result ≡ Err GateFault.NoMemory) × (self.new ≡ self.old)) }
 
         // The literal has the input's value, and older ones keep theirs.
-        ensures value { IfOk result (λ literal. (inputs : ℕ → Bool) → value_of inputs self.new.nodes literal ≡ inputs (input_count self.old.nodes)) }
+        ensures value { IfOk result (IsInput self.old.nodes self.new.nodes) }
         ensures names { IfOk result (λ literal. Names (length self.new.nodes) literal) }
         ensures extends { Extends self.old.nodes self.new.nodes }
         ensures longer { length self.old.nodes ≤ length self.new.nodes }
@@ -111,6 +111,7 @@ impl Gates {
         ensures netlist { IsNetlist self.now.nodes }
         ensures within { gate_count self.now.nodes ≤ self.now.limit }
     {
+        // What the fields keep bounds the number of nodes.
         let _nodes = &self.nodes;
         Literal::new(code)
     }

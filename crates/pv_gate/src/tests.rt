@@ -16,10 +16,32 @@ fn step_of_a_latch(rt: HostRuntime) -> Result<(), Fail> {
     let bad = gates.and(next, stop)?;
     assert_eq!(rt; (either, next, bad), (-5, 6, 7));
     assert_eq!(rt; gates.nodes(), 7);
-    assert_eq!(rt; gates.node(1), Node::True);
-    assert_eq!(rt; gates.node(4), Node::Input(2));
     assert_eq!(rt; gates.node(5), Node::And(-2, -4));
     assert_eq!(rt; gates.node(6), Node::And(-3, -5));
     assert_eq!(rt; gates.node(7), Node::And(3, 6));
+    Ok(())
+}
+
+#[test]
+fn complements_come_off(rt: HostRuntime) -> Result<(), Fail> {
+    let mut gates = make(rt.alloc(), 2)?;
+    let a = gates.input()?;
+    let b = gates.input()?;
+    assert_eq!(rt; gates.xor(b, -a)?, -4);
+    assert_eq!(rt; gates.mux(-a, b, -b)?, 4);
+    assert_eq!(rt; gates.nodes(), 4);
+    assert_eq!(rt; gates.node(4), Node::Xor(2, 3));
+    Ok(())
+}
+
+#[test]
+fn a_gate_is_made_once(rt: HostRuntime) -> Result<(), Fail> {
+    let mut gates = make(rt.alloc(), 1)?;
+    let a = gates.input()?;
+    let b = gates.input()?;
+    assert_eq!(rt; gates.and(b, a)?, 4);
+    assert_eq!(rt; gates.and(a, b)?, 4);
+    assert_eq!(rt; gates.and(-a, b), Err(GateFault::Limit));
+    assert_eq!(rt; gates.nodes(), 4);
     Ok(())
 }

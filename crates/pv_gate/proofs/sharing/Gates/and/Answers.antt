@@ -12,7 +12,7 @@ known c =
     told_given _ _ _ (and_gate c.args.self.now.nodes c.args.a c.args.b) _ _ _
     (and_builds c.args.self.now.nodes c.args.a c.args.b c.literal-a.ensures.netlist c.requires.first c.requires.second)
     (ap (λ a. and_gate c.args.self.now.nodes a c.args.b) (sym (c.literal-a.ensures.code ∙ to_z-of_z w32 c.args.a c.ranges.a))
-     ∙ ap (and_gate c.args.self.now.nodes c.literal-a.result.code) (sym (c.literal-b.ensures.code ∙ to_z-of_z w32 c.args.b c.ranges.b)))
+    ∙ ap (and_gate c.args.self.now.nodes c.literal-a.result.code) (sym (c.literal-b.ensures.code ∙ to_z-of_z w32 c.args.b c.ranges.b)))
     c.in_ok-and_gate.ensures
     (to_z-of_z w32 c.code.result (record { sfits = c.code.type_inv }) ∙ c.code.ensures)
 

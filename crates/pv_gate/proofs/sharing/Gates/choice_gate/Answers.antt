@@ -14,8 +14,8 @@ unfolding choice_gate
 returns-then-eq-2 c =
     gives_same _ _ _ _ _
     (cond-false _ _ _ (sym c.eq.ensures ∙ c.if-eq.false)
-     ∙ (cond-true _ _ _ (sym c.eq-2.ensures ∙ c.if-eq-2.true)
-     ∙ ap (λ s. and_gate c.args.self.now.nodes s c.args.b.code) (sym c.complement.ensures)))
+    ∙ (cond-true _ _ _ (sym c.eq-2.ensures ∙ c.if-eq-2.true)
+    ∙ ap (λ s. and_gate c.args.self.now.nodes s c.args.b.code) (sym c.complement.ensures)))
     c.and_gate.ensures
 
 pub returns-then-eq-3 : goal.returns-then-eq-3
@@ -23,9 +23,9 @@ unfolding choice_gate
 returns-then-eq-3 c =
     gives_same _ _ _ _ _
     (cond-false _ _ _ (sym c.eq.ensures ∙ c.if-eq.false)
-     ∙ (cond-false _ _ _ (sym c.eq-2.ensures ∙ c.if-eq-2.false)
-     ∙ (cond-true _ _ _ (sym c.eq-3.ensures ∙ c.if-eq-3.true)
-     ∙ ap (λ s. or_gate c.args.self.now.nodes s c.args.a.code) (sym c.complement-then-eq-3.ensures))))
+    ∙ (cond-false _ _ _ (sym c.eq-2.ensures ∙ c.if-eq-2.false)
+    ∙ (cond-true _ _ _ (sym c.eq-3.ensures ∙ c.if-eq-3.true)
+    ∙ ap (λ s. or_gate c.args.self.now.nodes s c.args.a.code) (sym c.complement-then-eq-3.ensures))))
     c.or_gate-then-eq-3.ensures
 
 pub returns-then-eq-4 : goal.returns-then-eq-4
@@ -33,9 +33,9 @@ unfolding choice_gate
 returns-then-eq-4 c =
     gives_same _ _ _ _ _
     (cond-false _ _ _ (sym c.eq.ensures ∙ c.if-eq.false)
-     ∙ (cond-false _ _ _ (sym c.eq-2.ensures ∙ c.if-eq-2.false)
-     ∙ (cond-false _ _ _ (sym c.eq-3.ensures ∙ c.if-eq-3.false)
-     ∙ cond-true _ _ _ (sym c.eq-4.ensures ∙ c.if-eq-4.true))))
+    ∙ (cond-false _ _ _ (sym c.eq-2.ensures ∙ c.if-eq-2.false)
+    ∙ (cond-false _ _ _ (sym c.eq-3.ensures ∙ c.if-eq-3.false)
+    ∙ cond-true _ _ _ (sym c.eq-4.ensures ∙ c.if-eq-4.true))))
     c.and_gate-then-eq-4.ensures
 
 pub returns-then-eq-5 : goal.returns-then-eq-5
@@ -43,10 +43,10 @@ unfolding choice_gate
 returns-then-eq-5 c =
     gives_same _ _ _ _ _
     (cond-false _ _ _ (sym c.eq.ensures ∙ c.if-eq.false)
-     ∙ (cond-false _ _ _ (sym c.eq-2.ensures ∙ c.if-eq-2.false)
-     ∙ (cond-false _ _ _ (sym c.eq-3.ensures ∙ c.if-eq-3.false)
-     ∙ (cond-false _ _ _ (sym c.eq-4.ensures ∙ c.if-eq-4.false)
-     ∙ cond-true _ _ _ (ap (int_eq c.args.b.code) (sym c.complement-2.ensures) ∙ (sym c.eq-5.ensures ∙ c.if-eq-5.true))))))
+    ∙ (cond-false _ _ _ (sym c.eq-2.ensures ∙ c.if-eq-2.false)
+    ∙ (cond-false _ _ _ (sym c.eq-3.ensures ∙ c.if-eq-3.false)
+    ∙ (cond-false _ _ _ (sym c.eq-4.ensures ∙ c.if-eq-4.false)
+    ∙ cond-true _ _ _ (ap (int_eq c.args.b.code) (sym c.complement-2.ensures) ∙ (sym c.eq-5.ensures ∙ c.if-eq-5.true))))))
     (gives_complemented _ _ _ _ _ c.complemented.ensures c.xor_gate.ensures)
 
 pub returns : goal.returns
@@ -54,8 +54,8 @@ unfolding choice_gate
 returns c =
     gives_same _ _ _ _ _
     (cond-false _ _ _ (sym c.eq.ensures ∙ c.if-eq.false)
-     ∙ (cond-false _ _ _ (sym c.eq-2.ensures ∙ c.if-eq-2.false)
-     ∙ (cond-false _ _ _ (sym c.eq-3.ensures ∙ c.if-eq-3.false)
-     ∙ (cond-false _ _ _ (sym c.eq-4.ensures ∙ c.if-eq-4.false)
-     ∙ cond-false _ _ _ (ap (int_eq c.args.b.code) (sym c.complement-2.ensures) ∙ (sym c.eq-5.ensures ∙ c.if-eq-5.false))))))
+    ∙ (cond-false _ _ _ (sym c.eq-2.ensures ∙ c.if-eq-2.false)
+    ∙ (cond-false _ _ _ (sym c.eq-3.ensures ∙ c.if-eq-3.false)
+    ∙ (cond-false _ _ _ (sym c.eq-4.ensures ∙ c.if-eq-4.false)
+    ∙ cond-false _ _ _ (ap (int_eq c.args.b.code) (sym c.complement-2.ensures) ∙ (sym c.eq-5.ensures ∙ c.if-eq-5.false))))))
     c.mux_made.ensures

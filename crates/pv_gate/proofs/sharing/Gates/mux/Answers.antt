@@ -12,8 +12,8 @@ known c =
     told_given _ _ _ (mux_gate c.args.self.now.nodes c.args.s c.args.a c.args.b) _ _ _
     (mux_builds c.args.self.now.nodes c.args.s c.args.a c.args.b c.literal-s.ensures.netlist c.requires.selector c.requires.first c.requires.second)
     (ap (λ s. mux_gate c.args.self.now.nodes s c.args.a c.args.b) (sym (c.literal-s.ensures.code ∙ to_z-of_z w32 c.args.s c.ranges.s))
-     ∙ (ap (λ a. mux_gate c.args.self.now.nodes c.literal-s.result.code a c.args.b) (sym (c.literal-a.ensures.code ∙ to_z-of_z w32 c.args.a c.ranges.a))
-     ∙ ap (mux_gate c.args.self.now.nodes c.literal-s.result.code c.literal-a.result.code) (sym (c.literal-b.ensures.code ∙ to_z-of_z w32 c.args.b c.ranges.b))))
+    ∙ (ap (λ a. mux_gate c.args.self.now.nodes c.literal-s.result.code a c.args.b) (sym (c.literal-a.ensures.code ∙ to_z-of_z w32 c.args.a c.ranges.a))
+    ∙ ap (mux_gate c.args.self.now.nodes c.literal-s.result.code c.literal-a.result.code) (sym (c.literal-b.ensures.code ∙ to_z-of_z w32 c.args.b c.ranges.b))))
     c.in_ok-mux_gate.ensures
     (to_z-of_z w32 c.code.result (record { sfits = c.code.type_inv }) ∙ c.code.ensures)
 

@@ -20,18 +20,18 @@ unfolding mux_gate
 returns-then-eq-3 c =
     gives_present _ _ _ c.requires.within
     (cond-false _ _ _ (sym c.eq.ensures ∙ c.if-eq.false)
-     ∙ (cond-false _ _ _ (sym c.eq-2.ensures ∙ c.if-eq-2.false)
-     ∙ cond-true _ _ _ (sym c.eq-3.ensures ∙ c.if-eq-3.true)))
+    ∙ (cond-false _ _ _ (sym c.eq-2.ensures ∙ c.if-eq-2.false)
+    ∙ cond-true _ _ _ (sym c.eq-3.ensures ∙ c.if-eq-3.true)))
 
 pub returns-then-is_complement : goal.returns-then-is_complement
 unfolding mux_gate
 returns-then-is_complement c =
     gives_same _ _ _ _ _
     (cond-false _ _ _ (sym c.eq.ensures ∙ c.if-eq.false)
-     ∙ (cond-false _ _ _ (sym c.eq-2.ensures ∙ c.if-eq-2.false)
-     ∙ (cond-false _ _ _ (sym c.eq-3.ensures ∙ c.if-eq-3.false)
-     ∙ (cond-true _ _ _ (sym c.is_complement.ensures ∙ c.if-is_complement.true)
-     ∙ ap (λ s. choice_gate c.args.self.now.nodes s c.args.b.code c.args.a.code) (sym c.complement.ensures)))))
+    ∙ (cond-false _ _ _ (sym c.eq-2.ensures ∙ c.if-eq-2.false)
+    ∙ (cond-false _ _ _ (sym c.eq-3.ensures ∙ c.if-eq-3.false)
+    ∙ (cond-true _ _ _ (sym c.is_complement.ensures ∙ c.if-is_complement.true)
+    ∙ ap (λ s. choice_gate c.args.self.now.nodes s c.args.b.code c.args.a.code) (sym c.complement.ensures)))))
     c.choice_gate.ensures
 
 pub returns : goal.returns
@@ -39,7 +39,7 @@ unfolding mux_gate
 returns c =
     gives_same _ _ _ _ _
     (cond-false _ _ _ (sym c.eq.ensures ∙ c.if-eq.false)
-     ∙ (cond-false _ _ _ (sym c.eq-2.ensures ∙ c.if-eq-2.false)
-     ∙ (cond-false _ _ _ (sym c.eq-3.ensures ∙ c.if-eq-3.false)
-     ∙ cond-false _ _ _ (sym c.is_complement.ensures ∙ c.if-is_complement.false))))
+    ∙ (cond-false _ _ _ (sym c.eq-2.ensures ∙ c.if-eq-2.false)
+    ∙ (cond-false _ _ _ (sym c.eq-3.ensures ∙ c.if-eq-3.false)
+    ∙ cond-false _ _ _ (sym c.is_complement.ensures ∙ c.if-is_complement.false))))
     c.choice_gate-2.ensures

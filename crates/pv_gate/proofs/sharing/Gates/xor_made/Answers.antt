@@ -11,17 +11,17 @@ returns-then-is_complement c =
     gives_same _ _ _ _ _ (cond-true _ _ _ (xor_from_tests _ _ _ _ _ c.is_complement.ensures c.is_complement-2.ensures c.if-is_complement.true))
     (gives_complemented _ _ _ _ _ c.complemented.ensures
     (gives_same _ _ _ _ _
-      (ap (λ a. share c.args.self.now.nodes (Xor (lower a (pos (unsigned_abs c.args.b.code))) (higher a (pos (unsigned_abs c.args.b.code))))) (sym c.node.ensures)
-       ∙ (ap (λ b. share c.args.self.now.nodes (Xor (lower c.node.result.code b) (higher c.node.result.code b))) (sym c.node-2.ensures)
-       ∙ ap (share c.args.self.now.nodes) (sym c.xor_node.ensures)))
-      c.share-made.ensures))
+    (ap (λ a. share c.args.self.now.nodes (Xor (lower a (pos (unsigned_abs c.args.b.code))) (higher a (pos (unsigned_abs c.args.b.code))))) (sym c.node.ensures)
+    ∙ (ap (λ b. share c.args.self.now.nodes (Xor (lower c.node.result.code b) (higher c.node.result.code b))) (sym c.node-2.ensures)
+    ∙ ap (share c.args.self.now.nodes) (sym c.xor_node.ensures)))
+    c.share-made.ensures))
 
 pub returns : goal.returns
 unfolding xor_made
 returns c =
     gives_same _ _ _ _ _
     (cond-false _ _ _ (xor_from_tests _ _ _ _ _ c.is_complement.ensures c.is_complement-2.ensures c.if-is_complement.false)
-     ∙ (ap (λ a. share c.args.self.now.nodes (Xor (lower a (pos (unsigned_abs c.args.b.code))) (higher a (pos (unsigned_abs c.args.b.code))))) (sym c.node.ensures)
-       ∙ (ap (λ b. share c.args.self.now.nodes (Xor (lower c.node.result.code b) (higher c.node.result.code b))) (sym c.node-2.ensures)
-       ∙ ap (share c.args.self.now.nodes) (sym c.xor_node.ensures))))
+    ∙ (ap (λ a. share c.args.self.now.nodes (Xor (lower a (pos (unsigned_abs c.args.b.code))) (higher a (pos (unsigned_abs c.args.b.code))))) (sym c.node.ensures)
+    ∙ (ap (λ b. share c.args.self.now.nodes (Xor (lower c.node.result.code b) (higher c.node.result.code b))) (sym c.node-2.ensures)
+    ∙ ap (share c.args.self.now.nodes) (sym c.xor_node.ensures))))
     c.share-made.ensures
