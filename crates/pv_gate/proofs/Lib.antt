@@ -6,3 +6,4 @@ pub mod Kept
 pub mod Order
 pub mod Building
 pub mod OperationValues
+pub mod CallerLemmas
