@@ -1,5 +1,5 @@
 -- What is made has the value that is meant, and older literals keep theirs.
-use Rattle.std.proofs.Common.{◌≡◌, ℕ, ◌+◌, ◌<◌, ◌≤◌, ℤ, pos, negsuc, suc, zero, Bool, true, false, not, ◌&&◌, ◌||◌, List, [], ◌∷◌, ◌++◌, length, get_or, refl, sym, ◌∙◌, ap, subst, cond, arith, Some, None, Option, inl, inr, length-append, append-nil, unsigned_abs, neg_ℤ, int_eq, Ok}
+use Rattle.std.proofs.Common.{◌≡◌, ℕ, ◌≤◌, ℤ, pos, negsuc, suc, zero, Bool, true, false, not, List, [], ◌∷◌, ◌++◌, length, get_or, refl, sym, ◌∙◌, ap, subst, arith, Some, None, Option, length-append, append-nil, unsigned_abs, neg_ℤ, int_eq, Ok}
 use Rattle.pv_gate.specs.declared.literal.Literal.{Literal}
 use Rattle.pv_gate.specs.Given.{Gives}
 use Rattle.std.specs.Bool.{nat_le}
@@ -10,13 +10,13 @@ use Rattle.std.proofs.lemmas.Bool.{cond_both, le-ltb}
 use Rattle.std.proofs.lemmas.List.{length_push}
 use Rattle.std.proofs.lemmas.Option.{slice_get_within}
 use Rattle.pv_gate.specs.declared.netlist.Node.{Node}
-use Rattle.pv_gate.specs.declared.netlist.Node.TheVariants.{True, Input, And, Xor, Mux}
+use Rattle.pv_gate.specs.declared.netlist.Node.TheVariants.{True, Input}
 use Rattle.pv_gate.specs.Node.{Names, true_literal, false_literal, input_count}
 use Rattle.pv_gate.specs.Netlist.{Netlist, IsNetlist, MayFollow, Extends, KeepsValues}
 use Rattle.pv_gate.specs.Value.{exclusive_or, literal_value, node_value, node_values, value_of}
-use Rattle.pv_gate.specs.Build.{Made, present, complemented, complemented_if, added, share, shared_at, number_of, lower, higher, and_gate, or_gate, xor_gate, xor_made, choice_gate, mux_gate, mux_made}
+use Rattle.pv_gate.specs.Build.{Made, present, complemented, complemented_if, added, share, shared_at, number_of, lower, higher}
 use Rattle.pv_gate.proofs.Lists.{number_from-found}
-use Rattle.pv_gate.proofs.Values.{value_of-append, node_values_at, values_after, get_or-values_after, length-values_after, value_of_next}
+use Rattle.pv_gate.proofs.Values.{value_of-append, node_values_at, value_of_next}
 
 -- the literal names a node, it has the value v, and the older nodes are there
 pub record Builds (nodes : List Node) (v : (ℕ → Bool) → Bool) (made : Made) : Type 0 where

@@ -1,5 +1,5 @@
 -- What crates above cite: how circuits grow over several calls, and what the values of all nodes are.
-use Rattle.std.proofs.Common.{◌≡◌, ℕ, ◌+◌, ◌<◌, ◌≤◌, ℤ, suc, zero, Bool, true, false, List, [], ◌∷◌, ◌++◌, length, take, get_or, refl, sym, ◌∙◌, ap, subst, cond, arith, Some, inl, inr, append_assoc, append-nil, length-append, length-take-le}
+use Rattle.std.proofs.Common.{◌≡◌, ℕ, ◌<◌, ◌≤◌, suc, zero, Bool, false, List, [], ◌++◌, length, take, get_or, sym, ◌∙◌, ap, subst, cond, arith, Some, inl, inr, append_assoc, append-nil, length-append, length-take-le}
 use Rattle.std.specs.List.{slice_get}
 use Rattle.std.proofs.lemmas.Bool.{cases_eq}
 use Rattle.std.proofs.lemmas.List.{ext_get_or}
@@ -7,9 +7,9 @@ use Rattle.std.proofs.lemmas.List.Sums.{sum_by-append}
 use Rattle.std.proofs.lemmas.Option.{slice_get-get_or}
 use Rattle.pv_gate.specs.declared.netlist.Node.{Node}
 use Rattle.pv_gate.specs.declared.netlist.Node.TheVariants.{True}
-use Rattle.pv_gate.specs.Node.{Names, is_gate, is_input, gate_count, input_count}
+use Rattle.pv_gate.specs.Node.{is_gate, is_input, gate_count, input_count}
 use Rattle.pv_gate.specs.Netlist.{IsNetlist, Extends, KeepsValues}
-use Rattle.pv_gate.specs.Value.{node_value, node_values, value_of}
+use Rattle.pv_gate.specs.Value.{node_value, node_values}
 use Rattle.pv_gate.proofs.Building.{Names-more}
 use Rattle.pv_gate.proofs.Values.{node_value_agrees, node_values_at, length-values_after}
 

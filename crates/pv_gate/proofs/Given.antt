@@ -1,5 +1,5 @@
 -- How a call gives what it is to make: a literal that is there, another call's literal, or its complement.
-use Rattle.std.proofs.Common.{◌≡◌, ◌<◌, ◌≤◌, refl, sym, ◌∙◌, ap, subst, arith, Ok, Err, ◌+◌, pos, suc, length, Some, None, Option, ◌++◌, [], ◌∷◌, List, ℤ, neg_ℤ, Result, ℕ, cond, Bool, true, false, not, IfOk, OnOk, OnErr}
+use Rattle.std.proofs.Common.{◌≡◌, ◌<◌, ◌≤◌, refl, sym, ◌∙◌, ap, subst, arith, Ok, Err, ◌+◌, pos, Some, None, Option, ◌++◌, [], ◌∷◌, List, ℤ, neg_ℤ, Result, ℕ, cond, Bool, true, false, not, IfOk, OnOk, OnErr}
 use Rattle.std.specs.Bool.{beq}
 use Rattle.pv_gate.specs.Value.{exclusive_or}
 use Rattle.std.specs.Option.{option_map}
@@ -11,7 +11,7 @@ use Rattle.pv_gate.specs.declared.fault.GateFault.TheVariants.{Limit, NoMemory}
 use Rattle.pv_gate.specs.declared.literal.Literal.{Literal}
 use Rattle.pv_gate.specs.Node.{is_gate, gate_count}
 use Rattle.pv_gate.specs.Netlist.{Netlist}
-use Rattle.pv_gate.specs.Build.{Made, IsBeyond, present, complemented, added, share, shared_at, number_of}
+use Rattle.pv_gate.specs.Build.{Made, present, complemented, added, share, shared_at, number_of}
 use Rattle.pv_gate.specs.Given.{Gives}
 
 pub gives_present : (old : Netlist) (made : Made) (literal : Literal) → gate_count old.nodes ≤ old.limit → made ≡ present old.nodes literal.code → Gives old old made (Ok literal)

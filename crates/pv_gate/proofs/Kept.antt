@@ -1,5 +1,5 @@
 -- The index and the counts agree with the nodes as one more node comes.
-use Rattle.std.proofs.Common.{◌≡◌, ℕ, ◌+◌, ◌<◌, ◌≤◌, ℤ, pos, suc, Bool, true, false, List, [], ◌∷◌, ◌++◌, length, refl, sym, ◌∙◌, ap, subst, cond, arith, Some, None, Option, Ok, Err, Result, OnOk}
+use Rattle.std.proofs.Common.{◌≡◌, ℕ, ◌+◌, ◌<◌, ℤ, pos, suc, Bool, true, false, List, [], ◌∷◌, ◌++◌, length, refl, sym, ◌∙◌, ap, subst, cond, arith, Some, None, Option, Ok, Err, Result, OnOk}
 use Rattle.std.specs.Result.{is_err}
 use Rattle.std.specs.Map.{lookup}
 use Rattle.std.specs.BTreeMap.{BTreeMap, get}
@@ -7,7 +7,6 @@ use Rattle.std.specs.declared.cmp.Ordering.{Ordering}
 use Rattle.std.specs.List.{count_by}
 use Rattle.std.specs.Option.{option_map, option_or}
 use Rattle.std.specs.Ordering.{is_eq}
-use Rattle.std.proofs.lemmas.Bool.{cases_Bool, cond-true, cond-false}
 use Rattle.std.proofs.lemmas.List.{length_push}
 use Rattle.std.proofs.lemmas.List.Sums.{sum_by_push}
 use Rattle.pv_gate.specs.declared.netlist.Node.{Node}
@@ -15,7 +14,7 @@ use Rattle.pv_gate.specs.declared.netlist.Node.TheVariants.{True, Input, And, Xo
 use Rattle.pv_gate.specs.Node.{is_same, is_gate, is_input, gate_count, input_count}
 use Rattle.pv_gate.specs.Netlist.{Netlist, MayFollow}
 use Rattle.pv_gate.specs.declared.literal.Literal.{Literal}
-use Rattle.pv_gate.specs.Build.{number_of, number_from}
+use Rattle.pv_gate.specs.Build.{number_of}
 use Rattle.pv_gate.specs.Index.{IsKept, Lookup, node_cmp}
 use Rattle.pv_gate.proofs.Nodes.{is_eq-node_cmp, is_same-true}
 use Rattle.pv_gate.proofs.Lists.{IsNetlist-push, number_from-push}

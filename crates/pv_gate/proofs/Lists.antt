@@ -1,15 +1,15 @@
 -- Nodes that are put at the end, and where a node stands.
-use Rattle.std.proofs.Common.{◌≡◌, ℕ, ◌+◌, ◌<◌, ◌≤◌, ◌⊎◌, inl, inr, ℤ, pos, suc, zero, Bool, true, false, List, [], ◌∷◌, ◌++◌, length, take, refl, sym, ◌∙◌, ap, subst, cond, arith, Some, None, Option, add-zero}
+use Rattle.std.proofs.Common.{◌≡◌, ℕ, ◌+◌, ◌≤◌, ◌⊎◌, inl, inr, suc, zero, Bool, true, false, List, [], ◌∷◌, ◌++◌, length, refl, sym, ◌∙◌, ap, subst, cond, arith, Some, None, Option, add-zero}
 use Rattle.std.specs.List.{slice_get}
-use Rattle.std.specs.Option.{option_map, option_or}
+use Rattle.std.specs.Option.{option_or}
 use Rattle.std.proofs.lemmas.Option.{slice_get_within}
 use Rattle.std.proofs.lemmas.List.{take-append-le, take_at}
 use Rattle.std.proofs.lemmas.Bool.{cases_Bool, cond-true, cond-false}
 use Rattle.pv_gate.specs.declared.netlist.Node.{Node}
-use Rattle.pv_gate.specs.declared.netlist.Node.TheVariants.{True, Input, And, Xor, Mux}
-use Rattle.pv_gate.specs.Node.{is_same, Names, is_gate, gate_count, input_count}
+use Rattle.pv_gate.specs.declared.netlist.Node.TheVariants.{True}
+use Rattle.pv_gate.specs.Node.{is_same}
 use Rattle.pv_gate.specs.Netlist.{IsNetlist, MayFollow}
-use Rattle.pv_gate.specs.Build.{number_from, number_of}
+use Rattle.pv_gate.specs.Build.{number_from}
 use Rattle.pv_gate.proofs.Nodes.{is_same-true}
 
 -- the last node of a list, or one before it

@@ -1,5 +1,5 @@
 -- Nodes that the index tells apart are different nodes.
-use Rattle.std.proofs.Common.{◌≡◌, ◌<◌, ℕ, ℤ, Bool, true, false, ◌&&◌, refl, sym, ◌∙◌, ap, subst, cond, eqb, arith, ltb, unsigned_abs}
+use Rattle.std.proofs.Common.{◌≡◌, ◌<◌, ℕ, ℤ, true, ◌&&◌, refl, sym, ◌∙◌, ap, eqb, arith}
 use Rattle.std.specs.declared.cmp.Ordering.{Ordering}
 use Rattle.std.specs.declared.cmp.Ordering.TheVariants.{Less, Equal, Greater}
 use Rattle.std.specs.Ordering.{int_eq, nat_cmp, is_eq, ordering_then}

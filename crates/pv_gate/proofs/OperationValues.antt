@@ -1,5 +1,5 @@
 -- `and`, `xor` and `mux` over lists of nodes have the values that they are named for.
-use Rattle.std.proofs.Common.{◌≡◌, ℕ, ◌+◌, ◌<◌, ◌≤◌, ◌⊎◌, ℤ, pos, suc, Bool, true, false, not, ◌&&◌, ◌||◌, List, length, refl, sym, ◌∙◌, ap, cond, arith, Some, inl, inr, unsigned_abs, neg_ℤ, int_eq}
+use Rattle.std.proofs.Common.{◌≡◌, ℕ, ℤ, pos, Bool, true, false, not, ◌&&◌, ◌||◌, List, length, refl, sym, ◌∙◌, ap, cond, arith, inl, inr, unsigned_abs, neg_ℤ, int_eq}
 use Rattle.std.specs.Bool.{nat_le}
 use Rattle.std.specs.Int.{is_negative}
 use Rattle.std.proofs.lemmas.Bool.{cond_both, or_cases}
@@ -9,7 +9,7 @@ use Rattle.pv_gate.specs.declared.netlist.Node.TheVariants.{True, And, Xor, Mux}
 use Rattle.pv_gate.specs.Node.{Names, true_literal, false_literal}
 use Rattle.pv_gate.specs.Netlist.{IsNetlist}
 use Rattle.pv_gate.specs.Value.{exclusive_or, literal_value, node_value, node_values, value_of}
-use Rattle.pv_gate.specs.Build.{Made, present, complemented, complemented_if, share, lower, higher, and_gate, or_gate, xor_gate, xor_made, choice_gate, mux_gate, mux_made}
+use Rattle.pv_gate.specs.Build.{lower, higher, and_gate, or_gate, xor_gate, xor_made, choice_gate, mux_gate, mux_made}
 use Rattle.pv_gate.proofs.Building.{Builds, builds_present, builds_same, builds_complemented, builds_complemented_if, builds_share, Names-neg, Names-abs, Names-lower, Names-higher, value_of-neg, value_of-true, value_of-false, value_of-abs, int_eq-true}
 
 -- ---- of one or two truth values

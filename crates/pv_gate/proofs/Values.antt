@@ -1,13 +1,11 @@
 -- A node keeps its value as nodes are put after it, and has the value that its operands make.
-use Rattle.std.proofs.Common.{◌≡◌, ℕ, ◌+◌, ◌<◌, ◌≤◌, ℤ, pos, negsuc, suc, zero, Bool, true, false, not, ◌&&◌, List, [], ◌∷◌, ◌++◌, length, take, get_or, refl, sym, ◌∙◌, ap, subst, cond, arith, Some, None, length-append, append_assoc, append-nil, unsigned_abs, neg_ℤ}
-use Rattle.std.specs.Int.{is_negative}
+use Rattle.std.proofs.Common.{◌≡◌, ℕ, ◌+◌, ◌<◌, ℤ, pos, negsuc, suc, zero, Bool, false, not, ◌&&◌, List, [], ◌∷◌, ◌++◌, length, take, get_or, refl, sym, ◌∙◌, ap, subst, cond, arith, Some, length-append, append_assoc}
 use Rattle.std.specs.List.{slice_get, fold}
-use Rattle.std.proofs.lemmas.List.{get_or_append_left, get_or_at, take_at, take-append-le}
+use Rattle.std.proofs.lemmas.List.{get_or_append_left, get_or_at, take_at}
 use Rattle.std.proofs.lemmas.List.Sums.{fold-append, fold_push}
-use Rattle.std.proofs.lemmas.Option.{slice_get_within}
 use Rattle.pv_gate.specs.declared.netlist.Node.{Node}
 use Rattle.pv_gate.specs.declared.netlist.Node.TheVariants.{True, Input, And, Xor, Mux}
-use Rattle.pv_gate.specs.Node.{Names, true_literal, false_literal}
+use Rattle.pv_gate.specs.Node.{Names}
 use Rattle.pv_gate.specs.Netlist.{IsNetlist, MayFollow}
 use Rattle.pv_gate.specs.Value.{exclusive_or, literal_value, node_value, node_values, value_of}
 

@@ -1,9 +1,9 @@
 -- Which literal `and`, `xor` and `mux` give over a list of nodes, and which nodes there are then. Constants and complements fold, and a node that is there is used again.
-use Rattle.std.specs.Prelude.{ℕ, ◌+◌, ◌<◌, suc, ℤ, pos, neg_ℤ, unsigned_abs, nat_le, Bool, ◌||◌, if◌then◌else◌, Option, None, Some, List, [], ◌∷◌, ◌++◌, length}
+use Rattle.std.specs.Prelude.{ℕ, ◌<◌, suc, ℤ, pos, neg_ℤ, unsigned_abs, nat_le, Bool, ◌||◌, if◌then◌else◌, Option, None, Some, List, [], ◌∷◌, ◌++◌, length}
 use Rattle.std.specs.Int.{is_negative}
 use Rattle.std.specs.Ordering.{int_eq}
 use Rattle.pv_gate.specs.declared.netlist.Node.{Node}
-use Rattle.pv_gate.specs.declared.netlist.Node.TheVariants.{True, Input, And, Xor, Mux}
+use Rattle.pv_gate.specs.declared.netlist.Node.TheVariants.{Input, And, Xor, Mux}
 use Rattle.pv_gate.specs.Value.{exclusive_or}
 use Rattle.pv_gate.specs.Netlist.{Netlist}
 use Rattle.pv_gate.specs.Node.{is_same, gate_count, input_count, true_literal, false_literal}

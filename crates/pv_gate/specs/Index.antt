@@ -1,7 +1,6 @@
 -- What the index and the counts beside a list of nodes say of it.
-use Rattle.std.specs.Prelude.{◌≡◌, ℕ, ◌+◌, ◌≤◌, ◌<◌, ◌^◌, ℤ, pos, List, length, Option, IsTrue}
+use Rattle.std.specs.Prelude.{◌≡◌, ℕ, ◌+◌, ◌≤◌, ℤ, pos, List, length, Option, IsTrue}
 use Rattle.std.specs.Option.{option_map}
-use Rattle.std.specs.BTreeMap.{BTreeMap}
 use Rattle.std.specs.Ordering.{nat_cmp, int_cmp, ordering_then}
 use Rattle.std.specs.declared.cmp.Ordering.{Ordering}
 use Rattle.std.specs.declared.cmp.Ordering.TheVariants.{Equal}

@@ -1,5 +1,5 @@
 -- Lists of nodes in which a node names only nodes before it.
-use Rattle.std.specs.Prelude.{◌≡◌, ℕ, ◌+◌, ◌≤◌, ◌<◌, ℤ, List, [], ◌∷◌, ◌++◌, length, take, Some, Option, slice_get, Bool, ◌&&◌, if◌then◌else◌}
+use Rattle.std.specs.Prelude.{◌≡◌, ℕ, ℤ, List, [], ◌++◌, length, take, Some, slice_get, Bool, ◌&&◌, if◌then◌else◌}
 use Rattle.pv_gate.specs.declared.netlist.Node.{Node}
 use Rattle.pv_gate.specs.declared.netlist.Node.TheVariants.{True, Input, And, Xor, Mux}
 use Rattle.pv_gate.specs.Node.{Names, input_count}

@@ -1,5 +1,5 @@
 -- Nodes and literals. A literal is a whole number: n is node number n, and -n the complement of node n.
-use Rattle.std.specs.Prelude.{◌≡◌, ℕ, ◌+◌, ◌≤◌, ◌<◌, ℤ, pos, negsuc, nat_eq, Bool, true, false, ◌&&◌, List, count_by, unsigned_abs}
+use Rattle.std.specs.Prelude.{ℕ, ◌≤◌, ℤ, pos, negsuc, nat_eq, Bool, true, false, ◌&&◌, List, count_by, unsigned_abs}
 use Rattle.std.specs.Ordering.{int_eq}
 use Rattle.pv_gate.specs.declared.netlist.Node.{Node}
 use Rattle.pv_gate.specs.declared.netlist.Node.TheVariants.{True, Input, And, Xor, Mux}

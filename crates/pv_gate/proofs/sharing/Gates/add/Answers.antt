@@ -1,4 +1,4 @@
-use Rattle.std.proofs.Common.{sym, ◌∙◌, ap, not, ◌≡◌, pos, suc, length, List}
+use Rattle.std.proofs.Common.{sym, ◌∙◌, ap, not, pos, suc, length}
 use Rattle.std.proofs.lemmas.Bool.{cond-true}
 use Rattle.pv_gate.specs.Netlist.{Netlist}
 use Rattle.pv_gate.proofs.Order.{derived_cmp}

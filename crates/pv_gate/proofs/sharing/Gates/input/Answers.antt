@@ -1,4 +1,4 @@
-use Rattle.std.proofs.Common.{sym, ◌∙◌, ap, not, to_z, of_z, w32}
+use Rattle.std.proofs.Common.{◌∙◌, ap, not, to_z, of_z, w32}
 use Rattle.std.proofs.lemmas.Bool.{cond-true}
 use Rattle.std.proofs.lemmas.Int.{to_z-of_z}
 use Rattle.pv_gate.specs.Node.{input_count}

@@ -1,7 +1,7 @@
 -- The literal has the value that the law on lists of nodes says.
-use Rattle.std.proofs.Common.{sym, ◌∙◌, ap, ◌&&◌, cond, to_z, of_z, w32}
+use Rattle.std.proofs.Common.{sym, ◌∙◌, ap, cond, to_z, of_z, w32}
 use Rattle.std.proofs.lemmas.Int.{to_z-of_z}
-use Rattle.pv_gate.specs.Value.{value_of, exclusive_or}
+use Rattle.pv_gate.specs.Value.{value_of}
 use Rattle.pv_gate.specs.Build.{mux_gate}
 use Rattle.pv_gate.proofs.Building.{Told, told_given}
 use Rattle.pv_gate.proofs.OperationValues.{mux_builds}

@@ -1,6 +1,6 @@
 use Rattle.std.proofs.Common.{◌≡◌, ◌<◌, ◌≤◌, ℕ, refl, sym, arith}
 use Rattle.std.proofs.lemmas.Bool.{true≢false}
-use Rattle.pv_gate.proofs.Given.{gives_present, gives_limit, gives_added, share_found, share_absent, number_of_none}
+use Rattle.pv_gate.proofs.Given.{gives_present, gives_limit, gives_added, share_found, share_absent}
 use Rattle.pv_gate.proofs.sharing.Gates.share.Goals as goal
 
 room : {m n : ℕ} → m ≤ n → (m ≡ n → ⊥) → m < n

@@ -1,5 +1,5 @@
 -- The literal has the value that the law on lists of nodes says.
-use Rattle.std.proofs.Common.{sym, ◌∙◌, ap, ◌&&◌, cond, to_z, of_z, w32}
+use Rattle.std.proofs.Common.{sym, ◌∙◌, ap, to_z, of_z, w32}
 use Rattle.std.proofs.lemmas.Int.{to_z-of_z}
 use Rattle.pv_gate.specs.Value.{value_of, exclusive_or}
 use Rattle.pv_gate.specs.Build.{xor_gate}
