@@ -1,0 +1,32 @@
+-- The literal has the value that the law on lists of nodes says.
+use Rattle.std.proofs.Common.{sym, ◌∙◌, ap, ◌&&◌, to_z, of_z, w32}
+use Rattle.std.proofs.lemmas.Int.{to_z-of_z}
+use Rattle.pv_gate.specs.Value.{value_of}
+use Rattle.pv_gate.specs.Build.{and_gate}
+use Rattle.pv_gate.proofs.Building.{Told, told_given}
+use Rattle.pv_gate.proofs.OperationValues.{and_builds}
+use Rattle.pv_gate.proofs.sharing.Gates.and.Goals as goal
+
+known : (c : goal.After-code) → Told c.args.self.now c.and_gate.new.self (λ inputs. value_of inputs c.args.self.now.nodes c.args.a && value_of inputs c.args.self.now.nodes c.args.b) (to_z w32 (of_z w32 c.code.result))
+known c =
+    told_given _ _ _ (and_gate c.args.self.now.nodes c.args.a c.args.b) _ _ _
+    (and_builds c.args.self.now.nodes c.args.a c.args.b c.literal-a.ensures.netlist c.requires.first c.requires.second)
+    (ap (λ a. and_gate c.args.self.now.nodes a c.args.b) (sym (c.literal-a.ensures.code ∙ to_z-of_z w32 c.args.a c.ranges.a))
+    ∙ ap (and_gate c.args.self.now.nodes c.literal-a.result.code) (sym (c.literal-b.ensures.code ∙ to_z-of_z w32 c.args.b c.ranges.b)))
+    c.in_ok-and_gate.ensures
+    (to_z-of_z w32 c.code.result (record { sfits = c.code.type_inv }) ∙ c.code.ensures)
+
+pub returns-clause-value : goal.returns-clause-value
+returns-clause-value c = (known c).value
+
+pub returns-clause-names : goal.returns-clause-names
+returns-clause-names c = (known c).names
+
+pub returns-clause-extends : goal.returns-clause-extends
+returns-clause-extends c = (known c).extends
+
+pub returns-clause-longer : goal.returns-clause-longer
+returns-clause-longer c = (known c).longer
+
+pub returns-clause-older : goal.returns-clause-older
+returns-clause-older c = (known c).older

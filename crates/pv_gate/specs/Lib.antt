@@ -1,0 +1,6 @@
+pub mod Node
+pub mod Value
+pub mod Netlist
+pub mod Build
+pub mod Index
+pub mod Given
