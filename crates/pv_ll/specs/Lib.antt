@@ -1,0 +1,5 @@
+pub mod Grammar
+pub mod Table
+pub mod Check
+pub mod Facts
+pub mod Reading
