@@ -2,3 +2,5 @@ pub mod Words
 pub mod Sets
 pub mod Steps
 pub mod Places
+pub mod Stack
+pub mod Faults

@@ -1,7 +1,10 @@
 -- The steps of the machine keep what the stack stands for.
-use Rattle.std.proofs.Common.{◌≡◌, ℕ, ◌+◌, ◌<◌, ◌≤◌, ◌^◌, Bool, true, false, cond, List, [], ◌∷◌, ◌++◌, length, map, Some, None, refl, ap, ◌∙◌, sym, append_assoc, arith, subst, zero, suc}
+use Rattle.std.proofs.Common.{◌≡◌, ℕ, ◌+◌, ◌<◌, ◌≤◌, ◌^◌, Bool, true, false, cond, List, [], ◌∷◌, ◌++◌, length, map, Some, None, Option, refl, ap, ◌∙◌, sym, append_assoc, arith, subst, zero, suc}
 use Rattle.std.specs.Prelude.{slice_get, bit_or, ◌&&◌}
+use Rattle.std.specs.Option.{option_map}
 use Rattle.std.specs.Int.{bit_at}
+use Rattle.std.proofs.lemmas.Option.{slice_get-map}
+use Rattle.std.proofs.lemmas.List.{append-nil}
 use Rattle.std.proofs.lemmas.Nat.Bits.{bit_at-pow_same}
 use Rattle.pv_ll.specs.declared.table.Symbol.{Symbol}
 use Rattle.pv_ll.specs.declared.table.Symbol.TheVariants.{Token, Name}
@@ -105,3 +108,76 @@ comes fits nothing after more h = h refl
 comes fits (token {t = t} d) after more h = bit_at-pow_same t
 comes {l} fits (name {n = n} {ss = ss} {body = body} {u = u} {v = v} {w = w} k p d f eq) after more h =
     comes_name l n ss k body (served fits p) u v w more after eq (vanishes fits d) (λ x. comes fits d x more) (comes fits f after more) h
+
+-- what a name on the stack does with what comes
+pub record Determined (l : Language) (n : ℕ) (ss : List Symbol) (w : List ℕ) : Type 0 where
+  pub k : ℕ
+  pub body : List Symbol
+  pub production : IsProduction (grammar_of l) k n body
+  pub served : ServesAs l k n body
+  pub takes : bit_at served.alternative.when (look l.kinds w) ≡ 1
+  pub derives : Derives (grammar_of l) (body ++ ss) w
+
+-- The next token determines the alternative.
+pub determined : {l : Language} → IsLL1 l → (n : ℕ) (ss : List Symbol) (w : List ℕ) → Followed l (2 ^ l.kinds) (Name n ∷ ss)
+    → Derives (grammar_of l) (Name n ∷ ss) w → Determined l n ss w
+determined {l} fits n ss w h d =
+    let x : Expansion (grammar_of l) n ss w = inv_name d in
+    let s : ServesAs l x.k n x.body = served fits x.production in
+    let behind_it : bit_at (rule l n).follow (look l.kinds x.rest) ≡ 1 =
+      h.0 (look l.kinds x.rest)
+        (subst (λ (z : List ℕ). bit_at (next l (2 ^ l.kinds) ss) (look l.kinds z) ≡ 1) (append-nil x.rest)
+          (comes fits x.others (2 ^ l.kinds) [] (λ e. bit_at-pow_same l.kinds))) in
+    let takes_it : bit_at s.alternative.when (look l.kinds (x.own ++ x.rest)) ≡ 1 =
+      s.predicted (look l.kinds (x.own ++ x.rest)) (comes fits x.derives (rule l n).follow x.rest (λ e. behind_it)) in
+    record {
+      k = x.k;
+      body = x.body;
+      production = x.production;
+      served = s;
+      takes = subst (λ (z : List ℕ). bit_at s.alternative.when (look l.kinds z) ≡ 1) (sym x.whole) takes_it;
+      derives = subst (λ (z : List ℕ). Derives (grammar_of l) (x.body ++ ss) z) (sym x.whole) (join x.derives x.others);
+    }
+
+next_append : (l : Language) (before after : ℕ) (ss : List Symbol) → IsSubset (next l before ss) after → (b : List Symbol)
+    → IsSubset (next l before (b ++ ss)) (next l after b)
+next_append l before after ss h [] = h
+next_append l before after ss h (Token t ∷ b) = λ x i. i
+next_append l before after ss h (Name n ∷ b) =
+    subset_or (rule l n).nullable (rule l n).first (next l before (b ++ ss)) (next l after b) (next_append l before after ss h b)
+
+pub followed_append : (l : Language) (before after : ℕ) (ss : List Symbol) → IsSubset (next l before ss) after → (b : List Symbol)
+    → Followed l after b → Followed l before ss → Followed l before (b ++ ss)
+followed_append l before after ss h [] f g = g
+followed_append l before after ss h (Token t ∷ b) f g = followed_append l before after ss h b f g
+followed_append l before after ss h (Name n ∷ b) f g =
+    (λ t i. f.0 t (next_append l before after ss h b t i), followed_append l before after ss h b f.1 g)
+
+add_front : (x y : Bool) (w p q r : ℕ) → p ≤ q + cond y r 0 → w + cond x p 0 ≤ (w + cond x q 0) + cond (x && y) r 0
+add_front true y w p q r h = omega (arith, h)
+add_front false y w p q r h = omega arith
+
+front_append : (l : Language) (b ss : List Symbol) → front l (b ++ ss) ≤ front l b + cond (vanish l b) (front l ss) 0
+front_append l [] ss = omega arith
+front_append l (Token t ∷ b) ss = omega arith
+front_append l (Name n ∷ b) ss =
+    add_front (rule l n).nullable (vanish l b) (rule l n).weight (front l (b ++ ss)) (front l b) (front l ss) (front_append l b ss)
+
+less_front : (v x : Bool) (f b s w : ℕ) → (v ≡ true → x ≡ true) → b < w → f ≤ b + cond v s 0 → f < w + cond x s 0
+less_front true true f b s w n h i = omega arith
+less_front true false f b s w n h i = absurd (cc (n refl))
+less_front false x f b s w n h i = omega (arith)
+
+-- A body weighs less than the name that it stands for.
+pub front_falls : {l : Language} {k n : ℕ} {body : List Symbol} → ServesAs l k n body → (ss : List Symbol)
+    → front l (body ++ ss) < front l (Name n ∷ ss)
+front_falls {l} {k} {n} {body} s ss =
+    less_front (vanish l body) (rule l n).nullable (front l (body ++ ss)) (front l body) (front l ss) (rule l n).weight
+      s.nullable s.falls (front_append l body ss)
+
+-- an alternative is a production
+pub production_at : (l : Language) (k n : ℕ) (a : Alternative) → Selects l k a → a.name ≡ n → IsProduction (grammar_of l) k n (body_of l a)
+production_at l k n a s e =
+    slice_get-map (production_of l) l.alternatives.now k
+    ∙ ap (λ (x : Option Alternative). option_map (production_of l) x) s
+    ∙ ap (λ (m : ℕ). Some (m ⟶ body_of l a)) e

@@ -1,5 +1,5 @@
 -- Context-free grammars, what they derive, and what an exact recognizer answers. Nothing here is of a table.
-use Rattle.std.specs.Prelude.{◌≡◌, ℕ, ◌<◌, ◌≤◌, ◌+◌, List, [], ◌∷◌, ◌++◌, length, take, Some, slice_get}
+use Rattle.std.specs.Prelude.{◌≡◌, ℕ, ◌<◌, ◌≤◌, ◌+◌, List, [], ◌∷◌, ◌++◌, length, take, Some, slice_get, Result, Ok, Err}
 use Rattle.pv_ll.specs.declared.table.Symbol.{Symbol}
 use Rattle.pv_ll.specs.declared.table.Symbol.TheVariants.{Token, Name}
 
@@ -40,3 +40,8 @@ pub record IsFault (g : Grammar) (start : ℕ) (tokens : List ℕ) (i : ℕ) : T
   pub exact : i < length tokens → (w : List ℕ) → IsSentence g start (take (i + 1) tokens ++ w) → ⊥
   -- the tokens alone are none either
   pub no_sentence : IsSentence g start tokens → ⊥
+
+-- What a recognizer answers: the tokens are a text, or which of them is at fault.
+abbrev pub IsExact : {X : Type 0} → Grammar → ℕ → List ℕ → Result X ℕ → Type 0
+IsExact g start tokens (Ok x) = IsSentence g start tokens
+IsExact g start tokens (Err i) = IsFault g start tokens i

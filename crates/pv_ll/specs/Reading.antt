@@ -41,6 +41,10 @@ StandsFor l read ss = (token : ℕ) → Stands l read token ss
 abbrev pub IsStuck : Language → List ℕ → ℕ → Type 0
 IsStuck l read token = (w : List ℕ) → look l.kinds w ≡ token → IsText l (read ++ w) → ⊥
 
+-- no text has this token here; the end is no token, whatever its number
+abbrev pub IsRefused : Language → List ℕ → ℕ → Type 0
+IsRefused l read token = (w : List ℕ) → IsText l (read ++ token ∷ w) → ⊥
+
 -- what the stack says must come, and what stands on it then
 abbrev pub Expects : Language → List ℕ → ℕ → List Symbol → Expected → Type 0
 Expects l read token ss (ThisToken t) = Stands l read token (Token t ∷ ss)
@@ -50,7 +54,7 @@ Expects l read token ss NoMore = IsStuck l read token
 -- the token was taken, or no text goes on with it
 abbrev pub Takes : Language → List ℕ → ℕ → List Symbol → Bool → Type 0
 Takes l read token ss true = StandsFor l (read ++ token ∷ []) ss
-Takes l read token ss false = IsStuck l read token
+Takes l read token ss false = IsRefused l read token
 
 -- alternative k is one of the name, and the token takes it
 abbrev pub Chosen : Language → ℕ → ℕ → ℕ → Type 0

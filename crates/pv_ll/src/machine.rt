@@ -1,11 +1,11 @@
 //! The machine: a stack of symbols on the heap, and one token of lookahead.
-ghost use Rattle.std.specs.Prelude.{◌≡◌, ℕ, ◌<◌, ◌++◌, ◌∷◌, [], length, Some, List, IfOk, OnOk, IfSome, IfNone, IsTrue, MatchOption, drop};
+ghost use Rattle.std.specs.Prelude.{◌≡◌, ℕ, ◌<◌, ◌++◌, ◌∷◌, [], length, Some, List, IfOk, OnOk, IfSome, IfNone, IsTrue, MatchOption, drop, ◌↔◌};
 ghost use Rattle.std.specs.Int.{bit_at};
-ghost use Rattle.pv_ll.specs.Grammar.{IsSentence};
+ghost use Rattle.pv_ll.specs.Grammar.{IsExact};
 ghost use Rattle.pv_ll.specs.Table.{grammar_of, body_of};
 ghost use Rattle.pv_ll.specs.Check.{is_ll1};
 ghost use Rattle.pv_ll.specs.Facts.{IsLL1, Selects};
-ghost use Rattle.pv_ll.specs.Reading.{stack_of, Stands, StandsFor, Expects, Takes, Chosen, NoneFits};
+ghost use Rattle.pv_ll.specs.Reading.{IsText, stack_of, Stands, StandsFor, Expects, Takes, Chosen, NoneFits};
 
 use crate::table::{Alternative, Language, Symbol, body, contains, rule_of};
 use std::alloc::{AllocError, Global};
@@ -43,4 +43,76 @@ fn push_body(body: &[Symbol], stack: &mut Vec<Symbol>) -> Result<(), AllocError>
         stack.push(*symbol)?;
     }
     Ok(())
+}
+
+/// Takes the top of the stack.
+fn pop(stack: &mut Vec<Symbol>) -> Option<Symbol>
+    ensures some { IfSome result (λ symbol. stack_of stack.old ≡ symbol ∷ stack_of stack.new) }
+    ensures none { IfNone result (stack_of stack.old ≡ []) }
+{
+    stack.pop()
+}
+
+/// Replaces the names on top of the stack by the bodies that the next token takes, until a token or nothing stands there.
+fn expand(language: &Language, token: u8, stack: &mut Vec<Symbol>) -> Result<Expected, AllocError>
+    requires { IsLL1 language.now }
+    ensures { IfOk result (λ found. (read : List ℕ) → Stands language.now read token (stack_of stack.old)
+        → Expects language.now read token (stack_of stack.new) found) }
+{
+    while let Some(symbol) = pop(stack) {
+        let name = match symbol {
+            Symbol::Token(kind) => return Ok(Expected::ThisToken(kind)),
+            Symbol::Name(name) => name,
+        };
+        let Some(k) = choose(language, name, token) else {
+            return Ok(Expected::NoMore);
+        };
+        push_body(body(language, &language.alternatives[k as usize]), stack)?;
+    }
+    Ok(Expected::TheEnd)
+}
+
+/// Whether a text goes on with this token, which is then taken.
+fn take_token(language: &Language, token: u8, stack: &mut Vec<Symbol>) -> Result<bool, AllocError>
+    requires { IsLL1 language.now }
+    ensures { IfOk result (λ yes. (read : List ℕ) → StandsFor language.now read (stack_of stack.old)
+        → Takes language.now read token (stack_of stack.new) yes) }
+{
+    match expand(language, token, stack)? {
+        Expected::ThisToken(kind) => Ok(kind == token),
+        Expected::TheEnd => Ok(false),
+        Expected::NoMore => Ok(false),
+    }
+}
+
+/// Whether the text may end here.
+fn take_end(language: &Language, stack: &mut Vec<Symbol>) -> Result<bool, AllocError>
+    requires { IsLL1 language.now }
+    ensures { IfOk result (λ yes. (read : List ℕ) → StandsFor language.now read (stack_of stack.old) → (IsTrue yes ↔ IsText language.now read)) }
+{
+    match expand(language, language.kinds, stack)? {
+        Expected::TheEnd => Ok(true),
+        Expected::ThisToken(_) => Ok(false),
+        Expected::NoMore => Ok(false),
+    }
+}
+
+/// Reads a whole text. `Err(i)` says that token i, counted from 0, is the first with which no text goes on; i is the
+/// number of tokens where the text ends too early. The error is `AllocError` where memory runs out.
+fn run(alloc: Global, language: &Language, kinds: &[u8]) -> Result<Result<(), usize>, AllocError>
+    requires { IsLL1 language.now }
+    ensures { IfOk result (IsExact (grammar_of language.now) language.now.start kinds.now) }
+{
+    let mut stack = Vec::new(alloc);
+    stack.push(Symbol::Name(language.start))?;
+    for (i, kind) in kinds.iter().enumerate() {
+        if !take_token(language, *kind, &mut stack)? {
+            return Ok(Err(i));
+        }
+    }
+    if take_end(language, &mut stack)? {
+        Ok(Ok(()))
+    } else {
+        Ok(Err(kinds.len()))
+    }
 }
