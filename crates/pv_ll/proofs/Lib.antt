@@ -4,3 +4,4 @@ pub mod Steps
 pub mod Places
 pub mod Stack
 pub mod Faults
+pub mod Tested
