@@ -1,5 +1,6 @@
 -- Context-free grammars, what they derive, and what an exact recognizer answers. Nothing here is of a table.
-use Rattle.std.specs.Prelude.{◌≡◌, ℕ, ◌<◌, ◌≤◌, ◌+◌, List, [], ◌∷◌, ◌++◌, length, take, Some, slice_get, Result, Ok, Err}
+use Rattle.std.specs.Prelude.{◌≡◌, ℕ, ◌<◌, ◌≤◌, ◌+◌, List, [], ◌∷◌, ◌++◌, length, take, Some, slice_get, Result, Ok, Err, Vec}
+use Rattle.std.specs.declared.alloc.Global.{Global}
 use Rattle.pv_ll.specs.declared.table.Symbol.{Symbol}
 use Rattle.pv_ll.specs.declared.table.Symbol.TheVariants.{Token, Name}
 
@@ -27,6 +28,13 @@ pub data Derives (g : Grammar) : List Symbol → List ℕ → Type 0 where
   name : {n : ℕ} {ss body : List Symbol} {u v w : List ℕ} → (k : ℕ) → IsProduction g k n body
     → Derives g body u → Derives g ss v → w ≡ u ++ v → Derives g (Name n ∷ ss) w
 
+-- The leftmost derivation: the numbers of the productions in the order in which each is put in place of the first name.
+pub data Leftmost (g : Grammar) : List ℕ → List Symbol → List ℕ → Type 0 where
+  done : Leftmost g [] [] []
+  passed : {t : ℕ} {trace : List ℕ} {ss : List Symbol} {w : List ℕ} → Leftmost g trace ss w → Leftmost g trace (Token t ∷ ss) (t ∷ w)
+  put : {n : ℕ} {trace : List ℕ} {ss body : List Symbol} {w : List ℕ} → (k : ℕ) → IsProduction g k n body
+    → Leftmost g trace (body ++ ss) w → Leftmost g (k ∷ trace) (Name n ∷ ss) w
+
 -- The tokens are a text of the language.
 abbrev pub IsSentence : Grammar → ℕ → List ℕ → Type 0
 IsSentence g start w = Derives g (Name start ∷ []) w
@@ -41,7 +49,7 @@ pub record IsFault (g : Grammar) (start : ℕ) (tokens : List ℕ) (i : ℕ) : T
   -- the tokens alone are none either
   pub no_sentence : IsSentence g start tokens → ⊥
 
--- What a recognizer answers: the tokens are a text, or which of them is at fault.
-abbrev pub IsExact : {X : Type 0} → Grammar → ℕ → List ℕ → Result X ℕ → Type 0
-IsExact g start tokens (Ok x) = IsSentence g start tokens
+-- What a recognizer answers: the tokens are a text, and how it is derived; or which of them is at fault.
+abbrev pub IsExact : Grammar → ℕ → List ℕ → Result (Vec ℕ Global) ℕ → Type 0
+IsExact g start tokens (Ok trace) = IsSentence g start tokens × Leftmost g trace.items (Name start ∷ []) tokens
 IsExact g start tokens (Err i) = IsFault g start tokens i

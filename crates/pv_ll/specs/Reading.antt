@@ -6,7 +6,7 @@ use Rattle.pv_ll.specs.declared.table.Symbol.TheVariants.{Token, Name}
 use Rattle.pv_ll.specs.declared.table.Language.{Language}
 use Rattle.pv_ll.specs.declared.machine.Expected.{Expected}
 use Rattle.pv_ll.specs.declared.machine.Expected.TheVariants.{ThisToken, TheEnd, NoMore}
-use Rattle.pv_ll.specs.Grammar.{Derives, IsSentence}
+use Rattle.pv_ll.specs.Grammar.{Derives, Leftmost, IsSentence}
 use Rattle.pv_ll.specs.Table.{grammar_of}
 use Rattle.std.specs.Int.{bit_at}
 use Rattle.pv_ll.specs.declared.table.Alternative.{Alternative}
@@ -24,18 +24,20 @@ stack_of v = reverse v.items
 abbrev pub IsText : Language → List ℕ → Type 0
 IsText l w = IsSentence (grammar_of l) l.start w
 
--- After what was read, with this token next, the symbols stand for what is still to come.
-pub record Stands (l : Language) (read : List ℕ) (token : ℕ) (ss : List Symbol) : Type 0 where
+-- After what was read by these productions, with this token next, the symbols stand for what is still to come.
+pub record Stands (l : Language) (trace read : List ℕ) (token : ℕ) (ss : List Symbol) : Type 0 where
   -- what they derive completes a text
   pub gives : (w : List ℕ) → Derives (grammar_of l) ss w → IsText l (read ++ w)
+  -- and the trace with what they derive it by is a trace of it
+  pub replays : (more w : List ℕ) → Leftmost (grammar_of l) more ss w → Leftmost (grammar_of l) (trace ++ more) (Name l.start ∷ []) (read ++ w)
   -- nothing else does that begins with this token
   pub only : (w : List ℕ) → look l.kinds w ≡ token → IsText l (read ++ w) → Derives (grammar_of l) ss w
   pub followed : Followed l (2 ^ l.kinds) ss
   pub lives : Lives (grammar_of l) ss
 
 -- whatever token comes next
-abbrev pub StandsFor : Language → List ℕ → List Symbol → Type 0
-StandsFor l read ss = (token : ℕ) → Stands l read token ss
+abbrev pub StandsFor : Language → List ℕ → List ℕ → List Symbol → Type 0
+StandsFor l trace read ss = (token : ℕ) → Stands l trace read token ss
 
 -- no text goes on with this token
 abbrev pub IsStuck : Language → List ℕ → ℕ → Type 0
@@ -46,15 +48,20 @@ abbrev pub IsRefused : Language → List ℕ → ℕ → Type 0
 IsRefused l read token = (w : List ℕ) → IsText l (read ++ token ∷ w) → ⊥
 
 -- what the stack says must come, and what stands on it then
-abbrev pub Expects : Language → List ℕ → ℕ → List Symbol → Expected → Type 0
-Expects l read token ss (ThisToken t) = Stands l read token (Token t ∷ ss)
-Expects l read token ss TheEnd = Stands l read token []
-Expects l read token ss NoMore = IsStuck l read token
+abbrev pub Expects : Language → List ℕ → List ℕ → ℕ → List Symbol → Expected → Type 0
+Expects l trace read token ss (ThisToken t) = Stands l trace read token (Token t ∷ ss)
+Expects l trace read token ss TheEnd = Stands l trace read token []
+Expects l trace read token ss NoMore = IsStuck l read token
 
 -- the token was taken, or no text goes on with it
-abbrev pub Takes : Language → List ℕ → ℕ → List Symbol → Bool → Type 0
-Takes l read token ss true = StandsFor l (read ++ token ∷ []) ss
-Takes l read token ss false = IsRefused l read token
+abbrev pub Takes : Language → List ℕ → List ℕ → ℕ → List Symbol → Bool → Type 0
+Takes l trace read token ss true = StandsFor l trace (read ++ token ∷ []) ss
+Takes l trace read token ss false = IsRefused l read token
+
+-- the text is whole here, and the trace is its own
+abbrev pub Ends : Language → List ℕ → List ℕ → Bool → Type 0
+Ends l trace read true = IsText l read × Leftmost (grammar_of l) trace (Name l.start ∷ []) read
+Ends l trace read false = IsText l read → ⊥
 
 -- alternative k is one of the name, and the token takes it
 abbrev pub Chosen : Language → ℕ → ℕ → ℕ → Type 0

@@ -5,4 +5,5 @@ mod machine;
 mod table;
 
 
+pub use machine::{Trace, recognize};
 pub use table::{Alternative, Language, Rule, Symbol};

@@ -5,10 +5,13 @@ ghost use Rattle.pv_ll.specs.Grammar.{IsExact};
 ghost use Rattle.pv_ll.specs.Table.{grammar_of, body_of};
 ghost use Rattle.pv_ll.specs.Check.{is_ll1};
 ghost use Rattle.pv_ll.specs.Facts.{IsLL1, Selects};
-ghost use Rattle.pv_ll.specs.Reading.{IsText, stack_of, Stands, StandsFor, Expects, Takes, Chosen, NoneFits};
+ghost use Rattle.pv_ll.specs.Reading.{IsText, stack_of, Stands, StandsFor, Expects, Takes, Ends, Chosen, NoneFits};
 
 use crate::table::{Alternative, Language, Symbol, body, contains, rule_of};
 use std::alloc::{AllocError, Global};
+
+/// How a text is derived: the numbers of the alternatives taken, in the order of a leftmost derivation.
+pub type Trace = Vec<u16>;
 
 /// What the stack says must come next.
 pub enum Expected {
@@ -54,10 +57,15 @@ fn pop(stack: &mut Vec<Symbol>) -> Option<Symbol>
 }
 
 /// Replaces the names on top of the stack by the bodies that the next token takes, until a token or nothing stands there.
-fn expand(language: &Language, token: u8, stack: &mut Vec<Symbol>) -> Result<Expected, AllocError>
+fn expand(
+    language: &Language,
+    token: u8,
+    stack: &mut Vec<Symbol>,
+    trace: &mut Trace,
+) -> Result<Expected, AllocError>
     requires { IsLL1 language.now }
-    ensures { IfOk result (λ found. (read : List ℕ) → Stands language.now read token (stack_of stack.old)
-        → Expects language.now read token (stack_of stack.new) found) }
+    ensures { IfOk result (λ found. (read : List ℕ) → Stands language.now trace.old.items read token (stack_of stack.old)
+        → Expects language.now trace.new.items read token (stack_of stack.new) found) }
 {
     while let Some(symbol) = pop(stack) {
         let name = match symbol {
@@ -67,18 +75,24 @@ fn expand(language: &Language, token: u8, stack: &mut Vec<Symbol>) -> Result<Exp
         let Some(k) = choose(language, name, token) else {
             return Ok(Expected::NoMore);
         };
+        trace.push(k)?;
         push_body(body(language, &language.alternatives[k as usize]), stack)?;
     }
     Ok(Expected::TheEnd)
 }
 
 /// Whether a text goes on with this token, which is then taken.
-fn take_token(language: &Language, token: u8, stack: &mut Vec<Symbol>) -> Result<bool, AllocError>
+fn take_token(
+    language: &Language,
+    token: u8,
+    stack: &mut Vec<Symbol>,
+    trace: &mut Trace,
+) -> Result<bool, AllocError>
     requires { IsLL1 language.now }
-    ensures { IfOk result (λ yes. (read : List ℕ) → StandsFor language.now read (stack_of stack.old)
-        → Takes language.now read token (stack_of stack.new) yes) }
+    ensures { IfOk result (λ yes. (read : List ℕ) → StandsFor language.now trace.old.items read (stack_of stack.old)
+        → Takes language.now trace.new.items read token (stack_of stack.new) yes) }
 {
-    match expand(language, token, stack)? {
+    match expand(language, token, stack, trace)? {
         Expected::ThisToken(kind) => Ok(kind == token),
         Expected::TheEnd => Ok(false),
         Expected::NoMore => Ok(false),
@@ -86,11 +100,11 @@ fn take_token(language: &Language, token: u8, stack: &mut Vec<Symbol>) -> Result
 }
 
 /// Whether the text may end here.
-fn take_end(language: &Language, stack: &mut Vec<Symbol>) -> Result<bool, AllocError>
+fn take_end(language: &Language, stack: &mut Vec<Symbol>, trace: &mut Trace) -> Result<bool, AllocError>
     requires { IsLL1 language.now }
-    ensures { IfOk result (λ yes. (read : List ℕ) → StandsFor language.now read (stack_of stack.old) → (IsTrue yes ↔ IsText language.now read)) }
+    ensures { IfOk result (λ yes. (read : List ℕ) → StandsFor language.now trace.old.items read (stack_of stack.old) → Ends language.now trace.new.items read yes) }
 {
-    match expand(language, language.kinds, stack)? {
+    match expand(language, language.kinds, stack, trace)? {
         Expected::TheEnd => Ok(true),
         Expected::ThisToken(_) => Ok(false),
         Expected::NoMore => Ok(false),
@@ -99,20 +113,35 @@ fn take_end(language: &Language, stack: &mut Vec<Symbol>) -> Result<bool, AllocE
 
 /// Reads a whole text. `Err(i)` says that token i, counted from 0, is the first with which no text goes on; i is the
 /// number of tokens where the text ends too early. The error is `AllocError` where memory runs out.
-fn run(alloc: Global, language: &Language, kinds: &[u8]) -> Result<Result<(), usize>, AllocError>
+fn run(alloc: Global, language: &Language, kinds: &[u8]) -> Result<Result<Trace, usize>, AllocError>
     requires { IsLL1 language.now }
     ensures { IfOk result (IsExact (grammar_of language.now) language.now.start kinds.now) }
 {
+    let mut trace = Vec::new(alloc);
     let mut stack = Vec::new(alloc);
     stack.push(Symbol::Name(language.start))?;
     for (i, kind) in kinds.iter().enumerate() {
-        if !take_token(language, *kind, &mut stack)? {
+        if !take_token(language, *kind, &mut stack, &mut trace)? {
             return Ok(Err(i));
         }
     }
-    if take_end(language, &mut stack)? {
-        Ok(Ok(()))
+    if take_end(language, &mut stack, &mut trace)? {
+        Ok(Ok(trace))
     } else {
         Ok(Err(kinds.len()))
     }
+}
+
+/// Reads a whole text, given by the kinds of its tokens. `Ok` has the alternatives that derive it. `Err(i)` says that
+/// token i, counted from 0, is the first with which no text goes on; i is the number of tokens where the text ends too
+/// early. The outer error comes where memory runs out. A kind that the language doesn't have is a fault like any other.
+pub fn recognize(
+    alloc: Global,
+    language: &Language,
+    kinds: &[u8],
+) -> Result<Result<Trace, usize>, AllocError>
+    requires { IsTrue (is_ll1 language.now) }
+    ensures { IfOk result (IsExact (grammar_of language.now) language.now.start kinds.now) }
+{
+    run(alloc, language, kinds)
 }

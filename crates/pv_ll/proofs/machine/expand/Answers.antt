@@ -13,12 +13,12 @@ none = record { name = 0; when = 0; from = 0; to = 0 }
 pub returns-in-Token : goal.returns-in-Token
 returns-in-Token c read h =
     let e : stack_of c.loop-symbol.stack ≡ Token c.in-Token.kind ∷ stack_of c.pop.new.stack = cc (c.in-Some.ensures.some) in
-    on_stack _ read _ _ _ e (c.loop-symbol.invariant read h)
+    on_stack _ _ read _ _ _ e (c.loop-symbol.invariant read h)
 
 pub returns-in_default-choose : goal.returns-in_default-choose
 returns-in_default-choose c read h =
     let e : stack_of c.loop-symbol.stack ≡ Name c.in-Name.name ∷ stack_of c.pop.new.stack = cc (c.in-Some.ensures.some) in
-    stuck_name c.requires read c.args.token c.in-Name.name _ c.in_default-choose.ensures.none (on_stack _ read _ _ _ e (c.loop-symbol.invariant read h))
+    stuck_name c.requires _ read c.args.token c.in-Name.name _ c.in_default-choose.ensures.none (on_stack _ _ read _ _ _ e (c.loop-symbol.invariant read h))
 
 pub bounds-language-k : goal.bounds-language-k
 bounds-language-k c = chosen_within c.args.language.now c.in-Name.name c.args.token c.in-Some-choose.k c.in-Some-choose.ensures.found
@@ -39,7 +39,7 @@ pub loop-symbol-preserved : goal.loop-symbol-preserved
 loop-symbol-preserved c read h =
     let e : stack_of c.loop-symbol.stack ≡ Name c.in-Name.name ∷ stack_of c.pop.new.stack = cc (c.in-Some.ensures.some) in
     let f : stack_of c.push_body.new.stack ≡ body_of c.args.language.now (get_or c.args.language.now.alternatives.now c.in-Some-choose.k none) ++ stack_of c.pop.new.stack = cc (c.in_ok-push_body.ensures, c.body.ensures) in
-    step c.requires read c.args.token c.in-Name.name c.in-Some-choose.k _ c.in-Some-choose.ensures.found _ _ _ e f (c.loop-symbol.invariant read h)
+    step c.requires _ read c.args.token c.in-Name.name c.in-Some-choose.k _ c.in-Some-choose.ensures.found _ _ _ e f _ c.in_ok-push.ensures.items (c.loop-symbol.invariant read h)
 
 pub returns : goal.returns
-returns c read h = on_stack _ read _ _ _ c.in_default.ensures.none (c.loop-symbol.invariant read h)
+returns c read h = on_stack _ _ read _ _ _ c.in_default.ensures.none (c.loop-symbol.invariant read h)

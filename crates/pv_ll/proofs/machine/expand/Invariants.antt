@@ -8,4 +8,5 @@ decreases-loop-symbol l = front l.language (stack_of l.stack)
 
 abbrev pub invariant-loop-symbol : goal.invariant-loop-symbol
 invariant-loop-symbol l =
-    (read : List ℕ) → Stands l.language read l.token (stack_of l.initial.stack) → Stands l.language read l.token (stack_of l.stack)
+    (read : List ℕ) → Stands l.language l.initial.trace.items read l.token (stack_of l.initial.stack)
+    → Stands l.language l.trace.items read l.token (stack_of l.stack)
