@@ -15,7 +15,7 @@ use Rattle.pv_ll.specs.declared.table.Language.{Language}
 use Rattle.pv_ll.specs.Grammar.{Grammar, Derives, IsSentence, IsProduction}
 use Rattle.pv_ll.specs.Grammar.Derives.{nothing, name}
 use Rattle.pv_ll.specs.Table.{part, body_of, grammar_of, rule, no_rule, vanish, next, front}
-use Rattle.pv_ll.specs.Check.{is_subset, has_name, one_round, rounds, live_names, are_followed, serves, is_apart, are_apart, are_placed, own_their_parts, is_ll1}
+use Rattle.pv_ll.specs.Check.{is_subset, is_among, one_round, rounds, live_names, are_followed, serves, is_apart, are_apart, are_placed, own_their_parts, is_ll1}
 use Rattle.pv_ll.specs.Facts.{IsLL1, Serves, Selects, IsSubset, Followed, Lives}
 use Rattle.pv_ll.proofs.Sets.{subset_from, disjoint}
 use Rattle.pv_ll.proofs.Words.{Word, live_word}
@@ -33,12 +33,12 @@ subset x y h = subset_from x y (eqb-true (bit_or x y) y h)
 Sound : Language → ℕ → Type 0
 Sound l names = (n : ℕ) → bit_at names n ≡ 1 → (w : List ℕ) × IsSentence (grammar_of l) n w
 
-live_body : (l : Language) (names : ℕ) → Sound l names → (ss : List Symbol) → list_all (has_name names) ss ≡ true → Lives (grammar_of l) ss
+live_body : (l : Language) (names : ℕ) → Sound l names → (ss : List Symbol) → list_all (is_among l.kinds names) ss ≡ true → Lives (grammar_of l) ss
 unfolding Sound
 live_body l names s [] h = tt
-live_body l names s (Token t ∷ ss) h = live_body l names s ss (and_parts true (list_all (has_name names) ss) h).1
+live_body l names s (Token t ∷ ss) h = live_body l names s ss (and_parts (nat_lt t l.kinds) (list_all (is_among l.kinds names) ss) h).1
 live_body l names s (Name n ∷ ss) h =
-    let p = and_parts (bit_at names n == 1) (list_all (has_name names) ss) h in
+    let p = and_parts (bit_at names n == 1) (list_all (is_among l.kinds names) ss) h in
     (s n (eqb-true (bit_at names n) 1 p.0), live_body l names s ss p.1)
 
 add_name : (l : Language) (names n k : ℕ) (body : List Symbol) → IsProduction (grammar_of l) k n body → Sound l names → (b : Bool)
@@ -56,7 +56,7 @@ sound_round : (l : Language) (rest : List Alternative) → ((j : ℕ) (a : Alter
 sound_round l [] h names s = s
 sound_round l (a ∷ rest) h names s =
     let here = h 0 a refl in
-    let b : Bool = list_all (has_name names) (body_of l a) in
+    let b : Bool = list_all (is_among l.kinds names) (body_of l a) in
     sound_round l rest (λ j x e. h (suc j) x e) (cond b (bit_or names (2 ^ a.name)) names)
       (add_name l names a.name here.0 (body_of l a) (production_at l here.0 a.name a here.1 refl) s b (λ e. live_body l names s (body_of l a) e))
 
@@ -85,7 +85,7 @@ serves_from l live a sound h =
     let b3 : Bool = not (vanish l body) || r.nullable in
     let b4 : Bool = are_followed l r.follow body in
     let b5 : Bool = nat_lt (front l body) r.weight in
-    let b6 : Bool = list_all (has_name live) body in
+    let b6 : Bool = list_all (is_among l.kinds live) body in
     let b7 : Bool = nat_le a.from a.to in
     let b8 : Bool = nat_le a.to (length l.symbols.now) in
     let p7 = and_parts (b1 && b2 && b3 && b4 && b5 && b6 && b7) b8 h in

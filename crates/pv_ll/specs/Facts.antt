@@ -1,4 +1,4 @@
--- What the test of a table makes sure of, as facts.
+-- what the test of a table makes sure of, as facts
 use Rattle.std.specs.Prelude.{◌≡◌, ℕ, ◌<◌, ◌≤◌, true, List, [], ◌∷◌, length, Some, slice_get, slice_index_or}
 use Rattle.std.specs.Int.{bit_at}
 use Rattle.pv_ll.specs.declared.table.Symbol.{Symbol}

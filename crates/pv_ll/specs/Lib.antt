@@ -3,3 +3,4 @@ pub mod Table
 pub mod Check
 pub mod Facts
 pub mod Reading
+pub mod Sample

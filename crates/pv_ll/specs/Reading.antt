@@ -1,4 +1,4 @@
--- What the machine's stack stands for, as languages.
+-- what the machine's stack stands for, as languages
 use Rattle.std.specs.Prelude.{◌≡◌, ℕ, ◌^◌, Bool, true, false, List, [], ◌∷◌, ◌++◌, reverse, Vec}
 use Rattle.std.specs.declared.alloc.Global.{Global}
 use Rattle.pv_ll.specs.declared.table.Symbol.{Symbol}
@@ -24,7 +24,7 @@ stack_of v = reverse v.items
 abbrev pub IsText : Language → List ℕ → Type 0
 IsText l w = IsSentence (grammar_of l) l.start w
 
--- After what was read by these productions, with this token next, the symbols stand for what is still to come.
+-- after what was read by these productions, with this token next, the symbols stand for what is still to come
 pub record Stands (l : Language) (trace read : List ℕ) (token : ℕ) (ss : List Symbol) : Type 0 where
   -- what they derive completes a text
   pub gives : (w : List ℕ) → Derives (grammar_of l) ss w → IsText l (read ++ w)

@@ -1,4 +1,4 @@
--- What a table says: its grammar, and the sets and weights of lists of symbols.
+-- what a table says: its grammar, and the sets and weights of lists of symbols
 use Rattle.std.specs.Prelude.{ℕ, ◌+◌, ◌-◌, ◌^◌, Bool, true, false, if◌then◌else◌, ◌&&◌, List, [], ◌∷◌, take, drop, map, slice_index_or, bit_or}
 use Rattle.pv_ll.specs.declared.table.Symbol.{Symbol}
 use Rattle.pv_ll.specs.declared.table.Symbol.TheVariants.{Token, Name}
@@ -18,7 +18,7 @@ body_of l a = part l.symbols.now a.from a.to
 abbrev pub production_of : Language → Alternative → Production
 production_of l a = a.name ⟶ body_of l a
 
--- The grammar that a table holds: an alternative is a production.
+-- the grammar that a table holds: an alternative is a production
 abbrev pub grammar_of : Language → Grammar
 grammar_of l = map (production_of l) l.alternatives.now
 

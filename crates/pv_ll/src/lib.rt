@@ -2,8 +2,9 @@
 #![tactic(auto)]
 
 mod machine;
+mod sample;
 mod table;
 
-
 pub use machine::{Trace, recognize};
+pub use sample::recognize_sample;
 pub use table::{Alternative, Language, Rule, Symbol};
