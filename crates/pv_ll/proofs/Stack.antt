@@ -91,9 +91,6 @@ chosen_read l n kind k h d =
       takes = ap (λ (a : Alternative). bit_at a.when kind) e ∙ h.3;
     }
 
-pub chosen_serves : {l : Language} → IsLL1 l → (n kind k : ℕ) → Chosen l n kind k → (d : Alternative) → Serves l (get_or l.alternatives.now k d)
-chosen_serves {l} fits n kind k h d = fits.serves k (get_or l.alternatives.now k d) (selects_read l k d (chosen_within l n kind k h))
-
 -- one round of the loop, as the code has it
 pub step : {l : Language} → IsLL1 l → (trace read : List ℕ) (kind n k : ℕ) (d : Alternative) → Chosen l n kind k → (old ss new : List Symbol)
     → old ≡ Name n ∷ ss → new ≡ body_of l (get_or l.alternatives.now k d) ++ ss → (longer : List ℕ) → longer ≡ trace ++ k ∷ []

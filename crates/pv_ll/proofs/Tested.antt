@@ -86,11 +86,7 @@ serves_from l live a sound h =
     let b4 : Bool = are_followed l r.follow body in
     let b5 : Bool = nat_lt (front l body) r.weight in
     let b6 : Bool = list_all (is_among l.kinds live) body in
-    let b7 : Bool = nat_le a.from a.to in
-    let b8 : Bool = nat_le a.to (length l.symbols.now) in
-    let p7 = and_parts (b1 && b2 && b3 && b4 && b5 && b6 && b7) b8 h in
-    let p6 = and_parts (b1 && b2 && b3 && b4 && b5 && b6) b7 p7.0 in
-    let p5 = and_parts (b1 && b2 && b3 && b4 && b5) b6 p6.0 in
+    let p5 = and_parts (b1 && b2 && b3 && b4 && b5) b6 h in
     let p4 = and_parts (b1 && b2 && b3 && b4) b5 p5.0 in
     let p3 = and_parts (b1 && b2 && b3) b4 p4.0 in
     let p2 = and_parts (b1 && b2) b3 p3.0 in
@@ -102,8 +98,6 @@ serves_from l live a sound h =
       followed = followed_from l r.follow body p3.1;
       falls = ltb-true (front l body) r.weight p4.1;
       lives = live_body l live sound body p5.1;
-      ordered = leb-true a.from a.to p6.1;
-      within = leb-true a.to (length l.symbols.now) p7.1;
     }
 
 apart_later : (xs : List Alternative) → are_apart xs ≡ true → (j k : ℕ) (a b : Alternative) → slice_get xs j ≡ Some a → slice_get xs k ≡ Some b
@@ -170,11 +164,11 @@ own_at : (l : Language) (n k : ℕ) (r : Rule) (d : Alternative) → Own l n r �
 own_at l n k r d own h i =
     let xs : List Alternative = l.alternatives.now in
     let less : k - r.from < length (part xs r.from r.to) =
-      omega (arith, own.within, length-take (r.to - r.from) (drop r.from xs), length-drop r.from xs) in
-    let inside : k - r.from < r.to - r.from = omega arith in
+      omega (arith, own.within, length-take r.to xs, length-drop r.from (take r.to xs)) in
+    let inside : r.from + (k - r.from) < r.to = omega arith in
     let place : r.from + (k - r.from) ≡ k = omega arith in
     let read : get_or (part xs r.from r.to) (k - r.from) d ≡ get_or xs k d =
-      get_or-take (r.to - r.from) (drop r.from xs) (k - r.from) d inside ∙ get_or-drop r.from xs (k - r.from) d ∙ ap (λ (m : ℕ). get_or xs m d) place in
+      get_or-drop r.from (take r.to xs) (k - r.from) d ∙ get_or-take r.to xs (r.from + (k - r.from)) d inside ∙ ap (λ (m : ℕ). get_or xs m d) place in
     let named : (get_or (part xs r.from r.to) (k - r.from) d).name ≡ n =
       eqb-true (get_or (part xs r.from r.to) (k - r.from) d).name n
         (all_at (λ (a : Alternative). a.name == n) (part xs r.from r.to) own.named (k - r.from) (get_or (part xs r.from r.to) (k - r.from) d)

@@ -49,8 +49,6 @@ serves l live a =
     && are_followed l r.follow body
     && nat_lt (front l body) r.weight
     && list_all (is_among l.kinds live) body
-    && nat_le a.from a.to
-    && nat_le a.to (length l.symbols.now)
 
 -- no next token takes two alternatives of one name
 abbrev pub is_apart : Alternative → Alternative → Bool

@@ -36,8 +36,6 @@ pub record Serves (l : Language) (a : Alternative) : Type 0 where
   pub followed : Followed l (rule l a.name).follow (body_of l a)
   pub falls : front l (body_of l a) < (rule l a.name).weight
   pub lives : Lives (grammar_of l) (body_of l a)
-  pub ordered : a.from ≤ a.to
-  pub within : a.to ≤ length l.symbols.now
 
 -- what holds of a table that passes the test
 pub record IsLL1 (l : Language) : Type 0 where

@@ -9,7 +9,7 @@ use Rattle.pv_ll.specs.Grammar.{Grammar, Production, ◌⟶◌}
 
 -- the items from one place up to another
 abbrev pub part : {A : Type 0} → List A → ℕ → ℕ → List A
-part xs from to = take (to - from) (drop from xs)
+part xs from to = drop from (take to xs)
 
 -- the symbols of an alternative
 abbrev pub body_of : Language → Alternative → List Symbol

@@ -1,7 +1,7 @@
 //! The table of a language: flat arrays, written by a generator and checked by `is_ll1`.
 ghost use Rattle.std.specs.Prelude.{◌≡◌, ◌≤◌, ◌↔◌, IsTrue, length};
 ghost use Rattle.std.specs.Int.{bit_at};
-ghost use Rattle.pv_ll.specs.Table.{rule, body_of};
+ghost use Rattle.pv_ll.specs.Table.{rule, part, body_of};
 
 /// A symbol of a body: a token by its kind, or a name by its number.
 #[derive(Clone, Copy, Debug, PartialEq, Eq)]
@@ -85,11 +85,17 @@ pub fn contains(mask: u128, kind: u8) -> bool
     kind < 128 && mask >> kind & 1 == 1
 }
 
+/// The items from one place up to another, as far as there are any.
+fn part<T>(items: &[T], from: usize, to: usize) -> &[T]
+    ensures { result.now ≡ part items.now from to }
+{
+    let front = if to < items.len() { &items[..to] } else { items };
+    if from < front.len() { &front[from..] } else { &[] }
+}
+
 /// The symbols of an alternative.
 pub fn body<'a>(language: &'a Language, alternative: &Alternative) -> &'a [Symbol]
-    requires ordered { alternative.now.from ≤ alternative.now.to }
-    requires within { alternative.now.to ≤ length language.now.symbols.now }
     ensures { result.now ≡ body_of language.now alternative.now }
 {
-    &language.symbols[alternative.from as usize..alternative.to as usize]
+    part(language.symbols, alternative.from as usize, alternative.to as usize)
 }

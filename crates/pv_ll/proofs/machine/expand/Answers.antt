@@ -3,7 +3,7 @@ use Rattle.pv_ll.specs.declared.table.Alternative.{Alternative}
 use Rattle.pv_ll.specs.declared.table.Symbol.TheVariants.{Token, Name}
 use Rattle.pv_ll.specs.Table.{body_of}
 use Rattle.pv_ll.specs.Reading.{stack_of}
-use Rattle.pv_ll.proofs.Stack.{chosen_within, chosen_serves, step, step_falls, stuck_name, on_stack}
+use Rattle.pv_ll.proofs.Stack.{chosen_within, step, step_falls, stuck_name, on_stack}
 use Rattle.pv_ll.proofs.machine.expand.Goals as goal
 
 -- what the code reads past the table's end
@@ -22,12 +22,6 @@ returns-in_default-choose c read h =
 
 pub bounds-language-k : goal.bounds-language-k
 bounds-language-k c = chosen_within c.args.language.now c.in-Name.name c.args.token c.in-Some-choose.k c.in-Some-choose.ensures.found
-
-pub body-requires-clause-ordered : goal.body-requires-clause-ordered
-body-requires-clause-ordered c = (chosen_serves c.requires c.in-Name.name c.args.token c.in-Some-choose.k c.in-Some-choose.ensures.found _).ordered
-
-pub body-requires-clause-within : goal.body-requires-clause-within
-body-requires-clause-within c = (chosen_serves c.requires c.in-Name.name c.args.token c.in-Some-choose.k c.in-Some-choose.ensures.found _).within
 
 pub loop-symbol-smaller : goal.loop-symbol-smaller
 loop-symbol-smaller c =
