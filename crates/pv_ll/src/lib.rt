@@ -4,6 +4,8 @@
 mod machine;
 mod sample;
 mod table;
+#[cfg(test)]
+mod tests;
 
 pub use machine::{Trace, recognize};
 pub use sample::recognize_sample;
