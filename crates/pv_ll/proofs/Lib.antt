@@ -5,3 +5,4 @@ pub mod Places
 pub mod Stack
 pub mod Faults
 pub mod Tested
+pub mod Walking

@@ -4,3 +4,4 @@ pub mod Check
 pub mod Facts
 pub mod Reading
 pub mod Sample
+pub mod Walk

@@ -4,9 +4,11 @@
 mod machine;
 mod sample;
 mod table;
+mod visit;
 #[cfg(test)]
 mod tests;
 
 pub use machine::{Trace, recognize};
 pub use sample::recognize_sample;
 pub use table::{Alternative, Language, Rule, Symbol};
+pub use visit::{Step, Walk};
