@@ -31,12 +31,12 @@ pub record ServesAs (l : Language) (k n : ℕ) (body : List Symbol) : Type 0 whe
   pub lives : Lives (grammar_of l) body
 
 -- the alternative behind a production
-record Behind (l : Language) (alts : List Alternative) (k : ℕ) (p : Production) : Type 0 where
-  alternative : Alternative
-  selects : slice_get alts k ≡ Some alternative
-  is : production_of l alternative ≡ p
+pub record Source (l : Language) (alts : List Alternative) (k : ℕ) (p : Production) : Type 0 where
+  pub alternative : Alternative
+  pub selects : slice_get alts k ≡ Some alternative
+  pub is : production_of l alternative ≡ p
 
-behind : (l : Language) (alts : List Alternative) (k : ℕ) (p : Production) → slice_get (map (production_of l) alts) k ≡ Some p → Behind l alts k p
+pub behind : (l : Language) (alts : List Alternative) (k : ℕ) (p : Production) → slice_get (map (production_of l) alts) k ≡ Some p → Source l alts k p
 behind l [] k p e = absurd (cc)
 behind l (a ∷ alts) zero p e = record { alternative = a; selects = refl; is = cc }
 behind l (a ∷ alts) (suc k) p e = let b = behind l alts k p e in record { alternative = b.alternative; selects = b.selects; is = b.is }

@@ -9,7 +9,9 @@ use Rattle.pv_ll.specs.declared.visit.Place.{Place}
 use Rattle.pv_ll.specs.declared.visit.Place.TheVariants.{Of, Behind}
 use Rattle.pv_ll.specs.declared.visit.Walk.{Walk}
 use Rattle.pv_ll.specs.Grammar.{Grammar, IsProduction, Leftmost}
-use Rattle.pv_ll.specs.Table.{grammar_of}
+use Rattle.pv_ll.specs.declared.table.Alternative.{Alternative}
+use Rattle.pv_ll.specs.Table.{grammar_of, body_of}
+use Rattle.pv_ll.specs.Facts.{Selects}
 
 -- the walk through what symbols derive by a trace: a production is entered, its symbols are walked in order, and it is left
 pub data Walks (g : Grammar) : List ℕ → List Symbol → List Step → Type 0 where
@@ -56,4 +58,10 @@ IsNext old (Some step) new = (steps : List Step) → Gives old steps → (rest :
 
 -- more than the steps that can be left
 abbrev pub work_left : Walk → ℕ
-work_left walk = 65537 * length walk.trace.now + length walk.places.items
+work_left walk = 65537 * length walk.trace.now + length (places_of walk.places)
+
+-- the trace's next alternative is entered; there is none where the trace or the table has none
+abbrev pub Enters : Walk → Option Step → Walk → Type 0
+Enters old None new = (k : ℕ) (later : List ℕ) (a : Alternative) → old.trace.now ≡ k ∷ later → Selects old.language.now k a → ⊥
+Enters old (Some step) new = (k : ℕ) × (a : Alternative) × (step ≡ Enter k) × (old.trace.now ≡ k ∷ new.trace.now) × (Selects old.language.now k a)
+    × (places_of new.places ≡ map (λ s. Of s) (body_of old.language.now a) ++ Behind k ∷ places_of old.places)

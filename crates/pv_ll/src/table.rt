@@ -1,5 +1,5 @@
 //! The table of a language: flat arrays, written by a generator and checked by `is_ll1`.
-ghost use Rattle.std.specs.Prelude.{◌≡◌, ◌≤◌, ◌↔◌, IsTrue, length};
+ghost use Rattle.std.specs.Prelude.{◌≡◌, ◌<◌, ◌≤◌, ◌^◌, ◌↔◌, IsTrue, length};
 ghost use Rattle.std.specs.Int.{bit_at};
 ghost use Rattle.pv_ll.specs.Table.{rule, part, body_of};
 
@@ -87,7 +87,8 @@ pub fn contains(mask: u128, kind: u8) -> bool
 
 /// The items from one place up to another, as far as there are any.
 fn part<T>(items: &[T], from: usize, to: usize) -> &[T]
-    ensures { result.now ≡ part items.now from to }
+    ensures items { result.now ≡ part items.now from to }
+    ensures short { length result.now ≤ to }
 {
     let front = if to < items.len() { &items[..to] } else { items };
     if from < front.len() { &front[from..] } else { &[] }
@@ -95,7 +96,8 @@ fn part<T>(items: &[T], from: usize, to: usize) -> &[T]
 
 /// The symbols of an alternative.
 pub fn body<'a>(language: &'a Language, alternative: &Alternative) -> &'a [Symbol]
-    ensures { result.now ≡ body_of language.now alternative.now }
+    ensures symbols { result.now ≡ body_of language.now alternative.now }
+    ensures short { length result.now < 2 ^ 16 }
 {
     part(language.symbols, alternative.from as usize, alternative.to as usize)
 }

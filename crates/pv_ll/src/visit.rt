@@ -2,7 +2,7 @@
 ghost use Rattle.std.specs.Prelude.{◌≡◌, ℕ, ◌<◌, ◌++◌, ◌∷◌, [], List, length, map, IfOk, OnOk, IfSome, IfNone, IsSome};
 ghost use Rattle.pv_ll.specs.Grammar.{Leftmost};
 ghost use Rattle.pv_ll.specs.Table.{grammar_of, body_of};
-ghost use Rattle.pv_ll.specs.Walk.{places_of, Opens, IsNext, work_left};
+ghost use Rattle.pv_ll.specs.Walk.{places_of, Opens, IsNext, Enters, work_left};
 
 use crate::table::{Language, Symbol, body};
 use std::alloc::{AllocError, Global};
@@ -50,4 +50,52 @@ fn push_symbols(body: &[Symbol], places: &mut Vec<Place>) -> Result<(), AllocErr
         places.push(Place::Of(body[count - 1 - i]))?;
     }
     Ok(())
+}
+
+impl<'a> Walk<'a> {
+    /// A walk through the derivation that a trace of `recognize` tells of. It fails only where memory runs out.
+    pub fn new(alloc: Global, language: &'a Language, trace: &'a [u16]) -> Result<Walk<'a>, AllocError>
+        ensures { IfOk result (λ walk. (w : List ℕ) → Leftmost (grammar_of language.now) trace.now (Symbol.Name language.now.start ∷ []) w
+            → Opens (grammar_of language.now) language.now.start trace.now w walk) }
+    {
+        let mut places = Vec::new(alloc);
+        places.push(Place::Of(Symbol::Name(language.start)))?;
+        Ok(Walk {
+            language,
+            trace,
+            places,
+        })
+    }
+
+    /// The next step; none where the walk is over. It fails only where memory runs out, and the walk is then not to be gone on with.
+    pub fn step(&mut self) -> Result<Option<Step>, AllocError>
+        ensures next { IfOk result (λ step. IsNext self.old step self.new) }
+        ensures ends { IfOk result (λ step. IsSome step → work_left self.new < work_left self.old) }
+    {
+        match pop_place(&mut self.places) {
+            None => Ok(None),
+            Some(Place::Behind(k)) => Ok(Some(Step::Leave(k))),
+            Some(Place::Of(Symbol::Token(kind))) => Ok(Some(Step::Pass(kind))),
+            Some(Place::Of(Symbol::Name(_))) => self.enter(),
+        }
+    }
+
+    /// Enters the trace's next alternative.
+    fn enter(&mut self) -> Result<Option<Step>, AllocError>
+        ensures enters { IfOk result (λ step. Enters self.old step self.new) }
+        ensures ends { IfOk result (λ step. IsSome step → work_left self.new < work_left self.old) }
+        ensures language { self.new.language.now ≡ self.old.language.now }
+    {
+        let Some((k, later)) = self.trace.split_first() else {
+            return Ok(None);
+        };
+        let k = *k;
+        let Some(alternative) = self.language.alternatives.get(k as usize) else {
+            return Ok(None);
+        };
+        self.trace = later;
+        self.places.push(Place::Behind(k))?;
+        push_symbols(body(self.language, alternative), &mut self.places)?;
+        Ok(Some(Step::Enter(k)))
+    }
 }

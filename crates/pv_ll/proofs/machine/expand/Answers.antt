@@ -26,13 +26,13 @@ bounds-language-k c = chosen_within c.args.language.now c.in-Name.name c.args.to
 pub loop-symbol-smaller : goal.loop-symbol-smaller
 loop-symbol-smaller c =
     let e : stack_of c.loop-symbol.stack ≡ Name c.in-Name.name ∷ stack_of c.pop.new.stack = cc (c.in-Some.ensures.some) in
-    let f : stack_of c.push_body.new.stack ≡ body_of c.args.language.now (get_or c.args.language.now.alternatives.now c.in-Some-choose.k none) ++ stack_of c.pop.new.stack = cc (c.in_ok-push_body.ensures, c.body.ensures) in
+    let f : stack_of c.push_body.new.stack ≡ body_of c.args.language.now (get_or c.args.language.now.alternatives.now c.in-Some-choose.k none) ++ stack_of c.pop.new.stack = cc (c.in_ok-push_body.ensures, c.body.ensures.symbols) in
     step_falls c.requires c.in-Name.name c.args.token c.in-Some-choose.k _ c.in-Some-choose.ensures.found _ _ _ e f
 
 pub loop-symbol-preserved : goal.loop-symbol-preserved
 loop-symbol-preserved c read h =
     let e : stack_of c.loop-symbol.stack ≡ Name c.in-Name.name ∷ stack_of c.pop.new.stack = cc (c.in-Some.ensures.some) in
-    let f : stack_of c.push_body.new.stack ≡ body_of c.args.language.now (get_or c.args.language.now.alternatives.now c.in-Some-choose.k none) ++ stack_of c.pop.new.stack = cc (c.in_ok-push_body.ensures, c.body.ensures) in
+    let f : stack_of c.push_body.new.stack ≡ body_of c.args.language.now (get_or c.args.language.now.alternatives.now c.in-Some-choose.k none) ++ stack_of c.pop.new.stack = cc (c.in_ok-push_body.ensures, c.body.ensures.symbols) in
     step c.requires _ read c.args.token c.in-Name.name c.in-Some-choose.k _ c.in-Some-choose.ensures.found _ _ _ e f _ c.in_ok-push.ensures.items (c.loop-symbol.invariant read h)
 
 pub returns : goal.returns
