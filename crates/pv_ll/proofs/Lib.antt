@@ -6,3 +6,4 @@ pub mod Stack
 pub mod Faults
 pub mod Tested
 pub mod Walking
+pub mod Nesting

@@ -1,6 +1,7 @@
 //! A table-driven LL(1) recognizer with exact faults.
 #![tactic(auto)]
 
+mod depth;
 mod machine;
 mod sample;
 mod table;
@@ -8,6 +9,7 @@ mod visit;
 #[cfg(test)]
 mod tests;
 
+pub use depth::first_deeper;
 pub use machine::{Trace, recognize};
 pub use sample::recognize_sample;
 pub use table::{Alternative, Language, Rule, Symbol};
