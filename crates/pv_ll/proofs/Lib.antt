@@ -7,3 +7,4 @@ pub mod Faults
 pub mod Tested
 pub mod Walking
 pub mod Nesting
+pub mod Traces

@@ -19,11 +19,6 @@ pub record Nesting (g : Grammar) (start : ℕ) (trace kinds : List ℕ) (counts 
   pub same : first_deep g counts limit depth place rest ≡ first_deep g counts limit 0 0 steps
   pub tokens : tokens_of rest ≡ drop place kinds
 
-pub begins : (g : Grammar) (start : ℕ) (trace kinds : List ℕ) (counts : List Bool) (limit : ℕ) (walk : Walk) → Opens g start trace kinds walk
-    → Nesting g start trace kinds counts limit 0 0 walk
-begins g start trace kinds counts limit walk o =
-    record { steps = o.steps; rest = o.steps; walks = o.walks; gives = o.gives; same = refl; tokens = o.tokens }
-
 -- one step of the walk behind
 record Behind (g : Grammar) (start : ℕ) (trace kinds : List ℕ) (counts : List Bool) (limit depth place : ℕ) (step : Step) (walk : Walk) : Type 0 where
   steps : List Step
@@ -71,27 +66,6 @@ goes_on g start trace kinds counts limit depth place next later step old new n i
       same = ap (λ (p : ℕ). first_deep g counts limit next p b.rest) e ∙ sym (nests place b.rest) ∙ b.same;
       tokens = place_after_tokens place step b.rest kinds b.tokens ∙ ap (λ (p : ℕ). drop p kinds) (sym e);
     }
-
--- the count doesn't wrap
-pub counts_on : (g : Grammar) (start : ℕ) (trace kinds : List ℕ) (counts : List Bool) (limit depth place t : ℕ) (old new : Walk)
-    → Nesting g start trace kinds counts limit depth place old → IsNext old (Some (Pass t)) new → place < length kinds
-counts_on g start trace kinds counts limit depth place t old new n i =
-    let b : Behind g start trace kinds counts limit depth place (Pass t) new = taken g start trace kinds counts limit depth place (Pass t) old new n i in
-    (in_text place t (tokens_of b.rest) kinds b.tokens).0
-
--- the limit is passed
-pub found : (g : Grammar) (start : ℕ) (trace kinds : List ℕ) (counts : List Bool) (limit depth place : ℕ) (step : Step) (old new : Walk)
-    → Nesting g start trace kinds counts limit depth place old → IsNext old (Some step) new → Nests g counts limit depth step None
-    → IsFirstDeep g start trace counts limit (Some place)
-found g start trace kinds counts limit depth place step old new n i nests =
-    let b : Behind g start trace kinds counts limit depth place step new = taken g start trace kinds counts limit depth place step old new n i in
-    (b.steps, b.walks, sym (nests place b.rest) ∙ b.same)
-
--- the walk is over
-pub none : (g : Grammar) (start : ℕ) (trace kinds : List ℕ) (counts : List Bool) (limit depth place : ℕ) (old new : Walk)
-    → Nesting g start trace kinds counts limit depth place old → IsNext old None new → IsFirstDeep g start trace counts limit None
-none g start trace kinds counts limit depth place old new n i =
-    (n.steps, n.walks, ap (λ (z : List Step). first_deep g counts limit depth place z) (sym (i n.rest n.gives)) ∙ n.same)
 
 -- the step that a call answered
 pub next_as : (old new : Walk) (x y : Option Step) → x ≡ y → IsNext old x new → IsNext old y new

@@ -1,6 +1,5 @@
 -- context-free grammars, what they derive, and what an exact recognizer answers. Nothing here is of a table
-use Rattle.std.specs.Prelude.{◌≡◌, ℕ, ◌<◌, ◌≤◌, ◌+◌, List, [], ◌∷◌, ◌++◌, length, take, Some, slice_get, Result, Ok, Err, Vec}
-use Rattle.std.specs.declared.alloc.Global.{Global}
+use Rattle.std.specs.Prelude.{◌≡◌, ℕ, ◌<◌, ◌≤◌, ◌+◌, List, [], ◌∷◌, ◌++◌, length, take, Some, slice_get, Result, Ok, Err}
 use Rattle.pv_ll.specs.declared.table.Symbol.{Symbol}
 use Rattle.pv_ll.specs.declared.table.Symbol.TheVariants.{Token, Name}
 
@@ -50,6 +49,6 @@ pub record IsFault (g : Grammar) (start : ℕ) (tokens : List ℕ) (i : ℕ) : T
   pub no_sentence : IsSentence g start tokens → ⊥
 
 -- what a recognizer answers: the tokens are a text, and how it is derived; or which of them is at fault
-abbrev pub IsExact : Grammar → ℕ → List ℕ → Result (Vec ℕ Global) ℕ → Type 0
-IsExact g start tokens (Ok trace) = IsSentence g start tokens × Leftmost g trace.items (Name start ∷ []) tokens
+abbrev pub IsExact : Grammar → ℕ → List ℕ → Result (List ℕ) ℕ → Type 0
+IsExact g start tokens (Ok trace) = IsSentence g start tokens × Leftmost g trace (Name start ∷ []) tokens
 IsExact g start tokens (Err i) = IsFault g start tokens i

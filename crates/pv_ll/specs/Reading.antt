@@ -1,5 +1,5 @@
 -- what the machine's stack stands for, as languages
-use Rattle.std.specs.Prelude.{◌≡◌, ℕ, ◌^◌, Bool, true, false, List, [], ◌∷◌, ◌++◌, reverse, Vec}
+use Rattle.std.specs.Prelude.{◌≡◌, ℕ, ◌^◌, Bool, true, false, List, [], ◌∷◌, ◌++◌, reverse, Vec, Result, Ok, Err}
 use Rattle.std.specs.declared.alloc.Global.{Global}
 use Rattle.pv_ll.specs.declared.table.Symbol.{Symbol}
 use Rattle.pv_ll.specs.declared.table.Symbol.TheVariants.{Token, Name}
@@ -11,6 +11,11 @@ use Rattle.pv_ll.specs.Table.{grammar_of}
 use Rattle.std.specs.Int.{bit_at}
 use Rattle.pv_ll.specs.declared.table.Alternative.{Alternative}
 use Rattle.pv_ll.specs.Facts.{Followed, Lives, Selects}
+
+-- an answer, with the list of its trace
+abbrev pub answer_of : Result (Vec ℕ Global) ℕ → Result (List ℕ) ℕ
+answer_of (Ok trace) = Ok trace.items
+answer_of (Err i) = Err i
 
 -- the next token of a list, or the number of the end
 abbrev pub look : ℕ → List ℕ → ℕ

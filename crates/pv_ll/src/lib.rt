@@ -2,6 +2,7 @@
 #![tactic(auto)]
 
 mod depth;
+mod laws;
 mod machine;
 mod sample;
 mod table;
@@ -10,6 +11,7 @@ mod visit;
 mod tests;
 
 pub use depth::first_deeper;
+pub use laws::traces_tell_one_text;
 pub use machine::{Trace, recognize};
 pub use sample::recognize_sample;
 pub use table::{Alternative, Language, Rule, Symbol};

@@ -5,7 +5,7 @@ ghost use Rattle.pv_ll.specs.Grammar.{IsExact};
 ghost use Rattle.pv_ll.specs.Table.{grammar_of, body_of};
 ghost use Rattle.pv_ll.specs.Check.{is_ll1};
 ghost use Rattle.pv_ll.specs.Facts.{IsLL1, Selects};
-ghost use Rattle.pv_ll.specs.Reading.{IsText, stack_of, Stands, StandsFor, Expects, Takes, Ends, Chosen, NoneFits};
+ghost use Rattle.pv_ll.specs.Reading.{IsText, answer_of, stack_of, Stands, StandsFor, Expects, Takes, Ends, Chosen, NoneFits};
 
 use crate::table::{Alternative, Language, Symbol, body, contains, rule_of};
 use std::alloc::{AllocError, Global};
@@ -14,7 +14,7 @@ use std::alloc::{AllocError, Global};
 pub type Trace = Vec<u16>;
 
 /// What the stack says must come next.
-pub enum Expected {
+enum Expected {
     /// A token of this kind, which was taken off the stack.
     ThisToken(u8),
     /// The end of the text.
@@ -115,7 +115,7 @@ fn take_end(language: &Language, stack: &mut Vec<Symbol>, trace: &mut Trace) -> 
 /// number of tokens where the text ends too early. The error is `AllocError` where memory runs out.
 fn run(alloc: Global, language: &Language, kinds: &[u8]) -> Result<Result<Trace, usize>, AllocError>
     requires { IsLL1 language.now }
-    ensures { IfOk result (IsExact (grammar_of language.now) language.now.start kinds.now) }
+    ensures { IfOk result (λ answer. IsExact (grammar_of language.now) language.now.start kinds.now (answer_of answer)) }
 {
     let mut trace = Vec::new(alloc);
     let mut stack = Vec::new(alloc);
@@ -141,7 +141,7 @@ pub fn recognize(
     kinds: &[u8],
 ) -> Result<Result<Trace, usize>, AllocError>
     requires { IsTrue (is_ll1 language.now) }
-    ensures { IfOk result (IsExact (grammar_of language.now) language.now.start kinds.now) }
+    ensures { IfOk result (λ answer. IsExact (grammar_of language.now) language.now.start kinds.now (answer_of answer)) }
 {
     run(alloc, language, kinds)
 }

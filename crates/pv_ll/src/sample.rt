@@ -2,6 +2,7 @@
 ghost use Rattle.std.specs.Prelude.{◌≡◌, IfOk, IsTrue};
 ghost use Rattle.pv_ll.specs.Check.{is_ll1};
 ghost use Rattle.pv_ll.specs.Grammar.{IsExact};
+ghost use Rattle.pv_ll.specs.Reading.{answer_of};
 ghost use Rattle.pv_ll.specs.Table.{grammar_of};
 ghost use Rattle.pv_ll.specs.Sample.{program, sample_grammar};
 
@@ -12,7 +13,7 @@ use std::alloc::{AllocError, Global};
 /// Reads a program of the sample language, given by the kinds of its tokens: 0 for a name, 1 for `:=`, 2 for `;`, 3 and
 /// 4 for parentheses, 5 for OR and 6 for AND. It answers what `recognize` does.
 pub fn recognize_sample(alloc: Global, kinds: &[u8]) -> Result<Result<Trace, usize>, AllocError>
-    ensures { IfOk result (IsExact sample_grammar program kinds.now) }
+    ensures { IfOk result (λ answer. IsExact sample_grammar program kinds.now (answer_of answer)) }
 {
     recognize(alloc, &sample(), kinds)
 }

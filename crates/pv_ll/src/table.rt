@@ -1,4 +1,5 @@
-//! The table of a language: flat arrays, written by a generator and checked by `is_ll1`.
+//! The table of a language: flat arrays, written by a script and tested by `is_ll1`. The sets are the FIRST and FOLLOW sets of
+//! LL(1) parsing, as in any text on compilers.
 ghost use Rattle.std.specs.Prelude.{◌≡◌, ◌<◌, ◌≤◌, ◌^◌, ◌↔◌, IsTrue, length};
 ghost use Rattle.std.specs.Int.{bit_at};
 ghost use Rattle.pv_ll.specs.Table.{rule, part, body_of};
@@ -68,7 +69,7 @@ const NO_RULE: Rule = Rule {
 };
 
 /// What the table knows of a name.
-pub fn rule_of(language: &Language, name: u8) -> Rule
+pub(crate) fn rule_of(language: &Language, name: u8) -> Rule
     ensures { result ≡ rule language.now name }
 {
     language
@@ -79,7 +80,7 @@ pub fn rule_of(language: &Language, name: u8) -> Rule
 }
 
 /// Whether a mask has a kind.
-pub fn contains(mask: u128, kind: u8) -> bool
+pub(crate) fn contains(mask: u128, kind: u8) -> bool
     ensures { IsTrue result ↔ (bit_at mask kind ≡ 1) }
 {
     kind < 128 && mask >> kind & 1 == 1
@@ -95,7 +96,7 @@ fn part<T>(items: &[T], from: usize, to: usize) -> &[T]
 }
 
 /// The symbols of an alternative.
-pub fn body<'a>(language: &'a Language, alternative: &Alternative) -> &'a [Symbol]
+pub(crate) fn body<'a>(language: &'a Language, alternative: &Alternative) -> &'a [Symbol]
     ensures symbols { result.now ≡ body_of language.now alternative.now }
     ensures short { length result.now < 2 ^ 16 }
 {
