@@ -21,7 +21,8 @@ use Rattle.pv_ll.proofs.Stack.{shifted, stuck_token, stuck_end}
 only_end : (k set : ℕ) → bit_at set k ≡ 1 → IsSubset (2 ^ k) set
 only_end k set h t i = elim (cases_eq t k) [
   | inl e ↦ ap (λ (x : ℕ). bit_at set x) e ∙ h
-  | inr ne ↦ absurd (omega (arith, bit_at-pow_other k t ne, i)) ]
+  | inr ne ↦ absurd (omega (arith, bit_at-pow_other k t ne, i))
+]
 
 -- the start alone on the stack
 pub started : {l : Language} → IsLL1 l → StandsFor l [] [] (Name l.start ∷ [])
@@ -41,7 +42,6 @@ pub takes : (l : Language) (trace read : List ℕ) (kind t : ℕ) (ss : List Sym
     → Stands l trace read kind (Token t ∷ ss) → Takes l trace read kind ss b
 takes l trace read kind t ss true same other h = shifted l trace read kind ss (subst (λ (x : ℕ). Stands l trace read kind (Token x ∷ ss)) (same refl) h)
 takes l trace read kind t ss false same other h = refused l read kind (stuck_token l trace read kind t ss (other refl) h)
-
 
 pub ends : (l : Language) (trace read : List ℕ) (kind : ℕ) → Stands l trace read kind [] → IsText l read
 ends l trace read kind h = subst (λ (z : List ℕ). IsText l z) (append-nil read) (h.gives [] nothing)
@@ -64,9 +64,9 @@ fault_at l trace tokens i ss h s stuck = record {
   within = omega arith;
   viable = viable l trace (take i tokens) ss s;
   exact = λ _ w t. stuck w
-    (subst (λ (z : List ℕ). IsText l z) (ap (λ (z : List ℕ). z ++ w) (take_more tokens i 0 h) ∙ append_assoc (take i tokens) (get_or tokens i 0 ∷ []) w) t);
+      (subst (λ (z : List ℕ). IsText l z) (ap (λ (z : List ℕ). z ++ w) (take_more tokens i 0 h) ∙ append_assoc (take i tokens) (get_or tokens i 0 ∷ []) w) t);
   no_sentence = λ t. stuck (drop (i + 1) tokens)
-    (subst (λ (z : List ℕ). IsText l z) (sym (take-append-drop i tokens) ∙ ap (λ (z : List ℕ). take i tokens ++ z) (drop_more tokens i 0 h)) t);
+      (subst (λ (z : List ℕ). IsText l z) (sym (take-append-drop i tokens) ∙ ap (λ (z : List ℕ). take i tokens ++ z) (drop_more tokens i 0 h)) t);
 }
 
 -- the tokens are no text, but some text begins with them
@@ -75,8 +75,8 @@ pub fault_at_end : (l : Language) (trace tokens : List ℕ) (i : ℕ) (ss : List
 fault_at_end l trace tokens i ss h s none = record {
   within = omega arith;
   viable =
-    let v = viable l trace (take i tokens) ss s in
-    (v.0, subst (λ (z : List ℕ). IsText l (z ++ v.0)) (take_all i tokens h ∙ sym (take_all (length tokens) tokens (omega arith))) v.1);
+      let v = viable l trace (take i tokens) ss s in
+      (v.0, subst (λ (z : List ℕ). IsText l (z ++ v.0)) (take_all i tokens h ∙ sym (take_all (length tokens) tokens (omega arith))) v.1);
   exact = λ less. absurd (omega arith);
   no_sentence = λ t. none (subst (λ (z : List ℕ). IsText l z) (sym (take_all i tokens h)) t);
 }
@@ -105,7 +105,7 @@ whole l tokens i h t = subst (λ (z : List ℕ). IsText l z) (take_all i tokens 
 pub replayed : (l : Language) (trace read : List ℕ) (kind : ℕ) → Stands l trace read kind [] → Leftmost (grammar_of l) trace (Name l.start ∷ []) read
 replayed l trace read kind h =
     subst (λ (z : List ℕ). Leftmost (grammar_of l) z (Name l.start ∷ []) read) (append-nil trace)
-      (subst (λ (z : List ℕ). Leftmost (grammar_of l) (trace ++ []) (Name l.start ∷ []) z) (append-nil read) (h.replays [] [] done))
+    (subst (λ (z : List ℕ). Leftmost (grammar_of l) (trace ++ []) (Name l.start ∷ []) z) (append-nil read) (h.replays [] [] done))
 
 pub whole_trace : (l : Language) (trace tokens : List ℕ) (i : ℕ) → length tokens ≤ i → Leftmost (grammar_of l) trace (Name l.start ∷ []) (take i tokens)
     → Leftmost (grammar_of l) trace (Name l.start ∷ []) tokens

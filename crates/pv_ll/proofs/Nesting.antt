@@ -45,7 +45,8 @@ taken g start trace kinds counts limit depth place step old new n next =
 in_text : (place t : ℕ) (rest kinds : List ℕ) → t ∷ rest ≡ drop place kinds → (place < length kinds) × (rest ≡ drop (place + 1) kinds)
 in_text place t rest kinds e = elim (cases_lt place (length kinds)) [
   | inl less ↦ (less, let f : drop place kinds ≡ get_or kinds place 0 ∷ drop (place + 1) kinds = drop_more kinds place 0 less in cc)
-  | inr past ↦ let f : drop place kinds ≡ [] = drop_all place kinds past in absurd (cc) ]
+  | inr past ↦ let f : drop place kinds ≡ [] = drop_all place kinds past in absurd (cc)
+]
 
 place_after_tokens : (place : ℕ) (step : Step) (rest : List Step) (kinds : List ℕ) → tokens_of (step ∷ rest) ≡ drop place kinds → tokens_of rest ≡ drop (place_after place step) kinds
 place_after_tokens place (Enter k) rest kinds e = e

@@ -38,7 +38,8 @@ pub passed : (l : Language) (n k token : ℕ) (d : Alternative)
     → (j : ℕ) (a : Alternative) → Selects l j a → a.name ≡ n → bit_at a.when token ≡ 1 → j < k + 1 → ⊥
 passed l n k token d before here j a s e b h = elim (cases_eq j k) [
   | inr ne ↦ before j a s e b (omega arith)
-  | inl eq ↦ here (ap (λ (x : Alternative). bit_at x.when token) (get_or_from_slice_get l.alternatives.now k a d (subst (λ (i : ℕ). Selects l i a) eq s)) ∙ b) ]
+  | inl eq ↦ here (ap (λ (x : Alternative). bit_at x.when token) (get_or_from_slice_get l.alternatives.now k a d (subst (λ (i : ℕ). Selects l i a) eq s)) ∙ b)
+]
 
 -- past the part of the name there is no alternative of it
 pub none_fits : {l : Language} → IsLL1 l → (n token k : ℕ)

@@ -23,7 +23,8 @@ subset_from x y e t h = omega (arith, in_left x y t h, ap (λ z. bit_at z t) e)
 or_case : (x y z t : ℕ) → IsSubset y z → bit_at (bit_or x y) t ≡ 1 → bit_at (bit_or x z) t ≡ 1
 or_case x y z t s h = elim (cases_eq (bit_at y t) 1) [
   | inl i ↦ in_right x z t (s t i)
-  | inr n ↦ in_left x z t (omega (arith, bit_at_or x y t, bit_at-lt x t, bit_at-lt y t)) ]
+  | inr n ↦ in_left x z t (omega (arith, bit_at_or x y t, bit_at-lt x t, bit_at-lt y t))
+]
 
 pub subset_or : (b : Bool) (x y z : ℕ) → IsSubset y z → IsSubset (cond b (bit_or x y) x) (cond b (bit_or x z) x)
 subset_or true x y z s t h = or_case x y z t s h

@@ -23,7 +23,7 @@ pub same_alternative : {l : Language} → IsLL1 l → (n kind k : ℕ) (a : Alte
     → (ss : List Symbol) (w : List ℕ) → (d : Determined l n ss w) → look l.kinds w ≡ kind → Derives (grammar_of l) (body_of l a ++ ss) w
 same_alternative {l} fits n kind k a s e b ss w d h =
     let j : d.k ≡ k = fits.apart d.k k d.served.alternative a d.served.selects s (d.served.named ∙ sym e) kind
-      (subst (λ (t : ℕ). bit_at d.served.alternative.when t ≡ 1) h d.takes) b in
+    (subst (λ (t : ℕ). bit_at d.served.alternative.when t ≡ 1) h d.takes) b in
     let p : IsProduction (grammar_of l) k n d.body = subst (λ (i : ℕ). IsProduction (grammar_of l) i n d.body) j d.production in
     let q : IsProduction (grammar_of l) k n (body_of l a) = production_at l k n a s e in
     let same : d.body ≡ body_of l a = ap (λ (o : Option Production). option_map_or (λ (x : Production). x.body) o d.body) (sym p ∙ q) in
@@ -56,9 +56,9 @@ shifted l trace read t ss h x = record {
   gives = λ w d. subst (λ (z : List ℕ). IsText l z) (sym (append_assoc read (t ∷ []) w)) (h.gives (t ∷ w) (token d));
   replays = λ more w d. subst (λ (z : List ℕ). Leftmost (grammar_of l) (trace ++ more) (Name l.start ∷ []) z) (sym (append_assoc read (t ∷ []) w)) (h.replays more (t ∷ w) (passed d));
   only = λ w next_is i.
-    let s : Shift (grammar_of l) t ss (t ∷ w) = inv_token (h.only (t ∷ w) refl (subst (λ (z : List ℕ). IsText l z) (append_assoc read (t ∷ []) w) i)) in
-    let same : s.rest ≡ w = cc (s.whole) in
-    subst (λ (z : List ℕ). Derives (grammar_of l) ss z) same s.others;
+      let s : Shift (grammar_of l) t ss (t ∷ w) = inv_token (h.only (t ∷ w) refl (subst (λ (z : List ℕ). IsText l z) (append_assoc read (t ∷ []) w) i)) in
+      let same : s.rest ≡ w = cc (s.whole) in
+      subst (λ (z : List ℕ). Derives (grammar_of l) ss z) same s.others;
   followed = h.followed;
   lives = h.lives;
 }
@@ -98,14 +98,14 @@ pub step : {l : Language} → IsLL1 l → (trace read : List ℕ) (kind n k : �
 step {l} fits trace read kind n k d h old ss new e f longer g s =
     let r = chosen_read l n kind k h d in
     subst (λ (z : List ℕ). Stands l z read kind new) (sym g) (subst (λ (z : List Symbol). Stands l (trace ++ k ∷ []) read kind z) (sym f)
-      (expanded fits trace read kind n k (get_or l.alternatives.now k d) r.selects r.named r.takes ss (subst (λ (z : List Symbol). Stands l trace read kind z) e s)))
+    (expanded fits trace read kind n k (get_or l.alternatives.now k d) r.selects r.named r.takes ss (subst (λ (z : List Symbol). Stands l trace read kind z) e s)))
 
 pub step_falls : {l : Language} → IsLL1 l → (n kind k : ℕ) (d : Alternative) → Chosen l n kind k → (old ss new : List Symbol)
     → old ≡ Name n ∷ ss → new ≡ body_of l (get_or l.alternatives.now k d) ++ ss → front l new < front l old
 step_falls {l} fits n kind k d h old ss new e f =
     let r = chosen_read l n kind k h d in
     let falls : front l (body_of l (get_or l.alternatives.now k d) ++ ss) < front l (Name n ∷ ss) =
-      front_falls (served fits (production_at l k n (get_or l.alternatives.now k d) r.selects r.named)) ss in
+    front_falls (served fits (production_at l k n (get_or l.alternatives.now k d) r.selects r.named)) ss in
     subst (λ (z : List Symbol). front l new < front l z) (sym e) (subst (λ (z : List Symbol). front l z < front l (Name n ∷ ss)) (sym f) falls)
 
 -- the same of an equal stack

@@ -48,15 +48,15 @@ as_production l k n body a s e f h = record {
   selects = s;
   named = e;
   predicted = subst (λ (b : List Symbol). IsSubset (next l (rule l n).follow b) a.when) f
-    (subst (λ (m : ℕ). IsSubset (next l (rule l m).follow (body_of l a)) a.when) e h.predicted);
+      (subst (λ (m : ℕ). IsSubset (next l (rule l m).follow (body_of l a)) a.when) e h.predicted);
   first = subst (λ (b : List Symbol). IsSubset (next l 0 b) (rule l n).first) f
-    (subst (λ (m : ℕ). IsSubset (next l 0 (body_of l a)) (rule l m).first) e h.first);
+      (subst (λ (m : ℕ). IsSubset (next l 0 (body_of l a)) (rule l m).first) e h.first);
   nullable = subst (λ (b : List Symbol). vanish l b ≡ true → (rule l n).nullable ≡ true) f
-    (subst (λ (m : ℕ). vanish l (body_of l a) ≡ true → (rule l m).nullable ≡ true) e h.nullable);
+      (subst (λ (m : ℕ). vanish l (body_of l a) ≡ true → (rule l m).nullable ≡ true) e h.nullable);
   followed = subst (λ (b : List Symbol). Followed l (rule l n).follow b) f
-    (subst (λ (m : ℕ). Followed l (rule l m).follow (body_of l a)) e h.followed);
+      (subst (λ (m : ℕ). Followed l (rule l m).follow (body_of l a)) e h.followed);
   falls = subst (λ (b : List Symbol). front l b < (rule l n).weight) f
-    (subst (λ (m : ℕ). front l (body_of l a) < (rule l m).weight) e h.falls);
+      (subst (λ (m : ℕ). front l (body_of l a) < (rule l m).weight) e h.falls);
   lives = subst (λ (b : List Symbol). Lives (grammar_of l) b) f h.lives;
 }
 
@@ -82,8 +82,8 @@ vanishes fits nothing e = refl
 vanishes fits (token d) e = absurd (cc)
 vanishes {l} fits (name {n = n} {ss = ss} {u = u} {v = v} k p d f eq) e =
     both (rule l n).nullable (vanish l ss)
-      ((served fits p).nullable (vanishes fits d (no_left u v (sym eq ∙ e))))
-      (vanishes fits f (no_right u v (sym eq ∙ e)))
+    ((served fits p).nullable (vanishes fits d (no_left u v (sym eq ∙ e))))
+    (vanishes fits f (no_right u v (sym eq ∙ e)))
 
 -- what the tokens that a list of symbols derives begin with, where these come behind it
 comes_name : (l : Language) (n : ℕ) (ss : List Symbol) (k : ℕ) (body : List Symbol) → ServesAs l k n body → (u v w more : List ℕ) (after : ℕ)
@@ -100,7 +100,7 @@ comes_name l n ss k body s [] v w more after eq gone own others h =
 comes_name l n ss k body s (t ∷ u) v w more after eq gone own others h =
     let there : bit_at (next l 0 body) t ≡ 1 = own 0 (λ e. absurd (cc)) in
     subst (λ (z : List ℕ). bit_at (next l after (Name n ∷ ss)) (look l.kinds (z ++ more)) ≡ 1) (sym eq)
-      (in_first (rule l n).nullable (rule l n).first (next l after ss) t (s.first t there))
+    (in_first (rule l n).nullable (rule l n).first (next l after ss) t (s.first t there))
 
 pub comes : {l : Language} → IsLL1 l → {ss : List Symbol} {w : List ℕ} → Derives (grammar_of l) ss w → (after : ℕ) (more : List ℕ)
     → (w ≡ [] → bit_at after (look l.kinds more) ≡ 1) → bit_at (next l after ss) (look l.kinds (w ++ more)) ≡ 1
@@ -125,11 +125,11 @@ determined {l} fits n ss w h d =
     let x : Expansion (grammar_of l) n ss w = inv_name d in
     let s : ServesAs l x.k n x.body = served fits x.production in
     let behind_it : bit_at (rule l n).follow (look l.kinds x.rest) ≡ 1 =
-      h.0 (look l.kinds x.rest)
-        (subst (λ (z : List ℕ). bit_at (next l (2 ^ l.kinds) ss) (look l.kinds z) ≡ 1) (append-nil x.rest)
-          (comes fits x.others (2 ^ l.kinds) [] (λ e. bit_at-pow_same l.kinds))) in
+    h.0 (look l.kinds x.rest)
+    (subst (λ (z : List ℕ). bit_at (next l (2 ^ l.kinds) ss) (look l.kinds z) ≡ 1) (append-nil x.rest)
+    (comes fits x.others (2 ^ l.kinds) [] (λ e. bit_at-pow_same l.kinds))) in
     let takes_it : bit_at s.alternative.when (look l.kinds (x.own ++ x.rest)) ≡ 1 =
-      s.predicted (look l.kinds (x.own ++ x.rest)) (comes fits x.derives (rule l n).follow x.rest (λ e. behind_it)) in
+    s.predicted (look l.kinds (x.own ++ x.rest)) (comes fits x.derives (rule l n).follow x.rest (λ e. behind_it)) in
     record {
       k = x.k;
       body = x.body;
@@ -173,7 +173,7 @@ pub front_falls : {l : Language} {k n : ℕ} {body : List Symbol} → ServesAs l
     → front l (body ++ ss) < front l (Name n ∷ ss)
 front_falls {l} {k} {n} {body} s ss =
     less_front (vanish l body) (rule l n).nullable (front l (body ++ ss)) (front l body) (front l ss) (rule l n).weight
-      s.nullable s.falls (front_append l body ss)
+    s.nullable s.falls (front_append l body ss)
 
 -- an alternative is a production
 pub production_at : (l : Language) (k n : ℕ) (a : Alternative) → Selects l k a → a.name ≡ n → IsProduction (grammar_of l) k n (body_of l a)

@@ -48,8 +48,9 @@ add_name l names n k body p s false h m i = s m i
 add_name l names n k body p s true h m i = elim (cases_eq m n) [
   | inr ne ↦ s m (omega (arith, bit_at_or names (2 ^ n) m, bit_at-pow_other n m ne, i, bit_at-lt names m))
   | inl e ↦
-    let w : Word (grammar_of l) body = live_word body (h refl) in
-    (w.word, subst (λ (x : ℕ). IsSentence (grammar_of l) x w.word) (sym e) (name k p w.derives nothing (sym (append-nil w.word)))) ]
+      let w : Word (grammar_of l) body = live_word body (h refl) in
+      (w.word, subst (λ (x : ℕ). IsSentence (grammar_of l) x w.word) (sym e) (name k p w.derives nothing (sym (append-nil w.word))))
+]
 
 sound_round : (l : Language) (rest : List Alternative) → ((j : ℕ) (a : Alternative) → slice_get rest j ≡ Some a → (k : ℕ) × Selects l k a)
     → (names : ℕ) → Sound l names → Sound l (one_round l rest names)
@@ -58,7 +59,7 @@ sound_round l (a ∷ rest) h names s =
     let here = h 0 a refl in
     let b : Bool = list_all (is_among l.kinds names) (body_of l a) in
     sound_round l rest (λ j x e. h (suc j) x e) (cond b (bit_or names (2 ^ a.name)) names)
-      (add_name l names a.name here.0 (body_of l a) (production_at l here.0 a.name a here.1 refl) s b (λ e. live_body l names s (body_of l a) e))
+    (add_name l names a.name here.0 (body_of l a) (production_at l here.0 a.name a here.1 refl) s b (λ e. live_body l names s (body_of l a) e))
 
 sound_rounds : (l : Language) (n : ℕ) → Sound l (rounds l n)
 unfolding Sound
@@ -120,7 +121,8 @@ apart_from : (l : Language) → are_apart l.alternatives.now ≡ true → (j k :
 apart_from l h j k a b e f same t i u = elim (cases_order j k) [
   | inl eq ↦ eq
   | inr (inl less) ↦ absurd (apart_kinds a b (apart_later l.alternatives.now h j k a b e f less) same t i u)
-  | inr (inr more) ↦ absurd (apart_kinds b a (apart_later l.alternatives.now h k j b a f e more) (sym same) t u i) ]
+  | inr (inr more) ↦ absurd (apart_kinds b a (apart_later l.alternatives.now h k j b a f e more) (sym same) t u i)
+]
 
 placed_from : (l : Language) (k : ℕ) (xs : List Alternative) → are_placed l k xs ≡ true → (j : ℕ) (a : Alternative) → slice_get xs j ≡ Some a
     → ((rule l a.name).from ≤ k + j) × (k + j < (rule l a.name).to)
@@ -164,26 +166,27 @@ own_at : (l : Language) (n k : ℕ) (r : Rule) (d : Alternative) → Own l n r �
 own_at l n k r d own h i =
     let xs : List Alternative = l.alternatives.now in
     let less : k - r.from < length (part xs r.from r.to) =
-      omega (arith, own.within, length-take r.to xs, length-drop r.from (take r.to xs)) in
+    omega (arith, own.within, length-take r.to xs, length-drop r.from (take r.to xs)) in
     let inside : r.from + (k - r.from) < r.to = omega arith in
     let place : r.from + (k - r.from) ≡ k = omega arith in
     let read : get_or (part xs r.from r.to) (k - r.from) d ≡ get_or xs k d =
-      get_or-drop r.from (take r.to xs) (k - r.from) d ∙ get_or-take r.to xs (r.from + (k - r.from)) d inside ∙ ap (λ (m : ℕ). get_or xs m d) place in
+    get_or-drop r.from (take r.to xs) (k - r.from) d ∙ get_or-take r.to xs (r.from + (k - r.from)) d inside ∙ ap (λ (m : ℕ). get_or xs m d) place in
     let named : (get_or (part xs r.from r.to) (k - r.from) d).name ≡ n =
-      eqb-true (get_or (part xs r.from r.to) (k - r.from) d).name n
-        (all_at (λ (a : Alternative). a.name == n) (part xs r.from r.to) own.named (k - r.from) (get_or (part xs r.from r.to) (k - r.from) d)
-          (slice_get-get_or (part xs r.from r.to) (k - r.from) d less)) in
+    eqb-true (get_or (part xs r.from r.to) (k - r.from) d).name n
+    (all_at (λ (a : Alternative). a.name == n) (part xs r.from r.to) own.named (k - r.from) (get_or (part xs r.from r.to) (k - r.from) d)
+    (slice_get-get_or (part xs r.from r.to) (k - r.from) d less)) in
     (get_or xs k d, slice_get-get_or xs k d (omega (arith, own.within)), ap (λ (a : Alternative). a.name) (sym read) ∙ named)
 
 owned_from : (l : Language) → own_their_parts l 0 l.rules.now ≡ true → (n k : ℕ) → (rule l n).from ≤ k → k < (rule l n).to
     → (a : Alternative) × (Selects l k a) × (a.name ≡ n)
 owned_from l h n k f t = elim (cases_lt n (length l.rules.now)) [
   | inl less ↦
-    own_at l n k (rule l n) (record { name = 0; when = 0; from = 0; to = 0 })
+      own_at l n k (rule l n) (record { name = 0; when = 0; from = 0; to = 0 })
       (subst (λ (m : ℕ). Own l m (rule l n)) (omega arith) (own_from l 0 l.rules.now h n (rule l n) (slice_get-get_or l.rules.now n no_rule less))) f t
   | inr past ↦
-    let none : (rule l n).to ≡ 0 = ap (λ (r : Rule). r.to) (get_or_past l.rules.now n no_rule past) in
-    absurd (omega (arith, none, t)) ]
+      let none : (rule l n).to ≡ 0 = ap (λ (r : Rule). r.to) (get_or_past l.rules.now n no_rule past) in
+      absurd (omega (arith, none, t))
+]
 
 live_start : (l : Language) (live : ℕ) → Sound l live → bit_at live l.start ≡ 1 → (w : List ℕ) × IsSentence (grammar_of l) l.start w
 unfolding Sound

@@ -39,16 +39,27 @@ nothing_first {g} {trace} {ss} {w} d b e =
 
 token_first : {g : Grammar} {trace : List ℕ} {a b : List Symbol} {w : List ℕ} (s t : ℕ) → s ≡ t → Split g trace a b w → Split g trace (Token t ∷ a) b (s ∷ w)
 token_first {g} {trace} {a} {b} {w} s t e x = record {
-  own = x.own; rest = x.rest; u = t ∷ x.u; v = x.v; derives = passed x.derives; others = x.others; trace_is = x.trace_is;
+  own = x.own;
+  rest = x.rest;
+  u = t ∷ x.u;
+  v = x.v;
+  derives = passed x.derives;
+  others = x.others;
+  trace_is = x.trace_is;
   whole = ap (λ (z : ℕ). z ∷ w) e ∙ ap (λ (z : List ℕ). t ∷ z) x.whole;
 }
 
 name_first : {g : Grammar} {trace : List ℕ} {a b body : List Symbol} {w : List ℕ} (m n k : ℕ) → m ≡ n → IsProduction g k m body → Split g trace (body ++ a) b w
     → Split g (k ∷ trace) (Name n ∷ a) b w
 name_first {g} {trace} {a} {b} {body} m n k e p x = record {
-  own = k ∷ x.own; rest = x.rest; u = x.u; v = x.v;
+  own = k ∷ x.own;
+  rest = x.rest;
+  u = x.u;
+  v = x.v;
   derives = put k (subst (λ (z : ℕ). IsProduction g k z body) e p) x.derives;
-  others = x.others; trace_is = ap (λ (z : List ℕ). k ∷ z) x.trace_is; whole = x.whole;
+  others = x.others;
+  trace_is = ap (λ (z : List ℕ). k ∷ z) x.trace_is;
+  whole = x.whole;
 }
 
 pub split : {g : Grammar} {trace : List ℕ} {ss : List Symbol} {w : List ℕ} → Leftmost g trace ss w → (a b : List Symbol) → ss ≡ a ++ b → Split g trace a b w
@@ -86,7 +97,7 @@ walked_name {own = own} {rest = rest} {u = u} {v = v} n k p x y e f = record {
   steps = Enter k ∷ (x.steps ++ Leave k ∷ y.steps);
   walks = through k p x.walks y.walks (ap (λ (z : List ℕ). k ∷ z) e) refl;
   tokens =
-    tokens_append x.steps (Leave k ∷ y.steps) ∙ ap (λ (z : List ℕ). z ++ tokens_of y.steps) x.tokens ∙ ap (λ (z : List ℕ). u ++ z) y.tokens ∙ sym f;
+      tokens_append x.steps (Leave k ∷ y.steps) ∙ ap (λ (z : List ℕ). z ++ tokens_of y.steps) x.tokens ∙ ap (λ (z : List ℕ). u ++ z) y.tokens ∙ sym f;
 }
 
 -- each leftmost derivation is walked
@@ -110,11 +121,11 @@ goes_on {g} (through {n = n} {own = o} {rest = r} {trace = trace} {ss = ss} {inn
     let to : List Place = Of (Name n) ∷ (map (λ (x : Symbol). Of x) ss ++ ps) in
     let entered : Goes g (k ∷ (o ++ (r ++ rest))) to (Enter k ∷ (inner ++ Leave k ∷ (others ++ steps))) = enter k p (goes_on d (leave (goes_on f e))) in
     let trace_is : k ∷ (o ++ (r ++ rest)) ≡ trace ++ rest =
-      sym (ap (λ (z : List ℕ). z ++ rest) t ∙ ap (λ (z : List ℕ). k ∷ z) (append_assoc o r rest)) in
+    sym (ap (λ (z : List ℕ). z ++ rest) t ∙ ap (λ (z : List ℕ). k ∷ z) (append_assoc o r rest)) in
     let steps_are : Enter k ∷ (inner ++ Leave k ∷ (others ++ steps)) ≡ all ++ steps =
-      sym (ap (λ (z : List Step). z ++ steps) s ∙ ap (λ (z : List Step). Enter k ∷ z) (append_assoc inner (Leave k ∷ others) steps)) in
+    sym (ap (λ (z : List Step). z ++ steps) s ∙ ap (λ (z : List Step). Enter k ∷ z) (append_assoc inner (Leave k ∷ others) steps)) in
     subst (λ (z : List Step). Goes g (trace ++ rest) to z) steps_are
-      (subst (λ (z : List ℕ). Goes g z to (Enter k ∷ (inner ++ Leave k ∷ (others ++ steps)))) trace_is entered)
+    (subst (λ (z : List ℕ). Goes g z to (Enter k ∷ (inner ++ Leave k ∷ (others ++ steps)))) trace_is entered)
 
 -- the next step, by the next place
 pub record Next (g : Grammar) (trace : List ℕ) (ps : List Place) (x : Step) (steps : List Step) : Type 0 where
@@ -161,9 +172,9 @@ opened walk e w d =
       walks = x.walks;
       tokens = x.tokens;
       gives =
-        subst (λ (z : List Place). Goes (grammar_of l) walk.trace.now z x.steps) (sym e)
+          subst (λ (z : List Place). Goes (grammar_of l) walk.trace.now z x.steps) (sym e)
           (subst (λ (z : List Step). Goes (grammar_of l) walk.trace.now (Of (Name l.start) ∷ []) z) (append-nil x.steps)
-            (subst (λ (z : List ℕ). Goes (grammar_of l) z (Of (Name l.start) ∷ []) (x.steps ++ [])) (append-nil walk.trace.now) goes));
+          (subst (λ (z : List ℕ). Goes (grammar_of l) z (Of (Name l.start) ∷ []) (x.steps ++ [])) (append-nil walk.trace.now) goes));
     }
 
 -- a name is in front, and its alternative was entered
@@ -189,10 +200,10 @@ entry_next l n trace later ps new step x steps d =
       rest = e.rest;
       is = e.is ∙ ap (λ (k : ℕ). Enter k ∷ e.rest) same ∙ ap (λ (y : Step). y ∷ e.rest) (sym x.is);
       goes =
-        subst (λ (z : List Place). Goes (grammar_of l) later z e.rest) (sym x.places)
+          subst (λ (z : List Place). Goes (grammar_of l) later z e.rest) (sym x.places)
           (subst (λ (z : List Symbol). Goes (grammar_of l) later (map (λ (y : Symbol). Of y) z ++ Behind x.k ∷ ps) e.rest) (sym body_is)
-            (subst (λ (k : ℕ). Goes (grammar_of l) later (map (λ (y : Symbol). Of y) e.body ++ Behind k ∷ ps) e.rest) same
-              (subst (λ (z : List ℕ). Goes (grammar_of l) z (map (λ (y : Symbol). Of y) e.body ++ Behind e.k ∷ ps) e.rest) behind_it e.goes)));
+          (subst (λ (k : ℕ). Goes (grammar_of l) later (map (λ (y : Symbol). Of y) e.body ++ Behind k ∷ ps) e.rest) same
+          (subst (λ (z : List ℕ). Goes (grammar_of l) z (map (λ (y : Symbol). Of y) e.body ++ Behind e.k ∷ ps) e.rest) behind_it e.goes)));
     }
 
 no_entry : (l : Language) (n : ℕ) (trace : List ℕ) (ps : List Place)
@@ -207,8 +218,8 @@ mid_goes : (old mid : Walk) (n : ℕ) → mid.language ≡ old.language → mid.
     → (steps : List Step) → Gives old steps → Goes (grammar_of mid.language.now) mid.trace.now (Of (Name n) ∷ places_of mid.places) steps
 mid_goes old mid n f t p steps d =
     subst (λ (l : Bor Language). Goes (grammar_of l.now) mid.trace.now (Of (Name n) ∷ places_of mid.places) steps) (sym f)
-      (subst (λ (z : Bor (List ℕ)). Goes (grammar_of old.language.now) z.now (Of (Name n) ∷ places_of mid.places) steps) (sym t)
-        (subst (λ (z : List Place). Goes (grammar_of old.language.now) old.trace.now z steps) p d))
+    (subst (λ (z : Bor (List ℕ)). Goes (grammar_of old.language.now) z.now (Of (Name n) ∷ places_of mid.places) steps) (sym t)
+    (subst (λ (z : List Place). Goes (grammar_of old.language.now) old.trace.now z steps) p d))
 
 -- the step of a name, as the code has it: old before the name was taken, mid behind it
 pub entered_next : (old mid new : Walk) (n : ℕ) → mid.language ≡ old.language → mid.trace ≡ old.trace → places_of old.places ≡ Of (Name n) ∷ places_of mid.places
@@ -218,9 +229,9 @@ entered_next old mid new n f t p g (Ok None) h = λ steps d.
     absurd (no_entry mid.language.now n mid.trace.now (places_of mid.places) h steps (mid_goes old mid n f t p steps d))
 entered_next old mid new n f t p g (Ok (Some step)) h = λ steps d.
     let x : Entry mid.language.now n mid.trace.now new.trace.now (places_of mid.places) (places_of new.places) step =
-      record { k = h.0; a = h.1; is = h.2; trace_is = h.3; selects = h.4; places = h.5 } in
+    record { k = h.0; a = h.1; is = h.2; trace_is = h.3; selects = h.4; places = h.5 } in
     let y : Next (grammar_of mid.language.now) new.trace.now (places_of new.places) step steps =
-      entry_next mid.language.now n mid.trace.now new.trace.now (places_of mid.places) (places_of new.places) step x steps (mid_goes old mid n f t p steps d) in
+    entry_next mid.language.now n mid.trace.now new.trace.now (places_of mid.places) (places_of new.places) step x steps (mid_goes old mid n f t p steps d) in
     (y.rest, y.is, subst (λ (l : Language). Goes (grammar_of l) new.trace.now (places_of new.places) y.rest) (sym g) y.goes)
 
 pub entered_places : (k : ℕ) (b body : List Symbol) (old mid new : List Place) → mid ≡ old ++ Behind k ∷ [] → new ≡ map (λ (s : Symbol). Of s) b ++ reverse mid → b ≡ body

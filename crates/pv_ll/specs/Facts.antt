@@ -44,7 +44,7 @@ pub record IsLL1 (l : Language) : Type 0 where
   pub start_lives : (w : List ℕ) × IsSentence (grammar_of l) l.start w
   pub serves : (k : ℕ) (a : Alternative) → Selects l k a → Serves l a
   pub apart : (j k : ℕ) (a b : Alternative) → Selects l j a → Selects l k b → a.name ≡ b.name
-    → (t : ℕ) → bit_at a.when t ≡ 1 → bit_at b.when t ≡ 1 → j ≡ k
+      → (t : ℕ) → bit_at a.when t ≡ 1 → bit_at b.when t ≡ 1 → j ≡ k
   pub placed : (k : ℕ) (a : Alternative) → Selects l k a → ((rule l a.name).from ≤ k) × (k < (rule l a.name).to)
   pub owned : (n k : ℕ) → (rule l n).from ≤ k → k < (rule l n).to
-    → (a : Alternative) × (Selects l k a) × (a.name ≡ n)
+      → (a : Alternative) × (Selects l k a) × (a.name ≡ n)

@@ -25,14 +25,14 @@ pub data Derives (g : Grammar) : List Symbol → List ℕ → Type 0 where
   nothing : Derives g [] []
   token : {t : ℕ} {ss : List Symbol} {w : List ℕ} → Derives g ss w → Derives g (Token t ∷ ss) (t ∷ w)
   name : {n : ℕ} {ss body : List Symbol} {u v w : List ℕ} → (k : ℕ) → IsProduction g k n body
-    → Derives g body u → Derives g ss v → w ≡ u ++ v → Derives g (Name n ∷ ss) w
+      → Derives g body u → Derives g ss v → w ≡ u ++ v → Derives g (Name n ∷ ss) w
 
 -- the leftmost derivation: the numbers of the productions in the order in which each is put in place of the first name
 pub data Leftmost (g : Grammar) : List ℕ → List Symbol → List ℕ → Type 0 where
   done : Leftmost g [] [] []
   passed : {t : ℕ} {trace : List ℕ} {ss : List Symbol} {w : List ℕ} → Leftmost g trace ss w → Leftmost g trace (Token t ∷ ss) (t ∷ w)
   put : {n : ℕ} {trace : List ℕ} {ss body : List Symbol} {w : List ℕ} → (k : ℕ) → IsProduction g k n body
-    → Leftmost g trace (body ++ ss) w → Leftmost g (k ∷ trace) (Name n ∷ ss) w
+      → Leftmost g trace (body ++ ss) w → Leftmost g (k ∷ trace) (Name n ∷ ss) w
 
 -- the tokens are a text of the language
 abbrev pub IsSentence : Grammar → ℕ → List ℕ → Type 0

@@ -19,8 +19,8 @@ pub data Walks (g : Grammar) : List ℕ → List Symbol → List Step → Type 0
   over : Walks g [] [] []
   on : {t : ℕ} {trace : List ℕ} {ss : List Symbol} {steps : List Step} → Walks g trace ss steps → Walks g trace (Token t ∷ ss) (Pass t ∷ steps)
   through : {n : ℕ} {own rest trace : List ℕ} {ss body : List Symbol} {inner others steps : List Step} → (k : ℕ) → IsProduction g k n body
-    → Walks g own body inner → Walks g rest ss others → trace ≡ k ∷ (own ++ rest) → steps ≡ Enter k ∷ (inner ++ Leave k ∷ others)
-    → Walks g trace (Name n ∷ ss) steps
+      → Walks g own body inner → Walks g rest ss others → trace ≡ k ∷ (own ++ rest) → steps ≡ Enter k ∷ (inner ++ Leave k ∷ others)
+      → Walks g trace (Name n ∷ ss) steps
 
 -- the tokens on the way
 abbrev pub tokens_of : List Step → List ℕ
@@ -38,7 +38,7 @@ pub data Goes (g : Grammar) : List ℕ → List Place → List Step → Type 0 w
   arrived : Goes g [] [] []
   pass : {t : ℕ} {trace : List ℕ} {ps : List Place} {steps : List Step} → Goes g trace ps steps → Goes g trace (Of (Token t) ∷ ps) (Pass t ∷ steps)
   enter : {n : ℕ} {trace : List ℕ} {body : List Symbol} {ps : List Place} {steps : List Step} → (k : ℕ) → IsProduction g k n body
-    → Goes g trace (map (λ s. Of s) body ++ Behind k ∷ ps) steps → Goes g (k ∷ trace) (Of (Name n) ∷ ps) (Enter k ∷ steps)
+      → Goes g trace (map (λ s. Of s) body ++ Behind k ∷ ps) steps → Goes g (k ∷ trace) (Of (Name n) ∷ ps) (Enter k ∷ steps)
   leave : {k : ℕ} {trace : List ℕ} {ps : List Place} {steps : List Step} → Goes g trace ps steps → Goes g trace (Behind k ∷ ps) (Leave k ∷ steps)
 
 -- the steps that are left of a walk

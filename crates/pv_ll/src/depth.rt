@@ -22,7 +22,13 @@ fn is_counted(language: &Language, counts: &[bool], k: u16) -> bool
 }
 
 /// The depth behind a step, or none where it passes the limit.
-fn nest(language: &Language, counts: &[bool], limit: usize, depth: usize, step: Step) -> Option<usize>
+fn nest(
+    language: &Language,
+    counts: &[bool],
+    limit: usize,
+    depth: usize,
+    step: Step,
+) -> Option<usize>
     ensures { Nests (grammar_of language.now) counts.now limit depth step result }
 {
     match step {

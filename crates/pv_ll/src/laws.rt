@@ -7,5 +7,4 @@ ghost use Rattle.pv_ll.specs.Grammar.{Grammar, Derives, Leftmost};
 pub fn traces_tell_one_text()
     ensures derived { (g : Grammar) (trace : List ℕ) (ss : List Symbol) (w : List ℕ) → Leftmost g trace ss w → Derives g ss w }
     ensures one { (g : Grammar) (trace : List ℕ) (ss : List Symbol) (v w : List ℕ) → Leftmost g trace ss v → Leftmost g trace ss w → v ≡ w }
-{
-}
+{}

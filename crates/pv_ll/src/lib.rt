@@ -6,9 +6,9 @@ mod laws;
 mod machine;
 mod sample;
 mod table;
-mod visit;
 #[cfg(test)]
 mod tests;
+mod visit;
 
 pub use depth::first_deeper;
 pub use laws::traces_tell_one_text;

@@ -100,7 +100,11 @@ fn take_token(
 }
 
 /// Whether the text may end here.
-fn take_end(language: &Language, stack: &mut Vec<Symbol>, trace: &mut Trace) -> Result<bool, AllocError>
+fn take_end(
+    language: &Language,
+    stack: &mut Vec<Symbol>,
+    trace: &mut Trace,
+) -> Result<bool, AllocError>
     requires { IsLL1 language.now }
     ensures { IfOk result (λ yes. (read : List ℕ) → StandsFor language.now trace.old.items read (stack_of stack.old) → Ends language.now trace.new.items read yes) }
 {

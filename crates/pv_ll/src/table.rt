@@ -91,8 +91,16 @@ fn part<T>(items: &[T], from: usize, to: usize) -> &[T]
     ensures items { result.now ≡ part items.now from to }
     ensures short { length result.now ≤ to }
 {
-    let front = if to < items.len() { &items[..to] } else { items };
-    if from < front.len() { &front[from..] } else { &[] }
+    let front = if to < items.len() {
+        &items[..to]
+    } else {
+        items
+    };
+    if from < front.len() {
+        &front[from..]
+    } else {
+        &[]
+    }
 }
 
 /// The symbols of an alternative.
@@ -100,5 +108,9 @@ pub(crate) fn body<'a>(language: &'a Language, alternative: &Alternative) -> &'a
     ensures symbols { result.now ≡ body_of language.now alternative.now }
     ensures short { length result.now < 2 ^ 16 }
 {
-    part(language.symbols, alternative.from as usize, alternative.to as usize)
+    part(
+        language.symbols,
+        alternative.from as usize,
+        alternative.to as usize,
+    )
 }

@@ -54,7 +54,11 @@ fn push_symbols(body: &[Symbol], places: &mut Vec<Place>) -> Result<(), AllocErr
 
 impl<'a> Walk<'a> {
     /// A walk through the derivation that a trace of `recognize` tells of. It fails only where memory runs out.
-    pub fn new(alloc: Global, language: &'a Language, trace: &'a [u16]) -> Result<Walk<'a>, AllocError>
+    pub fn new(
+        alloc: Global,
+        language: &'a Language,
+        trace: &'a [u16],
+    ) -> Result<Walk<'a>, AllocError>
         ensures { IfOk result (λ walk. (w : List ℕ) → Leftmost (grammar_of language.now) trace.now (Symbol.Name language.now.start ∷ []) w
             → Opens (grammar_of language.now) language.now.start trace.now w walk) }
     {

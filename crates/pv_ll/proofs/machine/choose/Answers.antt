@@ -16,4 +16,4 @@ returns-then-contains-clause-found c =
 pub loop-k-preserved : goal.loop-k-preserved
 loop-k-preserved c =
     passed c.args.language.now c.args.name c.loop-k.k c.args.token _ c.loop-k.invariant
-      (λ h. let yes : c.contains.result ≡ true = c.contains.ensures.1 h in absurd (cc))
+    (λ h. let yes : c.contains.result ≡ true = c.contains.ensures.1 h in absurd (cc))

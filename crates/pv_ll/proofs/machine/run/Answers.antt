@@ -10,20 +10,21 @@ loop-i-init c =
 pub returns-then-not-branch : goal.returns-then-not-branch
 returns-then-not-branch c =
     fault_at c.args.language.now _ c.args.kinds.now c.loop-i.i _ c.loop-i-test.true c.loop-i.invariant
-      (takes_as c.args.language.now _ _ _ _ _ false c.if-not-branch.true (c.in_ok-take_token.ensures _ c.loop-i.invariant))
+    (takes_as c.args.language.now _ _ _ _ _ false c.if-not-branch.true (c.in_ok-take_token.ensures _ c.loop-i.invariant))
 
 pub loop-i-preserved : goal.loop-i-preserved
 loop-i-preserved c =
     taken c.args.language.now _ c.args.kinds.now c.loop-i.i _ c.loop-i-test.true
-      (takes_as c.args.language.now _ _ _ _ _ true c.if-not-branch.false (c.in_ok-take_token.ensures _ c.loop-i.invariant))
+    (takes_as c.args.language.now _ _ _ _ _ true c.if-not-branch.false (c.in_ok-take_token.ensures _ c.loop-i.invariant))
 
 pub returns-else-branch : goal.returns-else-branch
 returns-else-branch c =
     fault_at_end c.args.language.now _ c.args.kinds.now c.loop-i.i _ c.loop-i-test.false c.loop-i.invariant
-      (ends_as c.args.language.now _ _ _ false c.if-branch.false (c.in_ok-take_end.ensures _ c.loop-i.invariant))
+    (ends_as c.args.language.now _ _ _ false c.if-branch.false (c.in_ok-take_end.ensures _ c.loop-i.invariant))
 
 pub returns-then-branch : goal.returns-then-branch
 returns-then-branch c =
-    let e = ends_as c.args.language.now _ _ _ true c.if-branch.true (c.in_ok-take_end.ensures _ c.loop-i.invariant) in
-    (whole c.args.language.now c.args.kinds.now c.loop-i.i c.loop-i-test.false e.0,
-     whole_trace c.args.language.now _ c.args.kinds.now c.loop-i.i c.loop-i-test.false e.1)
+    let e = ends_as c.args.language.now _ _ _ true c.if-branch.true (c.in_ok-take_end.ensures _ c.loop-i.invariant) in (
+      whole c.args.language.now c.args.kinds.now c.loop-i.i c.loop-i-test.false e.0,
+      whole_trace c.args.language.now _ c.args.kinds.now c.loop-i.i c.loop-i-test.false e.1,
+    )

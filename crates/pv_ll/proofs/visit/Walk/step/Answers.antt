@@ -8,6 +8,6 @@ use Rattle.pv_ll.proofs.visit.Walk.step.Goals as goal
 pub returns-in-Some-Of-Name-clause-next : goal.returns-in-Some-Of-Name-clause-next
 returns-in-Some-Of-Name-clause-next c =
     let e : places_of c.args.self.now.places ≡ Of (Name c.in-Some-Of-Name.field-0-0-0) ∷ places_of c.pop_place.new.places =
-      cc (c.in-Some-Of-Name.ensures.some, c.in-Some-Of-Name.field-0-is, c.in-Some-Of-Name.field-0-0-is) in
+    cc (c.in-Some-Of-Name.ensures.some, c.in-Some-Of-Name.field-0-is, c.in-Some-Of-Name.field-0-0-is) in
     entered_next c.args.self.now (record c.args.self.now { places = c.pop_place.new.places }) _ c.in-Some-Of-Name.field-0-0-0 refl refl e
-      c.enter.ensures.language _ c.enter.ensures.enters
+    c.enter.ensures.language _ c.enter.ensures.enters
