@@ -9,14 +9,14 @@ use Rattle.std.proofs.lemmas.Nat.Bits.{bit_at-pow_other}
 use Rattle.pv_ll.specs.declared.table.Symbol.{Symbol}
 use Rattle.pv_ll.specs.declared.table.Symbol.TheVariants.{Token, Name}
 use Rattle.pv_ll.specs.declared.table.Language.{Language}
-use Rattle.pv_ll.specs.Grammar.{Derives, Leftmost, IsSentence, IsFault}
+use Rattle.pv_ll.specs.Grammar.{Leftmost, IsFault}
 use Rattle.pv_ll.specs.Grammar.Leftmost.{done}
 use Rattle.pv_ll.specs.Grammar.Derives.{nothing}
 use Rattle.pv_ll.specs.Table.{grammar_of, rule}
 use Rattle.pv_ll.specs.Facts.{IsLL1, IsSubset}
-use Rattle.pv_ll.specs.Reading.{look, IsText, Stands, StandsFor, IsStuck, IsRefused, Takes, Expects, Ends}
-use Rattle.pv_ll.proofs.Words.{Shift, Word, inv_token, inv_nothing, live_word}
-use Rattle.pv_ll.proofs.Stack.{shifted, stuck_token, stuck_end}
+use Rattle.pv_ll.specs.Reading.{IsText, Stands, StandsFor, IsStuck, IsRefused, Takes, Expects, Ends}
+use Rattle.pv_ll.proofs.Words.{Shift, inv_token, live_word}
+use Rattle.pv_ll.proofs.Stack.{shifted, stuck_token}
 
 only_end : (k set : ℕ) → bit_at set k ≡ 1 → IsSubset (2 ^ k) set
 only_end k set h t i = elim (cases_eq t k) [

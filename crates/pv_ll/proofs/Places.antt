@@ -1,14 +1,13 @@
 -- Places in the table's arrays.
-use Rattle.std.proofs.Common.{◌≡◌, ℕ, ◌+◌, ◌<◌, ◌≤◌, length, List, Some, ap, arith, get_or, subst, ◌∙◌, sym, inl, inr}
-use Rattle.std.specs.Prelude.{slice_get}
+use Rattle.std.proofs.Common.{◌≡◌, ℕ, ◌+◌, ◌<◌, ◌≤◌, length, ap, arith, get_or, subst, ◌∙◌, inl, inr}
 use Rattle.std.specs.Int.{bit_at}
 use Rattle.std.proofs.lemmas.Option.{slice_get_within, slice_get-get_or, get_or_from_slice_get}
-use Rattle.std.proofs.lemmas.Bool.{cases_lt, cases_eq}
+use Rattle.std.proofs.lemmas.Bool.{cases_eq}
 use Rattle.pv_ll.specs.declared.table.Alternative.{Alternative}
 use Rattle.pv_ll.specs.declared.table.Rule.{Rule}
 use Rattle.pv_ll.specs.declared.table.Language.{Language}
 use Rattle.pv_ll.specs.Table.{rule}
-use Rattle.pv_ll.specs.Facts.{IsLL1, Selects, Serves}
+use Rattle.pv_ll.specs.Facts.{IsLL1, Selects}
 use Rattle.pv_ll.specs.Reading.{Chosen, NoneFits}
 
 -- the part of a name lies in the table

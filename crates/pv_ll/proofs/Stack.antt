@@ -1,19 +1,18 @@
 -- The steps of the machine keep what its stack stands for.
-use Rattle.std.proofs.Common.{◌≡◌, ℕ, ◌+◌, ◌<◌, ◌≤◌, ◌^◌, List, [], ◌∷◌, ◌++◌, length, Some, Option, get_or, refl, ap, ◌∙◌, sym, append_assoc, subst}
-use Rattle.std.specs.Prelude.{slice_get}
+use Rattle.std.proofs.Common.{◌≡◌, ℕ, ◌<◌, ◌^◌, List, [], ◌∷◌, ◌++◌, length, Option, get_or, refl, ap, ◌∙◌, sym, append_assoc, subst}
 use Rattle.std.specs.Option.{option_map_or}
 use Rattle.std.specs.Int.{bit_at}
 use Rattle.pv_ll.specs.declared.table.Symbol.{Symbol}
 use Rattle.pv_ll.specs.declared.table.Symbol.TheVariants.{Token, Name}
 use Rattle.pv_ll.specs.declared.table.Alternative.{Alternative}
 use Rattle.pv_ll.specs.declared.table.Language.{Language}
-use Rattle.pv_ll.specs.Grammar.{Grammar, Production, ◌⟶◌, Derives, Leftmost, IsProduction, IsSentence}
+use Rattle.pv_ll.specs.Grammar.{Production, Derives, Leftmost, IsProduction}
 use Rattle.pv_ll.specs.Grammar.Derives.{token}
 use Rattle.pv_ll.specs.Grammar.Leftmost.{passed, put}
-use Rattle.pv_ll.specs.Table.{grammar_of, production_of, body_of, rule, next, front}
-use Rattle.pv_ll.specs.Facts.{IsLL1, Serves, Selects, IsSubset, Followed, Lives}
+use Rattle.pv_ll.specs.Table.{grammar_of, body_of, rule, front}
+use Rattle.pv_ll.specs.Facts.{IsLL1, Selects}
 use Rattle.pv_ll.specs.Reading.{look, IsText, Stands, StandsFor, IsStuck, Chosen, NoneFits}
-use Rattle.pv_ll.proofs.Words.{Expansion, Shift, Cut, Word, inv_token, inv_nothing, replaced, live_word, lives_append}
+use Rattle.pv_ll.proofs.Words.{Shift, inv_token, inv_nothing, replaced, lives_append}
 use Rattle.pv_ll.proofs.Steps.{ServesAs, Determined, served, determined, followed_append, production_at, front_falls}
 use Rattle.pv_ll.proofs.Places.{selects_read}
 use Rattle.std.proofs.lemmas.Option.{slice_get_within, get_or_from_slice_get}

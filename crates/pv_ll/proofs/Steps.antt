@@ -1,6 +1,6 @@
 -- The steps of the machine keep what the stack stands for.
-use Rattle.std.proofs.Common.{◌≡◌, ℕ, ◌+◌, ◌<◌, ◌≤◌, ◌^◌, Bool, true, false, cond, List, [], ◌∷◌, ◌++◌, length, map, Some, None, Option, refl, ap, ◌∙◌, sym, append_assoc, arith, subst, zero, suc}
-use Rattle.std.specs.Prelude.{slice_get, bit_or, ◌&&◌}
+use Rattle.std.proofs.Common.{◌≡◌, ℕ, ◌+◌, ◌<◌, ◌≤◌, ◌^◌, Bool, true, false, cond, List, [], ◌∷◌, ◌++◌, map, Some, Option, refl, ap, ◌∙◌, sym, arith, subst, zero, suc}
+use Rattle.std.specs.Prelude.{slice_get, ◌&&◌}
 use Rattle.std.specs.Option.{option_map}
 use Rattle.std.specs.Int.{bit_at}
 use Rattle.std.proofs.lemmas.Option.{slice_get-map}
@@ -10,12 +10,12 @@ use Rattle.pv_ll.specs.declared.table.Symbol.{Symbol}
 use Rattle.pv_ll.specs.declared.table.Symbol.TheVariants.{Token, Name}
 use Rattle.pv_ll.specs.declared.table.Alternative.{Alternative}
 use Rattle.pv_ll.specs.declared.table.Language.{Language}
-use Rattle.pv_ll.specs.Grammar.{Grammar, Production, ◌⟶◌, Derives, IsProduction, IsSentence}
+use Rattle.pv_ll.specs.Grammar.{Production, ◌⟶◌, Derives, IsProduction}
 use Rattle.pv_ll.specs.Grammar.Derives.{nothing, token, name}
 use Rattle.pv_ll.specs.Table.{grammar_of, production_of, body_of, rule, vanish, next, front}
 use Rattle.pv_ll.specs.Facts.{IsLL1, Serves, Selects, IsSubset, Followed, Lives}
-use Rattle.pv_ll.specs.Reading.{look, IsText, Stands, StandsFor, IsStuck}
-use Rattle.pv_ll.proofs.Words.{Expansion, Shift, Cut, Word, inv_name, inv_token, inv_nothing, join, cut, replaced, live_word, lives_append}
+use Rattle.pv_ll.specs.Reading.{look}
+use Rattle.pv_ll.proofs.Words.{Expansion, inv_name, join}
 use Rattle.pv_ll.proofs.Sets.{in_first, in_both, subset_or}
 
 -- an alternative as the production that it is

@@ -1,10 +1,10 @@
 -- A table that passes the test is that of an LL(1) grammar.
-use Rattle.std.proofs.Common.{◌≡◌, ℕ, zero, suc, ◌+◌, ◌-◌, ◌<◌, ◌≤◌, ◌^◌, Bool, true, false, cond, List, [], ◌∷◌, length, get_or, take, drop, Some, refl, ap, ◌∙◌, sym, subst, arith, inl, inr, ltb-true, leb-true, eqb-true, eq-eqb}
+use Rattle.std.proofs.Common.{◌≡◌, ℕ, zero, suc, ◌+◌, ◌-◌, ◌<◌, ◌≤◌, ◌^◌, Bool, true, false, cond, List, [], ◌∷◌, length, get_or, take, Some, refl, ap, ◌∙◌, sym, subst, arith, inl, inr, ltb-true, leb-true, eqb-true, eq-eqb}
 use Rattle.std.specs.Prelude.{slice_get, bit_or, bit_and, not, ◌&&◌, ◌||◌, ◌==◌, nat_lt, nat_le}
 use Rattle.std.specs.List.{list_all}
 use Rattle.std.specs.Int.{bit_at}
 use Rattle.std.proofs.lemmas.Bool.{and_parts, cases_eq, cases_lt, cases_order}
-use Rattle.std.proofs.lemmas.Option.{slice_get-get_or, slice_get_within}
+use Rattle.std.proofs.lemmas.Option.{slice_get-get_or}
 use Rattle.std.proofs.lemmas.List.{append-nil, get_or-take, get_or-drop, get_or_past, length-take, length-drop}
 use Rattle.std.proofs.lemmas.Nat.Bits.{bit_at_or, bit_at-lt, bit_at-zero, bit_at-pow_other}
 use Rattle.pv_ll.specs.declared.table.Symbol.{Symbol}
@@ -12,7 +12,7 @@ use Rattle.pv_ll.specs.declared.table.Symbol.TheVariants.{Token, Name}
 use Rattle.pv_ll.specs.declared.table.Alternative.{Alternative}
 use Rattle.pv_ll.specs.declared.table.Rule.{Rule}
 use Rattle.pv_ll.specs.declared.table.Language.{Language}
-use Rattle.pv_ll.specs.Grammar.{Grammar, Derives, IsSentence, IsProduction}
+use Rattle.pv_ll.specs.Grammar.{IsSentence, IsProduction}
 use Rattle.pv_ll.specs.Grammar.Derives.{nothing, name}
 use Rattle.pv_ll.specs.Table.{part, body_of, grammar_of, rule, no_rule, vanish, next, front}
 use Rattle.pv_ll.specs.Check.{is_subset, is_among, one_round, rounds, live_names, are_followed, serves, is_apart, are_apart, are_placed, own_their_parts, is_ll1}

@@ -1,12 +1,11 @@
 -- Walks through derivations.
-use Rattle.std.proofs.Common.{◌≡◌, ℕ, zero, suc, ◌+◌, ◌-◌, ◌<◌, ◌≤◌, List, [], ◌∷◌, ◌++◌, length, map, get_or, drop, Some, None, Option, Result, Ok, Err, Bor, refl, ap, ◌∙◌, sym, subst, append_assoc, arith}
+use Rattle.std.proofs.Common.{◌≡◌, ℕ, zero, suc, ◌+◌, ◌≤◌, List, [], ◌∷◌, ◌++◌, length, map, Some, None, Option, Result, Ok, Err, Bor, refl, ap, ◌∙◌, sym, subst, append_assoc, arith}
 use Rattle.std.specs.Prelude.{reverse, slice_get, IfOk}
 use Rattle.std.specs.declared.alloc.AllocError.{AllocError}
 use Rattle.pv_ll.specs.declared.table.Language.{Language}
 use Rattle.pv_ll.specs.declared.table.Alternative.{Alternative}
 use Rattle.pv_ll.specs.declared.visit.Walk.{Walk}
-use Rattle.std.specs.Option.{option_map_or}
-use Rattle.std.proofs.lemmas.List.{append-nil, drop_more, drop_all, reverse-append, map-append, length-append}
+use Rattle.std.proofs.lemmas.List.{append-nil, reverse-append, length-append}
 use Rattle.pv_ll.specs.declared.table.Symbol.{Symbol}
 use Rattle.pv_ll.specs.declared.table.Symbol.TheVariants.{Token, Name}
 use Rattle.pv_ll.specs.declared.visit.Step.{Step}
@@ -16,7 +15,7 @@ use Rattle.pv_ll.specs.declared.visit.Place.TheVariants.{Of, Behind}
 use Rattle.pv_ll.specs.Grammar.{Grammar, Production, ◌⟶◌, IsProduction, Leftmost}
 use Rattle.pv_ll.specs.Grammar.Leftmost.{done, passed, put}
 use Rattle.pv_ll.specs.Walk.{Walks, Goes, Gives, Opens, Enters, IsNext, places_of, tokens_of}
-use Rattle.pv_ll.specs.Table.{grammar_of, production_of, body_of}
+use Rattle.pv_ll.specs.Table.{grammar_of, body_of}
 use Rattle.pv_ll.specs.Facts.{Selects}
 use Rattle.pv_ll.proofs.Steps.{Source, behind}
 use Rattle.pv_ll.specs.Walk.Walks.{over, on, through}
@@ -239,3 +238,14 @@ pub entered_places : (k : ℕ) (b body : List Symbol) (old mid new : List Place)
 entered_places k b body old mid new e f g =
     f ∙ ap (λ (z : List Symbol). map (λ (s : Symbol). Of s) z ++ reverse mid) g
     ∙ ap (λ (z : List Place). map (λ (s : Symbol). Of s) body ++ z) (ap (λ (z : List Place). reverse z) e ∙ reverse-append old (Behind k ∷ []))
+
+-- the walk is over
+pub over_next : (old new : Walk) → new.language ≡ old.language → new.trace ≡ old.trace → places_of old.places ≡ [] → places_of new.places ≡ []
+    → IsNext old None new
+over_next old new f t e n = λ steps d.
+    let goes : Goes (grammar_of old.language.now) old.trace.now [] steps = subst (λ (z : List Place). Goes (grammar_of old.language.now) old.trace.now z steps) e d in (
+      no_next goes,
+      subst (λ (l : Bor Language). Goes (grammar_of l.now) new.trace.now (places_of new.places) steps) (sym f)
+          (subst (λ (z : Bor (List ℕ)). Goes (grammar_of old.language.now) z.now (places_of new.places) steps) (sym t)
+          (subst (λ (z : List Place). Goes (grammar_of old.language.now) old.trace.now z steps) (sym n) goes)),
+    )

@@ -1,5 +1,5 @@
 -- the test of a table, which the check computes: the grammar is LL(1), and the table's sets and weights serve it
-use Rattle.std.specs.Prelude.{ℕ, zero, suc, ◌+◌, ◌^◌, Bool, true, false, not, if◌then◌else◌, ◌&&◌, ◌||◌, ◌==◌, nat_lt, nat_le, List, [], ◌∷◌, length, bit_or, bit_and}
+use Rattle.std.specs.Prelude.{ℕ, zero, suc, ◌^◌, Bool, true, not, if◌then◌else◌, ◌&&◌, ◌||◌, ◌==◌, nat_lt, nat_le, List, [], ◌∷◌, length, bit_or, bit_and}
 use Rattle.std.specs.List.{list_all}
 use Rattle.std.specs.Int.{bit_at}
 use Rattle.pv_ll.specs.declared.table.Symbol.{Symbol}

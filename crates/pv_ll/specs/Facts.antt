@@ -1,11 +1,11 @@
 -- what the test of a table makes sure of, as facts
-use Rattle.std.specs.Prelude.{◌≡◌, ℕ, ◌<◌, ◌≤◌, true, List, [], ◌∷◌, length, Some, slice_get, slice_index_or}
+use Rattle.std.specs.Prelude.{◌≡◌, ℕ, ◌<◌, ◌≤◌, true, List, [], ◌∷◌, Some, slice_get}
 use Rattle.std.specs.Int.{bit_at}
 use Rattle.pv_ll.specs.declared.table.Symbol.{Symbol}
 use Rattle.pv_ll.specs.declared.table.Symbol.TheVariants.{Token, Name}
 use Rattle.pv_ll.specs.declared.table.Alternative.{Alternative}
 use Rattle.pv_ll.specs.declared.table.Language.{Language}
-use Rattle.pv_ll.specs.Grammar.{Grammar, Derives, IsSentence, IsProduction}
+use Rattle.pv_ll.specs.Grammar.{Grammar, IsSentence}
 use Rattle.pv_ll.specs.Table.{grammar_of, body_of, rule, vanish, next, front}
 
 -- alternative k of the table

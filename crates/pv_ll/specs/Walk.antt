@@ -1,5 +1,5 @@
 -- the walk through a derivation, in order
-use Rattle.std.specs.Prelude.{◌≡◌, ℕ, ◌+◌, ◌-◌, ◌*◌, ◌<◌, Bool, false, if◌then◌else◌, nat_lt, List, [], ◌∷◌, ◌++◌, length, map, reverse, slice_get, slice_index_or, Vec, Option, Some, None}
+use Rattle.std.specs.Prelude.{◌≡◌, ℕ, ◌+◌, ◌-◌, ◌*◌, ◌<◌, ◌≤◌, Bool, false, if◌then◌else◌, nat_lt, List, [], ◌∷◌, ◌++◌, length, map, reverse, slice_get, slice_index_or, Vec, Option, Some, None}
 use Rattle.std.specs.Option.{option_map_or}
 use Rattle.std.specs.declared.alloc.Global.{Global}
 use Rattle.pv_ll.specs.declared.table.Symbol.{Symbol}
@@ -9,7 +9,7 @@ use Rattle.pv_ll.specs.declared.visit.Step.TheVariants.{Enter, Pass, Leave}
 use Rattle.pv_ll.specs.declared.visit.Place.{Place}
 use Rattle.pv_ll.specs.declared.visit.Place.TheVariants.{Of, Behind}
 use Rattle.pv_ll.specs.declared.visit.Walk.{Walk}
-use Rattle.pv_ll.specs.Grammar.{Grammar, Production, IsProduction, Leftmost}
+use Rattle.pv_ll.specs.Grammar.{Grammar, Production, IsProduction}
 use Rattle.pv_ll.specs.declared.table.Alternative.{Alternative}
 use Rattle.pv_ll.specs.Table.{grammar_of, body_of}
 use Rattle.pv_ll.specs.Facts.{Selects}
@@ -52,9 +52,9 @@ pub record Opens (g : Grammar) (start : ℕ) (trace w : List ℕ) (walk : Walk) 
   pub tokens : tokens_of steps ≡ w
   pub gives : Gives walk steps
 
--- a step is the next one, and the others are left; there is none where none is left
+-- a step is the next one, and the others are left; there is none where none is left, and none again after it
 abbrev pub IsNext : Walk → Option Step → Walk → Type 0
-IsNext old None new = (steps : List Step) → Gives old steps → steps ≡ []
+IsNext old None new = (steps : List Step) → Gives old steps → (steps ≡ []) × Gives new steps
 IsNext old (Some step) new = (steps : List Step) → Gives old steps → (rest : List Step) × (steps ≡ step ∷ rest) × Gives new rest
 
 -- more than the steps that can be left
@@ -71,7 +71,7 @@ Enters old (Some step) new = (k : ℕ) × (a : Alternative) × (step ≡ Enter k
 abbrev pub counts_at : Grammar → List Bool → ℕ → Bool
 counts_at g counts k = option_map_or (λ (p : Production). slice_index_or counts p.name false) (slice_get g k) false
 
--- how many tokens stand before the place where more names that count are open at once than the limit says, from a depth and a place on
+-- the search for that place, from a depth and a place on
 abbrev pub first_deep : Grammar → List Bool → ℕ → ℕ → ℕ → List Step → Option ℕ
 first_deep g counts limit depth place [] = None
 first_deep g counts limit depth place (Pass t ∷ steps) = first_deep g counts limit depth (place + 1) steps
@@ -94,7 +94,29 @@ Nests g counts limit depth step None = (place : ℕ) (rest : List Step) → firs
 Nests g counts limit depth step (Some next) = (place : ℕ) (rest : List Step)
     → first_deep g counts limit depth place (step ∷ rest) ≡ first_deep g counts limit next (place_after place step) rest
 
--- the answer is that of a walk through the derivation
+-- how many names that count are open behind a step
+abbrev pub depth_after : Grammar → List Bool → ℕ → Step → ℕ
+depth_after g counts depth (Pass t) = depth
+depth_after g counts depth (Enter k) = if counts_at g counts k then depth + 1 else depth
+depth_after g counts depth (Leave k) = if counts_at g counts k then depth - 1 else depth
+
+-- how many are open behind these steps
+abbrev pub depth_behind : Grammar → List Bool → ℕ → List Step → ℕ
+depth_behind g counts depth [] = depth
+depth_behind g counts depth (step ∷ steps) = depth_behind g counts (depth_after g counts depth step) steps
+
+-- behind the steps before, and behind no fewer of them, more names that count are open than the limit says
+pub record IsFirstPast (g : Grammar) (counts : List Bool) (limit depth : ℕ) (steps before : List Step) : Type 0 where
+  pub after : List Step
+  pub splits : steps ≡ before ++ after
+  pub past : limit < depth_behind g counts depth before
+  pub first : (p q : List Step) → before ≡ p ++ q → limit < depth_behind g counts depth p → q ≡ []
+
+-- the place is that of the first steps behind which more names that count are open than the limit says; none where there are no such steps
+abbrev pub IsPlace : Grammar → List Bool → ℕ → List Step → Option ℕ → Type 0
+IsPlace g counts limit steps None = (before after : List Step) → steps ≡ before ++ after → depth_behind g counts 0 before ≤ limit
+IsPlace g counts limit steps (Some place) = (before : List Step) × IsFirstPast g counts limit 0 steps before × (place ≡ length (tokens_of before))
+
+-- the same of the walk through a derivation
 abbrev pub IsFirstDeep : Grammar → ℕ → List ℕ → List Bool → ℕ → Option ℕ → Type 0
-IsFirstDeep g start trace counts limit place =
-    (steps : List Step) × Walks g trace (Name start ∷ []) steps × (place ≡ first_deep g counts limit 0 0 steps)
+IsFirstDeep g start trace counts limit place = (steps : List Step) × Walks g trace (Name start ∷ []) steps × IsPlace g counts limit steps place

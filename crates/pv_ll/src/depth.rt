@@ -55,6 +55,9 @@ fn nest(
 /// or none where there is no such place. `counts` says for each name, by its number, whether it counts; names past its
 /// end don't. The kinds are the text's, and the trace is what `recognize` answered of them. It fails only where memory
 /// runs out.
+///
+/// This is the depth of the derivation. A tree whose chains nest to the left is deeper at a chain's first operand than
+/// the derivation is there, which nests them to the right: such a depth is to be counted on the steps of a `Walk`.
 pub fn first_deeper(
     alloc: Global,
     language: &Language,

@@ -11,7 +11,7 @@ mod tests;
 mod visit;
 
 pub use depth::first_deeper;
-pub use laws::traces_tell_one_text;
+pub use laws::{traces_have_one_walk, traces_tell_one_text};
 pub use machine::{Trace, recognize};
 pub use sample::recognize_sample;
 pub use table::{Alternative, Language, Rule, Symbol};

@@ -25,7 +25,8 @@ enum Place {
     Behind(u16),
 }
 
-/// A walk through the derivation of a text by its trace.
+/// A walk through the derivation of a text by its trace: each alternative is entered, its symbols are walked in order, and
+/// it is left.
 #[derive(Drop)]
 pub struct Walk<'a> {
     language: &'a Language,
@@ -36,7 +37,7 @@ pub struct Walk<'a> {
 /// Takes the next place.
 fn pop_place(places: &mut Vec<Place>) -> Option<Place>
     ensures some { IfSome result (λ place. places_of places.old ≡ place ∷ places_of places.new) }
-    ensures none { IfNone result (places_of places.old ≡ []) }
+    ensures none { IfNone result ((places_of places.old ≡ []) × (places_of places.new ≡ [])) }
 {
     places.pop()
 }

@@ -1,5 +1,4 @@
-use Rattle.std.proofs.Common.{◌≡◌, ℕ, ◌<◌, ◌≤◌, true}
-use Rattle.std.specs.Int.{bit_at}
+use Rattle.std.proofs.Common.{◌≡◌, true}
 use Rattle.pv_ll.proofs.Places.{owned_within, found, passed, at_rule}
 use Rattle.pv_ll.proofs.machine.choose.Goals as goal
 
