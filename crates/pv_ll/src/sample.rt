@@ -189,7 +189,7 @@ const SYMBOLS: [Symbol; 20] = [
 ];
 
 /// The table of the grammar.
-fn sample() -> Language
+pub(crate) fn sample() -> Language
     ensures ll1 { IsTrue (is_ll1 result) }
     ensures grammar { grammar_of result ≡ sample_grammar }
     ensures start { result.start ≡ 0 }

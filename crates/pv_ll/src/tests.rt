@@ -1,7 +1,10 @@
 ghost use Rattle.std.specs.Prelude.{◌≡◌, false};
 ghost use Rattle.pv_ll.specs.Check.{is_ll1};
 
-use crate::{Alternative, Language, Rule, Symbol, recognize_sample};
+use crate::sample::sample;
+use crate::{
+    Alternative, Language, Rule, Step, Symbol, Walk, first_deeper, recognize, recognize_sample,
+};
 use std::test::Fail;
 
 /// Token lists of the sample language, and where each has its fault.
@@ -67,6 +70,64 @@ fn the_trace_is_leftmost(rt: HostRuntime) -> Result<(), Fail> {
     let answer = recognize_sample(rt.alloc(), &[0, 1, 0, 2])?;
     let trace = answer.ok().ok_or("a fault")?;
     assert_eq!(rt; trace.as_slice(), [0, 2, 3, 6, 9, 8, 5, 1].as_slice());
+    Ok(())
+}
+
+/// The same text, step by step.
+#[test]
+fn the_walk_is_in_order(rt: HostRuntime) -> Result<(), Fail> {
+    let language = sample();
+    let trace = [0, 2, 3, 6, 9, 8, 5, 1];
+    let mut walk = Walk::new(rt.alloc(), &language, &trace)?;
+    let mut steps = Vec::new(rt.alloc());
+    while let Some(step) = walk.step()? {
+        steps.push(match step {
+            Step::Enter(k) => (1, k),
+            Step::Pass(kind) => (2, u16::from(kind)),
+            Step::Leave(k) => (3, k),
+        })?;
+    }
+    let wanted = [
+        (1, 0),
+        (1, 2),
+        (2, 0),
+        (2, 1),
+        (1, 3),
+        (1, 6),
+        (1, 9),
+        (2, 0),
+        (3, 9),
+        (1, 8),
+        (3, 8),
+        (3, 6),
+        (1, 5),
+        (3, 5),
+        (3, 3),
+        (2, 2),
+        (3, 2),
+        (1, 1),
+        (3, 1),
+        (3, 0),
+    ];
+    assert_eq!(rt; steps.as_slice(), wanted.as_slice());
+    Ok(())
+}
+
+/// `a := ((b));` has three expressions in one another, the innermost before token 4.
+#[test]
+fn the_depth_is_counted(rt: HostRuntime) -> Result<(), Fail> {
+    let language = sample();
+    let kinds = [0, 1, 3, 3, 0, 4, 4, 2];
+    let counts = [false, false, true];
+    match recognize(rt.alloc(), &language, &kinds)? {
+        Err(i) => assert_eq!(rt; i, kinds.len(), "a fault"),
+        Ok(trace) => {
+            let two = first_deeper(rt.alloc(), &language, &kinds, trace.as_slice(), &counts, 2)?;
+            assert_eq!(rt; two, Some(4));
+            let three = first_deeper(rt.alloc(), &language, &kinds, trace.as_slice(), &counts, 3)?;
+            assert_eq!(rt; three, None);
+        }
+    }
     Ok(())
 }
 
