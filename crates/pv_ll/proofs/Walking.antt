@@ -1,6 +1,6 @@
 -- Walks through derivations.
-use Rattle.std.proofs.Common.{◌≡◌, ℕ, zero, suc, ◌+◌, ◌≤◌, List, [], ◌∷◌, ◌++◌, length, map, Some, None, Option, Result, Ok, Err, Bor, refl, ap, ◌∙◌, sym, subst, append_assoc, arith}
-use Rattle.std.specs.Prelude.{reverse, slice_get, IfOk}
+use Rattle.std.proofs.Common.{◌≡◌, ℕ, zero, suc, ◌+◌, ◌≤◌, List, [], ◌∷◌, ◌++◌, length, map, drop, Some, None, Option, Result, Ok, Err, Bor, refl, ap, ◌∙◌, sym, subst, append_assoc, arith}
+use Rattle.std.specs.Prelude.{reverse, slice_get, IfOk, OnErr}
 use Rattle.std.specs.declared.alloc.AllocError.{AllocError}
 use Rattle.pv_ll.specs.declared.table.Language.{Language}
 use Rattle.pv_ll.specs.declared.table.Alternative.{Alternative}
@@ -213,25 +213,48 @@ no_entry l n trace ps none steps d =
     let b : Source l l.alternatives.now e.k (n ⟶ e.body) = behind l l.alternatives.now e.k (n ⟶ e.body) e.production in
     none e.k e.later b.alternative e.trace_is b.selects
 
-mid_goes : (old mid : Walk) (n : ℕ) → mid.language ≡ old.language → mid.trace ≡ old.trace → places_of old.places ≡ Of (Name n) ∷ places_of mid.places
-    → (steps : List Step) → Gives old steps → Goes (grammar_of mid.language.now) mid.trace.now (Of (Name n) ∷ places_of mid.places) steps
-mid_goes old mid n f t p steps d =
-    subst (λ (l : Bor Language). Goes (grammar_of l.now) mid.trace.now (Of (Name n) ∷ places_of mid.places) steps) (sym f)
-    (subst (λ (z : Bor (List ℕ)). Goes (grammar_of old.language.now) z.now (Of (Name n) ∷ places_of mid.places) steps) (sym t)
-    (subst (λ (z : List Place). Goes (grammar_of old.language.now) old.trace.now z steps) p d))
+in_front : (old : Walk) (n : ℕ) (ps : List Place) → places_of old.places ≡ Of (Name n) ∷ ps → (steps : List Step) → Gives old steps
+    → Goes (grammar_of old.language.now) old.trace.now (Of (Name n) ∷ ps) steps
+in_front old n ps p steps d = subst (λ (z : List Place). Goes (grammar_of old.language.now) old.trace.now z steps) p d
 
--- the step of a name, as the code has it: old before the name was taken, mid behind it
-pub entered_next : (old mid new : Walk) (n : ℕ) → mid.language ≡ old.language → mid.trace ≡ old.trace → places_of old.places ≡ Of (Name n) ∷ places_of mid.places
-    → new.language.now ≡ mid.language.now → (r : Result (Option Step) AllocError) → IfOk r (λ step. Enters mid step new) → IfOk r (λ step. IsNext old step new)
-entered_next old mid new n f t p g (Err e) h = tt
-entered_next old mid new n f t p g (Ok None) h = λ steps d.
-    absurd (no_entry mid.language.now n mid.trace.now (places_of mid.places) h steps (mid_goes old mid n f t p steps d))
-entered_next old mid new n f t p g (Ok (Some step)) h = λ steps d.
-    let x : Entry mid.language.now n mid.trace.now new.trace.now (places_of mid.places) (places_of new.places) step =
-    record { k = h.0; a = h.1; is = h.2; trace_is = h.3; selects = h.4; places = h.5 } in
-    let y : Next (grammar_of mid.language.now) new.trace.now (places_of new.places) step steps =
-    entry_next mid.language.now n mid.trace.now new.trace.now (places_of mid.places) (places_of new.places) step x steps (mid_goes old mid n f t p steps d) in
-    (y.rest, y.is, subst (λ (l : Language). Goes (grammar_of l) new.trace.now (places_of new.places) y.rest) (sym g) y.goes)
+-- the places behind the first
+pub first_place : (ps : List Place) (x : Place) → slice_get ps 0 ≡ Some x → ps ≡ x ∷ drop 1 ps
+first_place [] x e = absurd (cc)
+first_place (y ∷ ps) x e = let same : y ≡ x = cc in ap (λ (z : Place). z ∷ ps) same
+
+-- the step of a name, as the code has it
+pub entered_next : (old new : Walk) (n : ℕ) (ps : List Place) → places_of old.places ≡ Of (Name n) ∷ ps → new.language ≡ old.language
+    → (r : Result (Option Step) AllocError) → IfOk r (λ step. Enters old step new) → IfOk r (λ step. IsNext old step new)
+entered_next old new n ps p g (Err e) h = tt
+entered_next old new n ps p g (Ok None) h = λ steps d.
+    absurd (no_entry old.language.now n old.trace.now ps (λ k later a t s. h k later a (Of (Name n)) ps t s p) steps (in_front old n ps p steps d))
+entered_next old new n ps p g (Ok (Some step)) h = λ steps d.
+    let same : ps ≡ h.3 = cc (p, h.7) in
+    let x : Entry old.language.now n old.trace.now new.trace.now ps (places_of new.places) step =
+    record {
+      k = h.0;
+      a = h.1;
+      is = h.4;
+      trace_is = h.5;
+      selects = h.6;
+      places = h.8 ∙ ap (λ (z : List Place). map (λ (s : Symbol). Of s) (body_of old.language.now h.1) ++ Behind h.0 ∷ z) (sym same);
+    } in
+    let y : Next (grammar_of old.language.now) new.trace.now (places_of new.places) step steps =
+    entry_next old.language.now n old.trace.now new.trace.now ps (places_of new.places) step x steps (in_front old n ps p steps d) in
+    (y.rest, y.is, subst (λ (l : Bor Language). Goes (grammar_of l.now) new.trace.now (places_of new.places) y.rest) (sym g) y.goes)
+
+-- after want of memory
+pub as_before : (old new : Walk) → new.language ≡ old.language → new.trace ≡ old.trace → places_of new.places ≡ places_of old.places
+    → (steps : List Step) → Gives old steps → Gives new steps
+as_before old new f t p steps d =
+    subst (λ (l : Bor Language). Goes (grammar_of l.now) new.trace.now (places_of new.places) steps) (sym f)
+    (subst (λ (z : Bor (List ℕ)). Goes (grammar_of old.language.now) z.now (places_of new.places) steps) (sym t)
+    (subst (λ (z : List Place). Goes (grammar_of old.language.now) old.trace.now z steps) (sym p) d))
+
+pub err_as_before : (old new : Walk) → new.language ≡ old.language → (r : Result (Option Step) AllocError)
+    → OnErr r ((new.trace ≡ old.trace) × (places_of new.places ≡ places_of old.places)) → OnErr r ((steps : List Step) → Gives old steps → Gives new steps)
+err_as_before old new f (Ok x) h = tt
+err_as_before old new f (Err e) h = as_before old new f h.0 h.1
 
 pub entered_places : (k : ℕ) (b body : List Symbol) (old mid new : List Place) → mid ≡ old ++ Behind k ∷ [] → new ≡ map (λ (s : Symbol). Of s) b ++ reverse mid → b ≡ body
     → new ≡ map (λ (s : Symbol). Of s) body ++ Behind k ∷ reverse old
@@ -240,12 +263,5 @@ entered_places k b body old mid new e f g =
     ∙ ap (λ (z : List Place). map (λ (s : Symbol). Of s) body ++ z) (ap (λ (z : List Place). reverse z) e ∙ reverse-append old (Behind k ∷ []))
 
 -- the walk is over
-pub over_next : (old new : Walk) → new.language ≡ old.language → new.trace ≡ old.trace → places_of old.places ≡ [] → places_of new.places ≡ []
-    → IsNext old None new
-over_next old new f t e n = λ steps d.
-    let goes : Goes (grammar_of old.language.now) old.trace.now [] steps = subst (λ (z : List Place). Goes (grammar_of old.language.now) old.trace.now z steps) e d in (
-      no_next goes,
-      subst (λ (l : Bor Language). Goes (grammar_of l.now) new.trace.now (places_of new.places) steps) (sym f)
-          (subst (λ (z : Bor (List ℕ)). Goes (grammar_of old.language.now) z.now (places_of new.places) steps) (sym t)
-          (subst (λ (z : List Place). Goes (grammar_of old.language.now) old.trace.now z steps) (sym n) goes)),
-    )
+pub over_next : (old : Walk) → places_of old.places ≡ [] → IsNext old None old
+over_next old e = λ steps d. (no_next (subst (λ (z : List Place). Goes (grammar_of old.language.now) old.trace.now z steps) e d), d)

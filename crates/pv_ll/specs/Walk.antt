@@ -61,11 +61,13 @@ IsNext old (Some step) new = (steps : List Step) → Gives old steps → (rest :
 abbrev pub work_left : Walk → ℕ
 work_left walk = 65537 * length walk.trace.now + length (places_of walk.places)
 
--- the trace's next alternative is entered; there is none where the trace or the table has none
+-- the trace's next alternative is entered in the next place; there is none where the places, the trace or the table has none
 abbrev pub Enters : Walk → Option Step → Walk → Type 0
-Enters old None new = (k : ℕ) (later : List ℕ) (a : Alternative) → old.trace.now ≡ k ∷ later → Selects old.language.now k a → ⊥
-Enters old (Some step) new = (k : ℕ) × (a : Alternative) × (step ≡ Enter k) × (old.trace.now ≡ k ∷ new.trace.now) × (Selects old.language.now k a)
-    × (places_of new.places ≡ map (λ s. Of s) (body_of old.language.now a) ++ Behind k ∷ places_of old.places)
+Enters old None new = (k : ℕ) (later : List ℕ) (a : Alternative) (x : Place) (ps : List Place)
+    → old.trace.now ≡ k ∷ later → Selects old.language.now k a → places_of old.places ≡ x ∷ ps → ⊥
+Enters old (Some step) new = (k : ℕ) × (a : Alternative) × (x : Place) × (ps : List Place) × (step ≡ Enter k)
+    × (old.trace.now ≡ k ∷ new.trace.now) × (Selects old.language.now k a) × (places_of old.places ≡ x ∷ ps)
+    × (places_of new.places ≡ map (λ s. Of s) (body_of old.language.now a) ++ Behind k ∷ ps)
 
 -- production k is of a name that counts
 abbrev pub counts_at : Grammar → List Bool → ℕ → Bool
