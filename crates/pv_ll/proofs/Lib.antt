@@ -1,0 +1,10 @@
+pub mod Words
+pub mod Sets
+pub mod Steps
+pub mod Places
+pub mod Stack
+pub mod Faults
+pub mod Tested
+pub mod Walking
+pub mod Nesting
+pub mod Traces
