@@ -1,4 +1,7 @@
 //! Why a text isn't read.
+ghost use Rattle.std.specs.Prelude.{◌≡◌};
+ghost use Rattle.pv_tree.specs.declared.fault.ReadFault.TheVariants.{NoMemory};
+
 use std::alloc::{AllocError, AllocFailed};
 use thiserror::Error;
 
@@ -11,4 +14,20 @@ pub enum ReadFault {
     /// There is no memory.
     #[error("there is no memory")]
     NoMemory,
+}
+
+impl From<AllocError> for ReadFault {
+    ghost from_gives = { λ _ e. e ≡ NoMemory };
+
+    fn from(_e: AllocError) -> ReadFault {
+        ReadFault::NoMemory
+    }
+}
+
+impl<T: Drop> From<AllocFailed<T>> for ReadFault {
+    ghost from_gives = { λ _ e. e ≡ NoMemory };
+
+    fn from(_e: AllocFailed<T>) -> ReadFault {
+        ReadFault::NoMemory
+    }
 }

@@ -16,8 +16,8 @@ mod words;
 
 pub use edge::{Text, make_text};
 pub use fault::ReadFault;
-pub use name::{Name, read_name};
-pub use parse::{read_block, read_expression};
+pub use name::Name;
+pub use parse::{read_block, read_expression, read_name};
 pub use place::Place;
 pub use scope::{Scope, scope_of};
 pub use tree::{

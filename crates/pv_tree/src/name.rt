@@ -1,8 +1,7 @@
 //! Names of blocks and variables.
-
-use crate::edge::Text;
+use crate::edge::{Text, make_text};
 use crate::fault::ReadFault;
-use std::alloc::Global;
+use std::alloc::{AllocError, Global};
 
 /// A name. Two names are the same where their keys are.
 #[derive(Drop)]
@@ -13,11 +12,12 @@ pub struct Name {
     pub spelled: Text,
 }
 
-/// Reads the name of a block: a word, a quoted name or a numbered name, with nothing but white space around it.
-///
-/// `NotOfForm` where the text isn't one.
-pub fn read_name(alloc: Global, text: &[u8]) -> Result<Name, ReadFault> {
-    let _ = alloc;
-    let _ = text;
-    Err(ReadFault::NotOfForm)
+/// The name of this text that is written as `spelled`.
+pub(crate) fn name_of(alloc: Global, text: &[u8], spelled: &[u8]) -> Result<Name, AllocError> {
+    let mut key = Vec::from_slice(alloc, text)?;
+    key.as_mut_slice().make_ascii_lowercase();
+    Ok(Name {
+        key: make_text(alloc, key.as_slice())?,
+        spelled: make_text(alloc, spelled)?,
+    })
 }
