@@ -1,0 +1,27 @@
+-- Laws of lists of entries.
+use Rattle.std.proofs.Common.{◌≡◌, ◌≢◌, ℕ, zero, suc, ◌<◌, ◌+◌, List, [], ◌∷◌, ◌++◌, length, get_or, set, Option, Some, None, Vec, Bool, true, false, refl, sym, ◌∙◌, ap, arith, bytes_eq}
+use Rattle.std.proofs.lemmas.Slice.Eq.{bytes_eq-Decides}
+use Rattle.std.proofs.lemmas.Grind.{common_steps}
+use Rattle.std.specs.declared.alloc.Global.{Global}
+use Rattle.pv_edge.specs.Files.{Puts}
+use Rattle.pv_edge.specs.Entries.{entries, file_at, put, index_of}
+
+-- what the first entry of a name holds is what the name holds
+pub at-index : (files : List (List ℕ × Vec ℕ Global)) (name : List ℕ) (d : List ℕ × Vec ℕ Global) → index_of files name < length files → file_at (entries files) name ≡ Some (get_or files (index_of files name) d).1.items
+at-index [] name d h = absurd (omega arith)
+at-index (file ∷ files) name d h = grind (arith, common_steps, at-index files name d)
+
+-- a name of no entry holds nothing
+pub at-none : (files : List (List ℕ × Vec ℕ Global)) (name : List ℕ) → index_of files name ≡ length files → file_at (entries files) name ≡ None
+at-none [] name h = refl
+at-none (file ∷ files) name h = grind (arith, common_steps, at-none files name)
+
+-- writing over the first entry of a name
+pub put-at : (files : List (List ℕ × Vec ℕ Global)) (name : List ℕ) (v : Vec ℕ Global) (d : List ℕ × Vec ℕ Global) → index_of files name < length files → entries (set files (index_of files name) ((get_or files (index_of files name) d).0, v)) ≡ put name v.items (entries files)
+put-at [] name v d h = absurd (omega arith)
+put-at (file ∷ files) name v d h = grind (arith, common_steps, put-at files name v d)
+
+-- writing behind entries of other names
+pub put-end : (files : List (List ℕ × Vec ℕ Global)) (name : List ℕ) (v : Vec ℕ Global) → index_of files name ≡ length files → entries (files ++ (name, v) ∷ []) ≡ put name v.items (entries files)
+put-end [] name v h = refl
+put-end (file ∷ files) name v h = grind (arith, common_steps, put-end files name v)

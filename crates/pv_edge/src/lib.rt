@@ -1,0 +1,15 @@
+//! The edge of the program: texts, files and the sink of a report, with what each of them promises.
+//!
+//! Everything that this program reads or writes goes through [`Files`] and [`Sink`]. The two in
+//! memory tell all that they hold; the two of the host tell nothing.
+#![tactic(auto)]
+
+pub mod made;
+pub mod memory;
+pub mod outside;
+pub mod words;
+
+pub use made::text;
+pub use memory::{MemFiles, MemSink};
+pub use outside::{FileFault, Files, Sink, SinkFault};
+pub use words::Text;

@@ -1,0 +1,13 @@
+//! How a text is made.
+ghost use Rattle.std.specs.Prelude.{◌≡◌, IfOk};
+
+use crate::words::Text;
+use std::alloc::{AllocError, Global};
+
+/// The text of these bytes. The one error is want of memory.
+pub fn text(alloc: Global, bytes: &[u8]) -> Result<Text, AllocError>
+    ensures { IfOk result (λ text. text ≡ bytes.now) }
+{
+    let bytes = Vec::from_slice(alloc, bytes)?;
+    Ok(Text::from(bytes))
+}
