@@ -4,7 +4,6 @@
 //! read today is one SCL function block over BOOL variables, whose only dropped text is white space.
 #![tactic(auto)]
 
-mod edge;
 mod fault;
 mod lex;
 mod name;
@@ -14,7 +13,6 @@ mod scope;
 mod tree;
 mod words;
 
-pub use edge::{Text, make_text};
 pub use fault::ReadFault;
 pub use name::Name;
 pub use parse::{read_block, read_expression, read_name};
@@ -24,3 +22,6 @@ pub use tree::{
     BinaryOp, Block, BlockKind, Body, DeclType, Expr, Interface, Literal, Operand, Root, Section,
     Step, Stmt, Ty, UnaryOp, Var,
 };
+
+#[cfg(test)]
+mod tests;

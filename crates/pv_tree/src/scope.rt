@@ -1,38 +1,89 @@
 //! The names that a block declares.
-ghost use Rattle.std.specs.Prelude.{ℕ, List};
+ghost use Rattle.std.specs.Prelude.{◌≡◌, ◌↔◌, ◌<◌, IfOk, IfSome, IsTrue, length, position, bytes_eq};
+ghost use Rattle.pv_tree.specs.Scope.{keys_of};
 
+use pv_edge::Text;
 use crate::fault::ReadFault;
-use crate::tree::{Block, Expr};
+use crate::name::Name;
+use crate::tree::{Block, Body, Expr, Operand, Root, Stmt, Var};
 use indexmap::IndexSet;
 use std::alloc::Global;
 use std::marker::Model;
 
-/// The names that a block declares, in the order of their declarations.
+/// The names that a block declares, in the order of their declarations, which contracts see as the list of their keys.
 #[derive(Drop)]
 pub struct Scope {
-    keys: IndexSet<Vec<u8>>,
+    keys: IndexSet<Text>,
+}
+
+impl Model for Scope {
+    ghost use Rattle.std.specs.Prelude.{List, ℕ};
+
+    ghost Value = { List (List ℕ) };
+
+    ghost view = { λ s. s.keys.keys };
 }
 
 /// The names that the block declares.
-pub fn scope_of(alloc: Global, block: &Block) -> Result<Scope, ReadFault> {
-    let _ = block;
-    Ok(Scope {
-        keys: IndexSet::new(alloc),
-    })
+///
+/// `NotOfForm` where it declares a name twice, or its body has a name that it doesn't declare.
+pub fn scope_of(alloc: Global, block: &Block) -> Result<Scope, ReadFault>
+    ensures { IfOk result (λ s. s ≡ keys_of block.now.interface.vars.items) }
+{
+    let scope = declared(alloc, block.interface.vars.as_slice())?;
+    let Body::Scl(statements) = &block.body;
+    if statements.iter().all(|s| scope.declares_in(s)) {
+        Ok(scope)
+    } else {
+        Err(ReadFault::NotOfForm)
+    }
+}
+
+/// The names of the variables.
+///
+/// `NotOfForm` where two of them are the same.
+fn declared(alloc: Global, vars: &[Var]) -> Result<Scope, ReadFault>
+    ensures { IfOk result (λ s. s ≡ keys_of vars.now) }
+{
+    let mut keys = IndexSet::new(alloc);
+    for var in vars {
+        let key = var.name.key.clone()?;
+        if !keys.insert(key)? {
+            return Err(ReadFault::NotOfForm);
+        }
+    }
+    Ok(Scope { keys })
 }
 
 impl Scope {
-    /// The number of the variable whose name has this key: its place among the block's variables, from 0.
-    pub fn find(&self, key: &[u8]) -> Option<u32> {
-        match self.keys.get_index_of(key) {
-            Some(number) => u32::try_from(number).ok(),
-            None => None,
+    /// The number of the variable of this name: its place among the block's variables, from 0.
+    pub fn find(&self, name: &Name) -> Option<usize>
+        ensures number { result ≡ position (bytes_eq name.now.key) self.now }
+        ensures within { IfSome result (λ n. n < length self.now) }
+    {
+        self.keys.get_index_of(&name.key)
+    }
+
+    /// Whether each name in the expression is declared.
+    pub fn declares(&self, e: &Expr) -> bool {
+        match e {
+            Expr::Lit { .. } => true,
+            Expr::Read(operand) => self.declares_operand(operand),
+            Expr::Unary { arg, .. } => self.declares(arg),
+            Expr::Binary { left, right, .. } => self.declares(left) && self.declares(right),
+            Expr::Paren(_, inner) => self.declares(inner),
         }
     }
 
-    /// Whether each name that the expression reads is declared.
-    pub fn declares(&self, e: &Expr) -> bool {
-        let _ = e;
-        false
+    /// Whether the operand's name is declared.
+    fn declares_operand(&self, operand: &Operand) -> bool {
+        let Root::Local { name, .. } = &operand.root;
+        self.find(name).is_some()
+    }
+
+    /// Whether each name in the statement is declared.
+    fn declares_in(&self, statement: &Stmt) -> bool {
+        let Stmt::Assign { target, value, .. } = statement;
+        self.declares_operand(target) && self.declares(value)
     }
 }
