@@ -1,12 +1,12 @@
 //! The names that a block declares.
-ghost use Rattle.std.specs.Prelude.{◌≡◌, ◌↔◌, ◌<◌, IfOk, IfSome, IsTrue, length, position, bytes_eq};
-ghost use Rattle.pv_tree.specs.Scope.{keys_of};
+ghost use Rattle.std.specs.Prelude.{◌≡◌, ◌↔◌, ◌<◌, Some, IfOk, IfSome, IsErrOf, IsSome, IsTrue, OnOk, Contains, length, position, slice_get, bytes_eq};
+ghost use Rattle.pv_tree.specs.Scope.{keys_of, key_of, AreApart, IsDeclared, IsDeclaredIn, KeepsNames};
 
-use pv_edge::Text;
 use crate::fault::ReadFault;
 use crate::name::Name;
 use crate::tree::{Block, Body, Expr, Operand, Root, Stmt, Var};
 use indexmap::IndexSet;
+use pv_edge::Text;
 use std::alloc::Global;
 use std::marker::Model;
 
@@ -28,7 +28,9 @@ impl Model for Scope {
 ///
 /// `NotOfForm` where it declares a name twice, or its body has a name that it doesn't declare.
 pub fn scope_of(alloc: Global, block: &Block) -> Result<Scope, ReadFault>
-    ensures { IfOk result (λ s. s ≡ keys_of block.now.interface.vars.items) }
+    ensures keys { IfOk result (λ s. s ≡ keys_of block.now.interface.vars.items) }
+    ensures kept { OnOk result (KeepsNames block.now) }
+    ensures broken { IsErrOf result ReadFault.NotOfForm → KeepsNames block.now → ⊥ }
 {
     let scope = declared(alloc, block.interface.vars.as_slice())?;
     let Body::Scl(statements) = &block.body;
@@ -43,7 +45,9 @@ pub fn scope_of(alloc: Global, block: &Block) -> Result<Scope, ReadFault>
 ///
 /// `NotOfForm` where two of them are the same.
 fn declared(alloc: Global, vars: &[Var]) -> Result<Scope, ReadFault>
-    ensures { IfOk result (λ s. s ≡ keys_of vars.now) }
+    ensures keys { IfOk result (λ s. s ≡ keys_of vars.now) }
+    ensures apart { OnOk result (AreApart (keys_of vars.now)) }
+    ensures doubled { IsErrOf result ReadFault.NotOfForm → AreApart (keys_of vars.now) → ⊥ }
 {
     let mut keys = IndexSet::new(alloc);
     for var in vars {
@@ -60,12 +64,16 @@ impl Scope {
     pub fn find(&self, name: &Name) -> Option<usize>
         ensures number { result ≡ position (bytes_eq name.now.key) self.now }
         ensures within { IfSome result (λ n. n < length self.now) }
+        ensures found { IfSome result (λ n. slice_get self.now n ≡ Some name.now.key) }
+        ensures is_there { IsSome result ↔ Contains self.now name.now.key }
     {
         self.keys.get_index_of(&name.key)
     }
 
     /// Whether each name in the expression is declared.
-    pub fn declares(&self, e: &Expr) -> bool {
+    pub fn declares(&self, e: &Expr) -> bool
+        ensures { IsTrue result ↔ IsDeclared self.now e.now }
+    {
         match e {
             Expr::Lit { .. } => true,
             Expr::Read(operand) => self.declares_operand(operand),
@@ -76,13 +84,17 @@ impl Scope {
     }
 
     /// Whether the operand's name is declared.
-    fn declares_operand(&self, operand: &Operand) -> bool {
+    fn declares_operand(&self, operand: &Operand) -> bool
+        ensures { IsTrue result ↔ Contains self.now (key_of operand.now) }
+    {
         let Root::Local { name, .. } = &operand.root;
         self.find(name).is_some()
     }
 
     /// Whether each name in the statement is declared.
-    fn declares_in(&self, statement: &Stmt) -> bool {
+    fn declares_in(&self, statement: &Stmt) -> bool
+        ensures { IsTrue result ↔ IsDeclaredIn self.now statement.now }
+    {
         let Stmt::Assign { target, value, .. } = statement;
         self.declares_operand(target) && self.declares(value)
     }
