@@ -1,4 +1,6 @@
 //! From tokens to trees.
+ghost use Rattle.std.specs.Prelude.{◌≤◌, IfOk, vec_len};
+
 mod cursor;
 mod declarations;
 mod expressions;
@@ -15,10 +17,15 @@ use std::alloc::Global;
 /// The most levels of statements, expressions and types on the way down a tree.
 const MAX_NESTING: u32 = 64;
 
+/// The most variables that a block declares.
+const MAX_VARS: usize = 20_000;
+
 /// Reads a source of one function block. `file` is the source's number.
 ///
 /// `NotOfForm` where the text isn't of the form, whose rules on declared names `scope_of` tests.
-pub fn read_block(alloc: Global, file: u32, text: &[u8]) -> Result<Block, ReadFault> {
+pub fn read_block(alloc: Global, file: u32, text: &[u8]) -> Result<Block, ReadFault>
+    ensures { IfOk result (λ block. vec_len block.interface.vars ≤ MAX_VARS) }
+{
     if text.len() > MAX_SOURCE {
         return Err(ReadFault::NotOfForm);
     }
@@ -61,7 +68,9 @@ pub fn read_name(alloc: Global, text: &[u8]) -> Result<Name, ReadFault> {
 }
 
 /// Reads a function block.
-fn block(alloc: Global, cursor: &mut Cursor) -> Result<Block, ReadFault> {
+fn block(alloc: Global, cursor: &mut Cursor) -> Result<Block, ReadFault>
+    ensures { IfOk result (λ block. vec_len block.interface.vars ≤ MAX_VARS) }
+{
     let place = cursor.expect(Kind::Word(Word::FunctionBlock))?;
     let name = cursor.block_name(alloc)?;
     let vars = declarations::sections(alloc, cursor)?;

@@ -1,4 +1,7 @@
 //! The trees of sources: blocks, declarations, statements and expressions.
+ghost use Rattle.std.specs.Prelude.{◌≡◌};
+ghost use Rattle.std.specs.Str.{str_to_ascii_lowercase};
+
 use crate::name::Name;
 use crate::place::Place;
 
@@ -118,6 +121,8 @@ pub struct Var {
     pub ty: DeclType,
     pub start: Option<Literal>,
     pub place: Place,
+    /// A variable's name is a word, and its key is that word in lower case.
+    pub ghost word: { name.key ≡ str_to_ascii_lowercase name.spelled },
 }
 
 /// The variables of a block in the order of their declarations, and the type of the value that a function has.

@@ -1,5 +1,6 @@
 //! The tokens that are still to be read.
-ghost use Rattle.std.specs.Prelude.{◌≡◌, ◌<◌, ◌≤◌, length, OnOk, OnSome, IfNone};
+ghost use Rattle.std.specs.Prelude.{◌≡◌, ◌<◌, ◌≤◌, length, OnOk, OnSome, IfOk, IfNone};
+ghost use Rattle.std.specs.Str.{str_to_ascii_lowercase};
 
 use crate::fault::ReadFault;
 use crate::lex::{Kind, Token};
@@ -71,7 +72,8 @@ impl<'a> Cursor<'a> {
 
     /// Reads a plain word, and gives its name and place.
     pub fn word(&mut self, alloc: Global) -> Result<(Name, Place), ReadFault>
-        ensures { OnOk result (length self.new.rest.now < length self.old.rest.now) }
+        ensures progress { OnOk result (length self.new.rest.now < length self.old.rest.now) }
+        ensures word { IfOk result (λ r. r.0.key ≡ str_to_ascii_lowercase r.0.spelled) }
     {
         let token = self.take()?;
         if token.kind != Kind::Word(Word::Plain) {

@@ -1,15 +1,13 @@
 //! The sections of declared variables.
 ghost use Rattle.std.specs.Prelude.{◌<◌, ◌≤◌, length, OnOk, IfOk, vec_len};
 
+use super::MAX_VARS;
 use super::cursor::Cursor;
 use crate::fault::ReadFault;
 use crate::lex::Kind;
 use crate::tree::{DeclType, Section, Ty, Var};
 use crate::words::Word;
 use std::alloc::Global;
-
-/// The most variables that a block declares.
-pub const MAX_VARS: usize = 20_000;
 
 /// Reads the sections of a block, as many as there are.
 pub fn sections(alloc: Global, cursor: &mut Cursor<'_>) -> Result<Vec<Var>, ReadFault>
