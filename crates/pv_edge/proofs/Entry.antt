@@ -25,3 +25,21 @@ put-at (file ∷ files) name v d h = grind (arith, common_steps, put-at files na
 pub put-end : (files : List (List ℕ × Vec ℕ Global)) (name : List ℕ) (v : Vec ℕ Global) → index_of files name ≡ length files → entries (files ++ (name, v) ∷ []) ≡ put name v.items (entries files)
 put-end [] name v h = refl
 put-end (file ∷ files) name v h = grind (arith, common_steps, put-end files name v)
+
+put-here : (name bytes : List ℕ) (files : List (List ℕ × List ℕ)) → file_at (put name bytes files) name ≡ Some bytes
+put-here name bytes [] = grind (arith, common_steps, bytes_eq-Decides name name)
+put-here name bytes (file ∷ files) = grind (arith, common_steps, put-here name bytes files)
+
+put-others : (name bytes : List ℕ) (files : List (List ℕ × List ℕ)) (other : List ℕ) → other ≢ name → file_at (put name bytes files) other ≡ file_at files other
+put-others name bytes [] other h = grind (arith, common_steps, bytes_eq-Decides name other)
+put-others name bytes (file ∷ files) other h = grind (arith, common_steps, put-others name bytes files other h, bytes_eq-Decides file.0 other, bytes_eq-Decides file.0 name)
+
+-- a list of entries is written as the map that it stands for
+pub put-puts : (name bytes : List ℕ) (files : List (List ℕ × List ℕ)) → Puts name bytes (file_at files) (file_at (put name bytes files))
+put-puts name bytes files = record { here = put-here name bytes files; others = put-others name bytes files }
+
+-- the entry that was found is the one that counts
+pub at-found : (files : List (List ℕ × Vec ℕ Global)) (name : List ℕ) (i : ℕ) (d : List ℕ × Vec ℕ Global) → i ≡ index_of files name → i < length files → file_at (entries files) name ≡ Some (get_or files i d).1.items
+at-found files name i d e h =
+    let h' : index_of files name < length files = omega arith in
+    at-index files name d h' ∙ ap (λ k. Some (get_or files k d).1.items) (sym e)

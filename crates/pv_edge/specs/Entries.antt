@@ -1,6 +1,7 @@
 -- Files as a list of entries, each a name and its bytes. The first entry of a name counts.
 use Rattle.std.specs.Prelude.{ℕ, List, [], ◌∷◌, Option, None, Some, Vec, bytes_eq, map, if◌then◌else◌, suc}
 use Rattle.std.specs.declared.alloc.Global.{Global}
+use Rattle.pv_edge.specs.Calls.{is_failing}
 use Rattle.pv_edge.specs.Files.{FileMap}
 
 -- the entries as names with plain bytes
@@ -21,3 +22,7 @@ put name bytes (file ∷ files) = if bytes_eq file.0 name then (file.0, bytes) �
 abbrev pub index_of : {V : Type 0} → List (List ℕ × V) → List ℕ → ℕ
 index_of [] name = 0
 index_of (file ∷ files) name = if bytes_eq file.0 name then 0 else suc (index_of files name)
+
+-- what the read after these calls gives: nothing where it is one that fails or where no file has the name
+abbrev pub next_read : List ℕ → ℕ → FileMap → FileMap
+next_read fail_at calls files name = if is_failing fail_at calls then None else files name

@@ -4,12 +4,20 @@
 //! memory tell all that they hold; the two of the host tell nothing.
 #![tactic(auto)]
 
+mod counts;
+pub mod host;
 pub mod made;
 pub mod memory;
+pub mod offer;
 pub mod outside;
 pub mod words;
 
+pub use host::{HostFiles, HostOut};
 pub use made::text;
 pub use memory::{MemFiles, MemSink};
+pub use offer::write_all;
 pub use outside::{FileFault, Files, Sink, SinkFault};
 pub use words::Text;
+
+#[cfg(test)]
+mod tests;

@@ -1,11 +1,12 @@
 //! Files and a sink in memory, which tell all that they hold and fail at the calls that they are told to.
-ghost use Rattle.std.specs.Prelude.{◌≡◌, ◌+◌, ◌<◌, ◌≤◌, ◌↔◌, ℕ, List, Option, IfOk, IfErr, IfSome, IfNone, IsErr, IsErrOf, OnOk, OnErr, Some, None, length, take, min};
-ghost use Rattle.pv_edge.specs.Faults.{HasRisen};
+ghost use Rattle.std.specs.Prelude.{◌≡◌, ◌+◌, ◌<◌, ◌≤◌, ◌↔◌, ℕ, List, Option, IfOk, IfErr, IfSome, IfNone, IsErr, IsErrOf, OnOk, OnErr, Some, None, length, take, min, IsTrue, ◌==◌, ◌&&◌, ◌++◌, nat_lt, [], if◌then◌else◌};
+ghost use Rattle.pv_edge.specs.Faults.{HasRisen, last_count};
 ghost use Rattle.pv_edge.specs.Calls.{next_count, is_failing};
 ghost use Rattle.pv_edge.specs.Files.{FileMap, Puts, PutsPart, Changes};
-ghost use Rattle.pv_edge.specs.Entries.{entries, file_at, put, index_of};
+ghost use Rattle.pv_edge.specs.Entries.{entries, file_at, put, index_of, next_read};
 ghost use Rattle.pv_edge.specs.Sink.{Takes};
 
+use crate::counts::next;
 use crate::made::text;
 use crate::outside::{FileFault, Files, Sink, SinkFault};
 use crate::words::Text;
@@ -41,11 +42,11 @@ pub struct MemSink {
     pub faults: u64,
 }
 
-/// The next value of a count.
-fn next(count: u64) -> u64
-    ensures { result ≡ next_count count }
+/// Whether the call after this many is to fail.
+fn is_due(fail_at: &[u64], calls: u64) -> bool
+    ensures { result ≡ is_failing fail_at.now calls }
 {
-    count.saturating_add(1)
+    fail_at.contains(&next(calls))
 }
 
 /// Where the first entry of a name stands.
@@ -63,7 +64,10 @@ fn find(files: &[(Text, Vec<u8>)], name: &str) -> Option<usize>
 }
 
 /// A copy of the bytes that a name holds.
-fn copy_of(alloc: Global, files: &[(Text, Vec<u8>)], name: &str) -> Result<Vec<u8>, FileFault> {
+fn copy_of(alloc: Global, files: &[(Text, Vec<u8>)], name: &str) -> Result<Vec<u8>, FileFault>
+    ensures held { IfOk result (λ bytes. file_at (entries files.now) name.now ≡ Some bytes.items) }
+    ensures missing { IsErrOf result FileFault.Failed ↔ (file_at (entries files.now) name.now ≡ None) }
+{
     match find(files, name) {
         None => Err(FileFault::Failed),
         Some(i) => match Vec::from_slice(alloc, files[i].1.as_slice()) {
@@ -71,6 +75,25 @@ fn copy_of(alloc: Global, files: &[(Text, Vec<u8>)], name: &str) -> Result<Vec<u
             Err(_) => Err(FileFault::NoMemory),
         },
     }
+}
+
+/// A copy of the bytes that a name holds, or a fault at the calls that are to fail.
+fn copy_at_call(
+    alloc: Global,
+    fail_at: &[u64],
+    calls: u64,
+    files: &[(Text, Vec<u8>)],
+    name: &str,
+) -> Result<Vec<u8>, FileFault>
+    ensures held { IfOk result (λ bytes.
+        next_read fail_at.now calls (file_at (entries files.now)) name.now ≡ Some bytes.items) }
+    ensures failed { IsErrOf result FileFault.Failed
+        ↔ (next_read fail_at.now calls (file_at (entries files.now)) name.now ≡ None) }
+{
+    if is_due(fail_at, calls) {
+        return Err(FileFault::Failed);
+    }
+    copy_of(alloc, files, name)
 }
 
 /// Makes a name hold these bytes.
@@ -104,37 +127,68 @@ impl Files for MemFiles {
 
     ghost write_faults = { λ memory. memory.write_faults };
 
-    fn read(&mut self, alloc: Global, name: &str) -> Result<Vec<u8>, FileFault> {
-        let number = next(self.calls);
-        let found = if self.fail_at.contains(&number) {
-            Err(FileFault::Failed)
-        } else {
-            copy_of(alloc, self.files.as_slice(), name)
-        };
-        match found {
+    fn read(&mut self, alloc: Global, name: &str) -> Result<Vec<u8>, FileFault>
+        ensures ok { IfOk result (λ bytes. next_read self.old.fail_at.items self.old.calls
+            (file_at (entries self.old.files.items)) name.now ≡ Some bytes.items) }
+        ensures failed { IsErrOf result FileFault.Failed ↔ (next_read self.old.fail_at.items self.old.calls
+            (file_at (entries self.old.files.items)) name.now ≡ None) }
+        ensures after_ok { OnOk result (self.new ≡ record self.old { calls = next_count self.old.calls }) }
+        ensures after_failed { IsErrOf result FileFault.Failed → self.new
+            ≡ record self.old { calls = next_count self.old.calls; read_faults = next_count self.old.read_faults } }
+        ensures after_no_memory { IsErrOf result FileFault.NoMemory → self.new ≡ self.old }
+        ensures never_falls { self.old.read_faults ≤ self.new.read_faults }
+        ensures counted { self.new.read_faults ≤ last_count }
+        ensures only_missing { self.old.fail_at.items ≡ [] → IsErrOf result FileFault.Failed
+            → file_at (entries self.old.files.items) name.now ≡ None }
+    {
+        let faults = self.read_faults;
+        match copy_at_call(
+            alloc,
+            &self.fail_at,
+            self.calls,
+            self.files.as_slice(),
+            name,
+        ) {
             Ok(bytes) => {
-                self.calls = number;
+                self.calls = next(self.calls);
                 Ok(bytes)
             }
             Err(FileFault::Failed) => {
-                self.calls = number;
-                self.read_faults = next(self.read_faults);
+                self.calls = next(self.calls);
+                self.read_faults = next(faults);
                 Err(FileFault::Failed)
             }
             Err(FileFault::NoMemory) => Err(FileFault::NoMemory),
         }
     }
 
-    fn write(&mut self, alloc: Global, name: &str, bytes: &[u8]) -> Result<(), FileFault> {
-        let number = next(self.calls);
-        if self.fail_at.contains(&number) {
-            self.calls = number;
-            self.write_faults = next(self.write_faults);
+    fn write(&mut self, alloc: Global, name: &str, bytes: &[u8]) -> Result<(), FileFault>
+        ensures ok { OnOk result (entries self.new.files.items
+            ≡ put name.now bytes.now (entries self.old.files.items)) }
+        ensures failed { IsErrOf result FileFault.Failed
+            ↔ IsTrue (is_failing self.old.fail_at.items self.old.calls) }
+        ensures after_ok { OnOk result (self.new
+            ≡ record self.old { files = self.new.files; calls = next_count self.old.calls }) }
+        ensures after_failed { IsErrOf result FileFault.Failed → self.new
+            ≡ record self.old { calls = next_count self.old.calls; write_faults = next_count self.old.write_faults } }
+        ensures after_no_memory { IsErrOf result FileFault.NoMemory
+            → self.new ≡ record self.old { files = self.new.files } }
+        ensures no_memory { IsErrOf result FileFault.NoMemory → self.new.files.items ≡ self.old.files.items }
+        ensures puts { OnOk result (Puts name.now bytes.now
+            (file_at (entries self.old.files.items)) (file_at (entries self.new.files.items))) }
+        ensures never_falls { self.old.write_faults ≤ self.new.write_faults }
+        ensures counted { self.new.write_faults ≤ last_count }
+        ensures never_fails { self.old.fail_at.items ≡ [] → ¬ IsErrOf result FileFault.Failed }
+    {
+        let faults = self.write_faults;
+        if is_due(&self.fail_at, self.calls) {
+            self.calls = next(self.calls);
+            self.write_faults = next(faults);
             return Err(FileFault::Failed);
         }
         match put_bytes(alloc, &mut self.files, name, bytes) {
             Ok(()) => {
-                self.calls = number;
+                self.calls = next(self.calls);
                 Ok(())
             }
             Err(_) => Err(FileFault::NoMemory),
@@ -147,19 +201,39 @@ impl Sink for MemSink {
 
     ghost faults = { λ memory. memory.faults };
 
-    fn write(&mut self, bytes: &[u8]) -> Result<usize, SinkFault> {
-        let number = next(self.calls);
-        if self.fail_at.contains(&number) {
-            self.calls = number;
-            self.faults = next(self.faults);
+    fn write(&mut self, bytes: &[u8]) -> Result<usize, SinkFault>
+        ensures ok { IfOk result (λ n. n ≡ min (length bytes.now) self.old.piece) }
+        ensures taken { IfOk result (λ n. self.new.taken.items ≡ self.old.taken.items ++ take n bytes.now) }
+        ensures failed { IsErrOf result SinkFault.Failed
+            ↔ IsTrue (is_failing self.old.fail_at.items self.old.calls) }
+        ensures after_ok { IfOk result (λ n. self.new ≡ record self.old {
+          taken = self.new.taken;
+          calls = next_count self.old.calls;
+          faults = if n == 0 && nat_lt 0 (length bytes.now)
+              then next_count self.old.faults else self.old.faults;
+        }) }
+        ensures after_failed { IsErrOf result SinkFault.Failed → self.new
+            ≡ record self.old { calls = next_count self.old.calls; faults = next_count self.old.faults } }
+        ensures after_no_memory { IsErrOf result SinkFault.NoMemory
+            → self.new ≡ record self.old { taken = self.new.taken } }
+        ensures no_memory { IsErrOf result SinkFault.NoMemory → self.new.taken.items ≡ self.old.taken.items }
+        ensures never_falls { self.old.faults ≤ self.new.faults }
+        ensures counted { self.new.faults ≤ last_count }
+        ensures never_fails { self.old.fail_at.items ≡ [] → ¬ IsErrOf result SinkFault.Failed }
+        ensures never_stalls { 0 < self.old.piece → OnOk result (self.new.faults ≡ self.old.faults) }
+    {
+        let faults = self.faults;
+        if is_due(&self.fail_at, self.calls) {
+            self.calls = next(self.calls);
+            self.faults = next(faults);
             return Err(SinkFault::Failed);
         }
         let n = bytes.len().min(self.piece);
         match self.taken.extend_from_slice(&bytes[..n]) {
             Ok(()) => {
-                self.calls = number;
+                self.calls = next(self.calls);
                 if n == 0 && !bytes.is_empty() {
-                    self.faults = next(self.faults);
+                    self.faults = next(faults);
                 }
                 Ok(n)
             }

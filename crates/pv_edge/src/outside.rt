@@ -1,6 +1,6 @@
 //! What the program asks of its surroundings: files by name, and a sink for its report.
 ghost use Rattle.std.specs.Prelude.{◌≡◌, ◌≤◌, ◌<◌, ℕ, List, Option, IfOk, IfErr, IfSome, IsErr, IsErrOf, OnOk, OnErr, Some, None, length, take};
-ghost use Rattle.pv_edge.specs.Faults.{HasRisen};
+ghost use Rattle.pv_edge.specs.Faults.{HasRisen, last_count};
 ghost use Rattle.pv_edge.specs.Files.{FileMap, Puts, PutsPart, Changes};
 ghost use Rattle.pv_edge.specs.Sink.{Takes};
 
@@ -50,6 +50,7 @@ pub trait Files {
         ensures failed { IsErrOf result FileFault.Failed → HasRisen (read_faults self.old) (read_faults self.new) }
         ensures no_memory { IsErrOf result FileFault.NoMemory → read_faults self.new ≡ read_faults self.old }
         ensures never_falls { read_faults self.old ≤ read_faults self.new }
+        ensures counted { read_faults self.new ≤ last_count }
         ensures other_count { write_faults self.new ≡ write_faults self.old };
 
     /// Makes a file hold these bytes, whether or not it was there.
@@ -60,6 +61,7 @@ pub trait Files {
         ensures no_memory { IsErrOf result FileFault.NoMemory → told self.new ≡ told self.old }
         ensures no_memory_count { IsErrOf result FileFault.NoMemory → write_faults self.new ≡ write_faults self.old }
         ensures never_falls { write_faults self.old ≤ write_faults self.new }
+        ensures counted { write_faults self.new ≤ last_count }
         ensures other_count { read_faults self.new ≡ read_faults self.old };
 }
 
@@ -81,5 +83,6 @@ pub trait Sink {
         ensures stalled { IfOk result (λ n. n ≡ 0 → 0 < length bytes.now → HasRisen (faults self.old) (faults self.new)) }
         ensures failed { IsErrOf result SinkFault.Failed → HasRisen (faults self.old) (faults self.new) }
         ensures no_memory { IsErrOf result SinkFault.NoMemory → faults self.new ≡ faults self.old }
-        ensures never_falls { faults self.old ≤ faults self.new };
+        ensures never_falls { faults self.old ≤ faults self.new }
+        ensures counted { faults self.new ≤ last_count };
 }
