@@ -17,10 +17,11 @@ pub use fault::ReadFault;
 pub use name::Name;
 pub use parse::{read_block, read_expression, read_name};
 pub use place::Place;
+pub use pv_word::Ty;
 pub use scope::{Scope, scope_of};
 pub use tree::{
     BinaryOp, Block, BlockKind, Body, DeclType, Expr, Interface, Literal, Operand, Root, Section,
-    Step, Stmt, Ty, UnaryOp, Var,
+    Step, Stmt, UnaryOp, Var,
 };
 
 #[cfg(test)]

@@ -4,12 +4,7 @@ ghost use Rattle.std.specs.Str.{str_to_ascii_lowercase};
 
 use crate::name::Name;
 use crate::place::Place;
-
-/// A simple type.
-#[derive(Clone, Copy, PartialEq, Eq, Debug)]
-pub enum Ty {
-    Bool,
-}
+use pv_word::Ty;
 
 /// An expression.
 #[derive(Drop)]

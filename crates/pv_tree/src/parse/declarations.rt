@@ -5,8 +5,9 @@ use super::MAX_VARS;
 use super::cursor::Cursor;
 use crate::fault::ReadFault;
 use crate::lex::Kind;
-use crate::tree::{DeclType, Section, Ty, Var};
+use crate::tree::{DeclType, Section, Var};
 use crate::words::Word;
+use pv_word::Ty;
 use std::alloc::Global;
 
 /// Reads the sections of a block, as many as there are.

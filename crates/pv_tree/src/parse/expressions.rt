@@ -7,8 +7,9 @@ use super::cursor::Cursor;
 use crate::fault::ReadFault;
 use crate::lex::Kind;
 use crate::place::Place;
-use crate::tree::{BinaryOp, Expr, Operand, Root, Ty, UnaryOp};
+use crate::tree::{BinaryOp, Expr, Operand, Root, UnaryOp};
 use crate::words::Word;
+use pv_word::Ty;
 use std::alloc::Global;
 
 /// An expression, and how many levels it has.

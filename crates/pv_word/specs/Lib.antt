@@ -1,0 +1,5 @@
+pub mod Bits
+pub mod Division
+pub mod Range
+pub mod Types
+pub mod Wrap
