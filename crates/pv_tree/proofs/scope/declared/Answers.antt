@@ -1,4 +1,4 @@
-use Rattle.std.proofs.Common.{◌≤◌, arith}
+use Rattle.std.proofs.Common.{arith}
 use Rattle.pv_tree.proofs.Keys.{doubled, gathered, was_there}
 use Rattle.pv_tree.proofs.scope.declared.Goals as goal
 
