@@ -68,7 +68,7 @@ pub enum Root {
 }
 
 /// A step into a part of an operand. BOOL variables have none.
-#[derive(Clone, Copy, PartialEq, Eq, Debug)]
+#[derive(Clone, Copy)]
 pub enum Step {}
 
 /// A statement.
