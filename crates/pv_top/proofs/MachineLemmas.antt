@@ -36,9 +36,9 @@ pub length-begin : (cells : List Cell) (image input : List ℤ) → length (begi
 length-begin [] image input = refl
 length-begin (c ∷ cs) image input = lead (is_input c.role) (length-begin cs image (others input)) (length-begin cs (others image) input)
   where
-  lead : (b : Bool) → length (begin cs image (others input)) ≡ length cs → length (begin cs (others image) input) ≡ length cs → length (cond b (first input ∷ begin cs image (others input)) (first image ∷ begin cs (others image) input)) ≡ suc (length cs)
-  lead true h k = ap (λ n. suc n) h
-  lead false h k = ap (λ n. suc n) k
+    lead : (b : Bool) → length (begin cs image (others input)) ≡ length cs → length (begin cs (others image) input) ≡ length cs → length (cond b (first input ∷ begin cs image (others input)) (first image ∷ begin cs (others image) input)) ≡ suc (length cs)
+    lead true h k = ap (λ n. suc n) h
+    lead false h k = ap (λ n. suc n) k
 
 -- a scan's statements end in the program's frame
 pub ending_is : (block : Block) (a : Expr) (m : Machine) (image values : List ℤ) → IsMachineOf block a m → run_list (cells_of block) (statements_of block.body) (begin (cells_of block) image values) ≡ normal (run_program m.program.items (begin (cells_of block) image values))
@@ -107,9 +107,9 @@ pub image_of-start : (cells : List Cell) → image_of cells (map (λ c. c.start)
 image_of-start [] = refl
 image_of-start (c ∷ cs) = lead (is_input c.role) (image_of-start cs)
   where
-  lead : (b : Bool) → image_of cs (map (λ d. d.start) cs) ≡ start_image cs → cond b (image_of cs (map (λ d. d.start) cs)) (c.start ∷ image_of cs (map (λ d. d.start) cs)) ≡ map (λ d. d.start) (cond (not b) (c ∷ filter (λ d. not (is_input d.role)) cs) (filter (λ d. not (is_input d.role)) cs))
-  lead true h = h
-  lead false h = ap (λ vs. c.start ∷ vs) h
+    lead : (b : Bool) → image_of cs (map (λ d. d.start) cs) ≡ start_image cs → cond b (image_of cs (map (λ d. d.start) cs)) (c.start ∷ image_of cs (map (λ d. d.start) cs)) ≡ map (λ d. d.start) (cond (not b) (c ∷ filter (λ d. not (is_input d.role)) cs) (filter (λ d. not (is_input d.role)) cs))
+    lead true h = h
+    lead false h = ap (λ vs. c.start ∷ vs) h
 
 zero_in_bool : InRange BoolType (pos 0)
 zero_in_bool = record { from = omega (arith, ints); to = omega (arith, ints) }
@@ -158,12 +158,12 @@ pub end_is : (block : Block) (a : Expr) (front ss : List Scan) → AllByRecursio
 end_is block a front [] kept = let P : List Scan → Type 0 = λ l. IsEnd block a l (Kept (length front)) in subst P (sym (append-nil front)) (refl, kept)
 end_is block a front (s ∷ ss) kept = lead (fails block a s.ending) refl (λ all. end_is block a (front ++ s ∷ []) ss all)
   where
-  lead : (b : Bool) → fails block a s.ending ≡ b → (AllByRecursion (Keeps block a) (front ++ s ∷ []) → IsEnd block a ((front ++ s ∷ []) ++ ss) (end_after (length (front ++ s ∷ [])) block a ss)) → IsEnd block a (front ++ s ∷ ss) (cond b (Broken (length front + 1)) (end_after (length front + 1) block a ss))
-  lead true h more = (front, s, ss, refl, refl, kept, h)
-  lead false h more =
-      let P : List Scan → Type 0 = λ l. IsEnd block a l (end_after (length (front ++ s ∷ [])) block a ss) in
-      let Q : ℕ → Type 0 = λ n. IsEnd block a (front ++ s ∷ ss) (end_after n block a ss) in
-      subst Q (length_push front s) (subst P (append_assoc front (s ∷ []) ss) (more (all_push (Keeps block a) front s kept h)))
+    lead : (b : Bool) → fails block a s.ending ≡ b → (AllByRecursion (Keeps block a) (front ++ s ∷ []) → IsEnd block a ((front ++ s ∷ []) ++ ss) (end_after (length (front ++ s ∷ [])) block a ss)) → IsEnd block a (front ++ s ∷ ss) (cond b (Broken (length front + 1)) (end_after (length front + 1) block a ss))
+    lead true h more = (front, s, ss, refl, refl, kept, h)
+    lead false h more =
+        let P : List Scan → Type 0 = λ l. IsEnd block a l (end_after (length (front ++ s ∷ [])) block a ss) in
+        let Q : ℕ → Type 0 = λ n. IsEnd block a (front ++ s ∷ ss) (end_after n block a ss) in
+        subst Q (length_push front s) (subst P (append_assoc front (s ∷ []) ss) (more (all_push (Keeps block a) front s kept h)))
 
 -- a replay's end is that of the run over the trace's scans
 pub replayed : (block : Block) (a : Expr) (m : Machine) (width again : ℕ) (text lines : List ℕ) (frame : List ℤ) (end : End) → IsMachineOf block a m → width ≡ input_len m.cells.items → again ≡ width → ((scans : List (List ℤ)) × AreScans width scans × (text ≡ trace_text scans) × (lines ≡ scans_text scans)) → frame ≡ map (λ c. c.start) m.cells.items → ((scans : List (List ℤ)) → AreScans again scans → lines ≡ scans_text scans → end ≡ end_after 0 block a (run_from block (image_of (cells_of block) frame) scans)) → (inputs : List (List ℤ)) × AreScans (input_len (cells_of block)) inputs × (text ≡ trace_text inputs) × IsEnd block a (run block inputs) end

@@ -26,9 +26,9 @@ placed_is : (cells : List Cell) (input frame : List ℤ) → placed cells input 
 placed_is [] input frame = refl
 placed_is (c ∷ cs) input frame = lead (is_input c.role) (placed_is cs (others input) (others frame)) (placed_is cs input (others frame))
   where
-  lead : (b : Bool) → placed cs (others input) (others frame) ≡ begin cs (image_of cs (others frame)) (others input) → placed cs input (others frame) ≡ begin cs (image_of cs (others frame)) input → cond b (first input ∷ placed cs (others input) (others frame)) (first frame ∷ placed cs input (others frame)) ≡ cond b (first input ∷ begin cs (cond b (image_of cs (others frame)) (first frame ∷ image_of cs (others frame))) (others input)) (first (cond b (image_of cs (others frame)) (first frame ∷ image_of cs (others frame))) ∷ begin cs (others (cond b (image_of cs (others frame)) (first frame ∷ image_of cs (others frame)))) input)
-  lead true h k = ap (λ l. first input ∷ l) h
-  lead false h k = ap (λ l. first frame ∷ l) k
+    lead : (b : Bool) → placed cs (others input) (others frame) ≡ begin cs (image_of cs (others frame)) (others input) → placed cs input (others frame) ≡ begin cs (image_of cs (others frame)) input → cond b (first input ∷ placed cs (others input) (others frame)) (first frame ∷ placed cs input (others frame)) ≡ cond b (first input ∷ begin cs (cond b (image_of cs (others frame)) (first frame ∷ image_of cs (others frame))) (others input)) (first (cond b (image_of cs (others frame)) (first frame ∷ image_of cs (others frame))) ∷ begin cs (others (cond b (image_of cs (others frame)) (first frame ∷ image_of cs (others frame)))) input)
+    lead true h k = ap (λ l. first input ∷ l) h
+    lead false h k = ap (λ l. first frame ∷ l) k
 
 first-drop : (l : List ℤ) (n : ℕ) → first (drop n l) ≡ get_or l n (pos 0)
 first-drop [] zero = refl
@@ -51,9 +51,9 @@ pub record IsPlaced (cells : List Cell) (input start : List ℤ) (i next : ℕ) 
 pub AreBools-set : (frame : List ℤ) (i : ℕ) (v : ℤ) → i < length frame → AreBools frame → InRange BoolType v → AreBools (set frame i v)
 AreBools-set frame i v lt all one = λ k. at k (cases_eq k i)
   where
-  at : (k : ℕ) → (k ≡ i) ⊎ (k ≢ i) → InRange BoolType (get_or (set frame i v) k (pos 0))
-  at k (inl same) = let P : ℤ → Type 0 = λ z. InRange BoolType z in subst P (sym (ap (λ n. get_or (set frame i v) n (pos 0)) same ∙ get_or-set_same frame i v (pos 0) lt)) one
-  at k (inr other) = let P : ℤ → Type 0 = λ z. InRange BoolType z in subst P (sym (get_or-set_other frame i k v (pos 0) other)) (all k)
+    at : (k : ℕ) → (k ≡ i) ⊎ (k ≢ i) → InRange BoolType (get_or (set frame i v) k (pos 0))
+    at k (inl same) = let P : ℤ → Type 0 = λ z. InRange BoolType z in subst P (sym (ap (λ n. get_or (set frame i v) n (pos 0)) same ∙ get_or-set_same frame i v (pos 0) lt)) one
+    at k (inr other) = let P : ℤ → Type 0 = λ z. InRange BoolType z in subst P (sym (get_or-set_other frame i k v (pos 0) other)) (all k)
 
 input_len-input : (c : Cell) (cs : List Cell) → is_input c.role ≡ true → input_len (c ∷ cs) ≡ suc (input_len cs)
 input_len-input c cs h = ap (λ b. length (cond b (c ∷ filter (λ d. is_input d.role) cs) (filter (λ d. is_input d.role) cs))) h

@@ -44,42 +44,42 @@ constant_term keys e v is within = record { within = within; same = λ cells fra
 
 pub load_term : (keys : List (List ℕ)) (operand : Operand) (n : ℕ) → IsNumberAmong keys (key_of operand) n → IsTermOf keys (Read operand) (Load n)
 load_term keys operand n is = record {
-    within = number_within keys (key_of operand) n is;
-    same = λ cells frame same len. ap number (value_at-number cells frame (key_of operand) n (number_of_cell cells keys (key_of operand) n same is));
+  within = number_within keys (key_of operand) n is;
+  same = λ cells frame same len. ap number (value_at-number cells frame (key_of operand) n (number_of_cell cells keys (key_of operand) n same is));
 }
 
 pub not_term : (keys : List (List ℕ)) (e arg : Expr) (q : _) (t : Term) → ((cells : List Cell) (frame : Frame) → value cells frame e ≡ with_number (value cells frame arg) (λ a. number (not_of Bool a))) → IsTermOf keys arg t → IsTermOf keys e (Not' q t)
 not_term keys e arg q t is of = record {
-    within = of.within;
-    same = λ cells frame same len. is cells frame ∙ ap (λ v. with_number v (λ a. number (not_of Bool a))) (of.same cells frame same len);
+  within = of.within;
+  same = λ cells frame same len. is cells frame ∙ ap (λ v. with_number v (λ a. number (not_of Bool a))) (of.same cells frame same len);
 }
 
 pub and_term : (keys : List (List ℕ)) (e left right : Expr) (p : _) (s : Term) (q : _) (t : Term) → ((cells : List Cell) (frame : Frame) → value cells frame e ≡ with_number (value cells frame left) (λ a. with_number (value cells frame right) (λ b. number (and_of Bool a b)))) → IsTermOf keys left s → IsTermOf keys right t → IsTermOf keys e (And' p s q t)
 and_term keys e left right p s q t is of_left of_right = record {
-    within = (of_left.within, of_right.within);
-    same = λ cells frame same len.
-        is cells frame
-        ∙ ap (λ v. with_number v (λ a. with_number (value cells frame right) (λ b. number (and_of Bool a b)))) (of_left.same cells frame same len)
-        ∙ ap (λ v. with_number v (λ b. number (and_of Bool (value_in frame s) b))) (of_right.same cells frame same len);
+  within = (of_left.within, of_right.within);
+  same = λ cells frame same len.
+      is cells frame
+      ∙ ap (λ v. with_number v (λ a. with_number (value cells frame right) (λ b. number (and_of Bool a b)))) (of_left.same cells frame same len)
+      ∙ ap (λ v. with_number v (λ b. number (and_of Bool (value_in frame s) b))) (of_right.same cells frame same len);
 }
 
 pub or_term : (keys : List (List ℕ)) (e left right : Expr) (p : _) (s : Term) (q : _) (t : Term) → ((cells : List Cell) (frame : Frame) → value cells frame e ≡ with_number (value cells frame left) (λ a. with_number (value cells frame right) (λ b. number (or_of Bool a b)))) → IsTermOf keys left s → IsTermOf keys right t → IsTermOf keys e (Or' p s q t)
 or_term keys e left right p s q t is of_left of_right = record {
-    within = (of_left.within, of_right.within);
-    same = λ cells frame same len.
-        is cells frame
-        ∙ ap (λ v. with_number v (λ a. with_number (value cells frame right) (λ b. number (or_of Bool a b)))) (of_left.same cells frame same len)
-        ∙ ap (λ v. with_number v (λ b. number (or_of Bool (value_in frame s) b))) (of_right.same cells frame same len);
+  within = (of_left.within, of_right.within);
+  same = λ cells frame same len.
+      is cells frame
+      ∙ ap (λ v. with_number v (λ a. with_number (value cells frame right) (λ b. number (or_of Bool a b)))) (of_left.same cells frame same len)
+      ∙ ap (λ v. with_number v (λ b. number (or_of Bool (value_in frame s) b))) (of_right.same cells frame same len);
 }
 
 -- ---- assignments
 
 pub assignment : (keys : List (List ℕ)) (target : Operand) (place : Place) (e : Expr) (n : ℕ) (t : Term) → IsNumberAmong keys (key_of target) n → IsTermOf keys e t → IsAssignmentOf keys (Assign target place e) (record { target = n; value = t })
 assignment keys target place e n t is of = record {
-    within = record { target = number_within keys (key_of target) n is; term = of.within };
-    same = λ cells frame same len.
-        ap (λ v. store cells frame target v) (of.same cells frame same len)
-        ∙ ap normal (with_value_at-number cells frame (key_of target) n (value_in frame t) len (number_of_cell cells keys (key_of target) n same is));
+  within = record { target = number_within keys (key_of target) n is; term = of.within };
+  same = λ cells frame same len.
+      ap (λ v. store cells frame target v) (of.same cells frame same len)
+      ∙ ap normal (with_value_at-number cells frame (key_of target) n (value_in frame t) len (number_of_cell cells keys (key_of target) n same is));
 }
 
 -- ---- programs
@@ -97,14 +97,14 @@ no_program keys = record { within = λ k d lt. absurd (omega arith); same = λ c
 
 pub program_more : (keys : List (List ℕ)) (ss : List Stmt) (program : List Assignment) (s : Stmt) (a : Assignment) → IsProgramOf keys ss program → IsAssignmentOf keys s a → IsProgramOf keys (ss ++ s ∷ []) (program ++ a ∷ [])
 program_more keys ss program s a so_far one = record {
-    within = All-push (IsAssignment (length keys)) program a so_far.within one.within;
-    same = λ cells frame same len.
-        let front = run_program program frame in
-        let len_front : length front ≡ length cells = length-run_program program frame ∙ len in
-        run_list-append cells ss (s ∷ []) frame
-        ∙ ap (λ e. go_on e (λ f. run_list cells (s ∷ []) f)) (so_far.same cells frame same len)
-        ∙ ap (λ e. go_on e (λ f. normal f)) (one.same cells front same len_front)
-        ∙ ap normal (sym (run_program-push program a frame));
+  within = All-push (IsAssignment (length keys)) program a so_far.within one.within;
+  same = λ cells frame same len.
+      let front = run_program program frame in
+      let len_front : length front ≡ length cells = length-run_program program frame ∙ len in
+      run_list-append cells ss (s ∷ []) frame
+      ∙ ap (λ e. go_on e (λ f. run_list cells (s ∷ []) f)) (so_far.same cells frame same len)
+      ∙ ap (λ e. go_on e (λ f. normal f)) (one.same cells front same len_front)
+      ∙ ap normal (sym (run_program-push program a frame));
 }
 
 -- the step of the loop over the statements

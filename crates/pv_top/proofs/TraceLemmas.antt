@@ -7,7 +7,6 @@ use Rattle.std.proofs.Math.Seq.{take-suc-set}
 use Rattle.std.proofs.lemmas.Bool.{false≢true}
 use Rattle.std.proofs.lemmas.Grind.{flat_map-append}
 use Rattle.std.proofs.lemmas.List.{length-take-le, drop_all, take_all}
-
 use Rattle.std.specs.List.{flat_map}
 use Rattle.std.specs.Fmt.{decimal, digits}
 use Rattle.pv_top.specs.Traces.{IsBit, AreBits, IsScan, AreScans, value_text, scan_text, scans_text, trace_text}
@@ -78,9 +77,9 @@ AreBits-more (w ∷ vs) v bits bit = (bits.0, AreBits-more vs v bits.1 bit)
 -- one more value
 pub read_more : (text : List ℕ) (values : List ℤ) (rest after : List ℕ) (v : ℤ) → IsRead text values rest → IsBit v → rest ≡ value_text v ++ after → IsRead text (values ++ v ∷ []) after
 read_more text values rest after v so_far bit e = record {
-    bits = AreBits-more values v so_far.bits bit;
-    split = so_far.split ∙ ap (λ r. flat_map value_text values ++ r) e ∙ sym (append_assoc (flat_map value_text values) (value_text v) after)
-        ∙ ap (λ t. t ++ after) (sym (flat_map-append value_text values (v ∷ []) ∙ ap (λ t. flat_map value_text values ++ t) (append-nil (value_text v))));
+  bits = AreBits-more values v so_far.bits bit;
+  split = so_far.split ∙ ap (λ r. flat_map value_text values ++ r) e ∙ sym (append_assoc (flat_map value_text values) (value_text v) after)
+      ∙ ap (λ t. t ++ after) (sym (flat_map-append value_text values (v ∷ []) ∙ ap (λ t. flat_map value_text values ++ t) (append-nil (value_text v))));
 }
 
 -- a bit is an i128
@@ -154,10 +153,10 @@ AreScans-more width (s ∷ ss) values all one = (all.0, AreScans-more width ss v
 -- one more scan
 pub read_scan : (lines : List ℕ) (width : ℕ) (rest next : List ℕ) (values : List ℤ) → HasRead lines width rest → length values ≡ width → AreBits values → rest ≡ scan_text values ++ next → HasRead lines width next
 read_scan lines width rest next values so_far len bits e = record {
-    scans = so_far.scans ++ values ∷ [];
-    are_scans = AreScans-more width so_far.scans values so_far.are_scans (len, bits);
-    split = so_far.split ∙ ap (λ r. flat_map scan_text so_far.scans ++ r) e ∙ sym (append_assoc (flat_map scan_text so_far.scans) (scan_text values) next)
-        ∙ ap (λ t. t ++ next) (sym (flat_map-append scan_text so_far.scans (values ∷ []) ∙ ap (λ t. flat_map scan_text so_far.scans ++ t) (append-nil (scan_text values))));
+  scans = so_far.scans ++ values ∷ [];
+  are_scans = AreScans-more width so_far.scans values so_far.are_scans (len, bits);
+  split = so_far.split ∙ ap (λ r. flat_map scan_text so_far.scans ++ r) e ∙ sym (append_assoc (flat_map scan_text so_far.scans) (scan_text values) next)
+      ∙ ap (λ t. t ++ next) (sym (flat_map-append scan_text so_far.scans (values ∷ []) ∙ ap (λ t. flat_map scan_text so_far.scans ++ t) (append-nil (scan_text values))));
 }
 
 -- a scan's text isn't empty, so the rest is shorter

@@ -13,6 +13,7 @@ use thiserror::Error;
 pub type Status = u8;
 
 pub const WRITE_FAULT: Status = 7;
+
 pub const NO_MEMORY: Status = 9;
 
 /// A text for the sink, and the status that goes with it.
@@ -121,9 +122,7 @@ impl Report {
 fn kept_text(alloc: Global, case: &String, scans: u64) -> Result<String, AllocError>
     ensures { IfOk result (λ text. string_bytes text ≡ report_text (string_bytes case.now) (Kept scans)) }
 {
-    format!(in alloc;
-        "PLCV 1\ncase {case}\npattern invariant\nreplay kept\nscans {scans}\n"
-    )
+    format!(in alloc; "PLCV 1\ncase {case}\npattern invariant\nreplay kept\nscans {scans}\n")
 }
 
 fn broken_text(alloc: Global, case: &String, scan: u64) -> Result<String, AllocError>

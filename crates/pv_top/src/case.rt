@@ -141,13 +141,21 @@ fn is_empty_list(value: &Value) -> bool {
 /// The member's text, where it is one within the limit.
 fn text<'a>(value: &'a Value, key: &str) -> Option<&'a str> {
     let text = value.get(key)?.as_str()?;
-    if text.len() <= TEXT_LIMIT { Some(text) } else { None }
+    if text.len() <= TEXT_LIMIT {
+        Some(text)
+    } else {
+        None
+    }
 }
 
 /// The member's number, where it is an integer from `least` to `most`.
 fn integer(value: &Value, key: &str, least: u64, most: u64) -> Option<u64> {
     let number = value.get(key)?.as_u64()?;
-    if least <= number && number <= most { Some(number) } else { None }
+    if least <= number && number <= most {
+        Some(number)
+    } else {
+        None
+    }
 }
 
 fn is_case_name(name: &str) -> bool {

@@ -15,13 +15,12 @@ mod trace;
 mod words;
 
 use answer::{Answer, NO_MEMORY, Refusal, Stop, WRITE_FAULT};
+pub use answer::{End, Status};
+pub use machine::replay_block;
 use pv_edge::{Files, Sink, SinkFault, Text};
 use replay::replay;
 use std::alloc::Global;
 use words::{Command, read_words};
-
-pub use answer::{End, Status};
-pub use machine::replay_block;
 
 /// Runs the command that the words spell: reads what it names through `files`, and offers the report
 /// or the one fault line to `out` until it is taken. The answer is the program's status.
@@ -37,14 +36,14 @@ pub fn run<F: Files, S: Sink>(
     ensures files { F.told files.new ≡ F.told files.old }
     ensures kept { kept.new ≡ kept.old }
     ensures replay { Replays (record {
-        words = map string_bytes words.now;
-        status = result;
-        reads = F.read_faults files.old;
-        reads_after = F.read_faults files.new;
-        sink = S.faults out.old;
-        sink_after = S.faults out.new;
-        taken = S.taken out.old;
-        taken_after = S.taken out.new;
+      words = map string_bytes words.now;
+      status = result;
+      reads = F.read_faults files.old;
+      reads_after = F.read_faults files.new;
+      sink = S.faults out.old;
+      sink_after = S.faults out.new;
+      taken = S.taken out.old;
+      taken_after = S.taken out.new;
     }) }
 {
     let _ = kept;
@@ -87,3 +86,6 @@ fn print<S: Sink>(alloc: Global, out: &mut S, answer: &Answer) -> Status
         Err(SinkFault::NoMemory) => NO_MEMORY,
     }
 }
+
+#[cfg(test)]
+mod tests;

@@ -29,11 +29,7 @@ pub struct Assignment {
 }
 
 /// The assignments of a block, in order. NotOfForm where a name isn't declared.
-pub fn program_of(
-    alloc: Global,
-    scope: &Scope,
-    block: &Block,
-) -> Result<Vec<Assignment>, ReadFault>
+pub fn program_of(alloc: Global, scope: &Scope, block: &Block) -> Result<Vec<Assignment>, ReadFault>
     ensures { IfOk result (λ program. IsProgramOf scope.now (statements_of block.now.body) program.items) }
 {
     let Body::Scl(statements) = &block.body;
@@ -55,11 +51,7 @@ fn assignments_of(
     Ok(program)
 }
 
-fn assignment_of(
-    alloc: Global,
-    scope: &Scope,
-    statement: &Stmt,
-) -> Result<Assignment, ReadFault>
+fn assignment_of(alloc: Global, scope: &Scope, statement: &Stmt) -> Result<Assignment, ReadFault>
     ensures { IfOk result (λ a. IsAssignmentOf scope.now statement.now a) }
 {
     let target = cell_of(scope, target_of_statement(statement))?;
@@ -95,7 +87,10 @@ pub fn term_of(alloc: Global, scope: &Scope, expr: &Expr) -> Result<Term, ReadFa
             }
         }
         Expr::Binary {
-            op, left, right, ..
+            op,
+            left,
+            right,
+            ..
         } => {
             let left = Box::new(alloc, term_of(alloc, scope, left)?)?;
             let right = Box::new(alloc, term_of(alloc, scope, right)?)?;

@@ -27,7 +27,12 @@ pub fn replay<F: Files>(
     let case = accept(alloc, read_case(alloc, &bytes), Part::Case, case_file)?;
     let source = case.file.as_str();
     let bytes = read(alloc, files, source)?;
-    let (block, invariant) = accept(alloc, requirement_of(alloc, &case, &bytes), Part::Source, source)?;
+    let (block, invariant) = accept(
+        alloc,
+        requirement_of(alloc, &case, &bytes),
+        Part::Source,
+        source,
+    )?;
     let bytes = read(alloc, files, trace_file)?;
     let replayed = replay_block(alloc, &block, &invariant, &bytes);
     let end = accept(alloc, replayed, Part::Trace, trace_file)?;
@@ -40,11 +45,7 @@ pub fn replay<F: Files>(
 /// The block of the source and the case's invariant. NotOfForm where the source isn't of the form, its
 /// block isn't the case's entry or breaks a rule on names, or the case's invariant is no expression
 /// over its variables.
-fn requirement_of(
-    alloc: Global,
-    case: &Case,
-    source: &[u8],
-) -> Result<(Block, Expr), ReadFault> {
+fn requirement_of(alloc: Global, case: &Case, source: &[u8]) -> Result<(Block, Expr), ReadFault> {
     let block = read_block(alloc, 0, source)?;
     let entry = read_name(alloc, case.entry.as_bytes())?;
     let invariant = read_expression(alloc, 0, case.invariant.as_bytes())?;

@@ -15,8 +15,8 @@ loop-number-preserved c =
     let frame = c.loop-number.frame in
     let cell = c.index-cells-number.result in
     elim c.if-is_input.branch [
-      then-is_input w ↦ let role = role_is cells number cell c.is_input.result true c.index-cells-number.is c.is_input.ensures w.if-is_input.true in moved cells input start (suc number) (number + 1) (suc next) c.if-is_input.next _ c.if-is_input.frame next_number (w.next-is ∙ next_next) w.frame-is (place_stored cells input start number next frame cell (omega arith) (omega arith) role (c.requires.input_bools next) c.loop-number.invariant)
-    | else-is_input w ↦ moved cells input start (suc number) (number + 1) next c.if-is_input.next frame c.if-is_input.frame next_number w.next-is w.frame-is (place_kept cells input start number next frame cell (omega arith) (omega arith) (role_is cells number cell c.is_input.result false c.index-cells-number.is c.is_input.ensures w.if-is_input.false) c.loop-number.invariant)
+      | then-is_input w ↦ let role = role_is cells number cell c.is_input.result true c.index-cells-number.is c.is_input.ensures w.if-is_input.true in moved cells input start (suc number) (number + 1) (suc next) c.if-is_input.next _ c.if-is_input.frame next_number (w.next-is ∙ next_next) w.frame-is (place_stored cells input start number next frame cell (omega arith) (omega arith) role (c.requires.input_bools next) c.loop-number.invariant)
+      | else-is_input w ↦ moved cells input start (suc number) (number + 1) next c.if-is_input.next frame c.if-is_input.frame next_number w.next-is w.frame-is (place_kept cells input start number next frame cell (omega arith) (omega arith) (role_is cells number cell c.is_input.result false c.index-cells-number.is c.is_input.ensures w.if-is_input.false) c.loop-number.invariant)
     ]
 
 pub returns-clause-frame : goal.returns-clause-frame

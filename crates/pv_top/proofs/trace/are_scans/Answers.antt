@@ -11,10 +11,11 @@ pub returns : goal.returns
 returns c =
     let decides = slice_eq-Decides Decides-eqb c.loop-next.rest.now c.as_slice.result.now c.eq.result c.eq.ensures in
     let so_far = c.loop-next.invariant in
-    let width = length c.args.input.now in
-    (λ yes. ended c.args.lines.now width c.loop-next.rest.now so_far (decides.0 yes ∙ c.as_slice.ensures),
-        λ all.
-            decides.1
-            (ends_alike width so_far.scans all.0 c.loop-next.rest.now so_far.are_scans all.1
-            (λ values r scan e. c.in_default.ensures.none values r (scan.0 ∙ sym c.loop-next.auto.input, scan.1) e)
-            (sym so_far.split ∙ all.2) ∙ sym c.as_slice.ensures))
+    let width = length c.args.input.now in (
+      λ yes. ended c.args.lines.now width c.loop-next.rest.now so_far (decides.0 yes ∙ c.as_slice.ensures),
+      λ all.
+          decides.1
+          (ends_alike width so_far.scans all.0 c.loop-next.rest.now so_far.are_scans all.1
+          (λ values r scan e. c.in_default.ensures.none values r (scan.0 ∙ sym c.loop-next.auto.input, scan.1) e)
+          (sym so_far.split ∙ all.2) ∙ sym c.as_slice.ensures),
+    )

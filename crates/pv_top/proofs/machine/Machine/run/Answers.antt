@@ -13,9 +13,9 @@ returns-then-not-keeps c = λ block a scans of ok e. remains_broken block a c.ar
 
 pub loop-next-preserved : goal.loop-next-preserved
 loop-next-preserved c = record {
-    ready = c.keeps.ensures.ready;
-    count = omega (arith, read_shortens c.loop-next.rest.now c.in-Some.next.now c.next_scan.new.input c.in-Some.ensures.found.1);
-    left = λ block a scans of ok e. remains_kept block a c.args.self.now (length c.args.input.now) (image_of (cells_of block) c.args.frame.now) scans c.loop-next.scan c.loop-next.frame c.next_scan.new.input c.keeps.new.frame c.loop-next.rest.now c.in-Some.next.now of (omega arith) c.in-Some.ensures.found.0 c.in-Some.ensures.found.1 c.keeps.ensures.frame c.keeps.ensures.ready.cells (sym c.keeps.ensures.value ∙ c.if-not-keeps.false) (c.loop-next.invariant.left block a scans of ok e);
+  ready = c.keeps.ensures.ready;
+  count = omega (arith, read_shortens c.loop-next.rest.now c.in-Some.next.now c.next_scan.new.input c.in-Some.ensures.found.1);
+  left = λ block a scans of ok e. remains_kept block a c.args.self.now (length c.args.input.now) (image_of (cells_of block) c.args.frame.now) scans c.loop-next.scan c.loop-next.frame c.next_scan.new.input c.keeps.new.frame c.loop-next.rest.now c.in-Some.next.now of (omega arith) c.in-Some.ensures.found.0 c.in-Some.ensures.found.1 c.keeps.ensures.frame c.keeps.ensures.ready.cells (sym c.keeps.ensures.value ∙ c.if-not-keeps.false) (c.loop-next.invariant.left block a scans of ok e);
 }
 
 pub returns : goal.returns

@@ -1,0 +1,172 @@
+//! The command `replay` from end to end, over files and a sink in memory.
+use crate::{Status, run};
+use pv_edge::{MemFiles, MemSink, Text, text};
+use std::alloc::{AllocError, Global};
+use std::test::Fail;
+
+const DEMO: &str = "FUNCTION_BLOCK Demo
+VAR_INPUT start, stop : BOOL; END_VAR
+VAR_OUTPUT run : BOOL; END_VAR
+
+
+BEGIN
+run := (start OR run) AND NOT stop;
+END_FUNCTION_BLOCK
+";
+
+const COUNTER: &str = "FUNCTION_BLOCK Demo
+
+
+VAR n : INT; END_VAR
+
+BEGIN
+IF n < 100 THEN n := n + 1; END_IF;
+END_FUNCTION_BLOCK
+";
+
+const NO_SCANS: &str = "PLCVTRACE 1\nparams\nend\n";
+
+const PUSHED: &str = "PLCVTRACE 1\nparams\nscan 0 0\nscan 1 0\nend\n";
+
+/// The three files of a replay.
+fn files(
+    alloc: Global,
+    source: &str,
+    invariant: &str,
+    trace: &str,
+) -> Result<MemFiles, AllocError> {
+    let case = format!(in alloc;
+        "{{\"version\": 1, \"name\": \"t\", \"sources\": [{{\"file\": \"a.scl\", \"language\": \"scl\"}}], \"entry\": \"Demo\", \"pattern\": {{\"kind\": \"invariant\", \"a\": \"{invariant}\"}}, \"loopBound\": 16, \"depth\": 3, \"lemmas\": 100000, \"regionWords\": 1000000, \"reduce\": []}}"
+    )?;
+    let mut files = Vec::new(alloc);
+    files.push((
+        text(alloc, b"c.json")?,
+        Vec::from_slice(alloc, case.as_bytes())?,
+    ))?;
+    files.push((
+        text(alloc, b"a.scl")?,
+        Vec::from_slice(alloc, source.as_bytes())?,
+    ))?;
+    files.push((
+        text(alloc, b"t.txt")?,
+        Vec::from_slice(alloc, trace.as_bytes())?,
+    ))?;
+    Ok(MemFiles {
+        files,
+        calls: 0,
+        fail_at: Vec::new(alloc),
+        read_faults: 0,
+        write_faults: 0,
+    })
+}
+
+fn sink(alloc: Global, piece: usize) -> MemSink {
+    MemSink {
+        taken: Vec::new(alloc),
+        piece,
+        calls: 0,
+        fail_at: Vec::new(alloc),
+        faults: 0,
+    }
+}
+
+/// Runs the words over the files and the sink.
+fn status_of(
+    alloc: Global,
+    words: &[&str],
+    files: &mut MemFiles,
+    out: &mut MemSink,
+) -> Result<Status, AllocError> {
+    let mut list = Vec::new(alloc);
+    for word in words {
+        list.push(String::from_str(alloc, word)?)?;
+    }
+    let mut kept = Text::from(Vec::new(alloc));
+    Ok(run(alloc, &list, files, out, &mut kept))
+}
+
+const REPLAY: [&str; 3] = ["replay", "c.json", "t.txt"];
+
+#[test]
+fn worked_rows(rt: HostRuntime) -> Result<(), Fail> {
+    let alloc = rt.alloc();
+    let rows = [
+        (
+            DEMO,
+            "NOT (run AND stop)",
+            NO_SCANS,
+            0,
+            "PLCV 1\ncase t\npattern invariant\nreplay kept\nscans 0\n",
+        ),
+        (
+            DEMO,
+            "NOT run",
+            PUSHED,
+            1,
+            "PLCV 1\ncase t\npattern invariant\nreplay broken\nscan 2\ncause pattern\n",
+        ),
+        (
+            DEMO,
+            "NOT (run AND stop)",
+            PUSHED,
+            0,
+            "PLCV 1\ncase t\npattern invariant\nreplay kept\nscans 2\n",
+        ),
+        (COUNTER, "NOT run", PUSHED, 3, "plcv: form a.scl\n"),
+        (DEMO, "NOT walk", PUSHED, 3, "plcv: form a.scl\n"),
+        (
+            DEMO,
+            "NOT run",
+            "PLCVTRACE 1\nparams\nscan 0\nend\n",
+            8,
+            "plcv: form t.txt\n",
+        ),
+        (DEMO, "NOT run\\", PUSHED, 4, "plcv: form c.json\n"),
+    ];
+    for (source, invariant, trace, status, line) in rows {
+        let mut files = files(alloc, source, invariant, trace)?;
+        let mut out = sink(alloc, 5);
+        assert_eq!(rt; status_of(alloc, &REPLAY, &mut files, &mut out)?, status);
+        assert_eq!(rt; out.taken.as_slice(), line.as_bytes());
+    }
+    Ok(())
+}
+
+#[test]
+fn other_words(rt: HostRuntime) -> Result<(), Fail> {
+    let alloc = rt.alloc();
+    let mut files = files(alloc, DEMO, "NOT run", PUSHED)?;
+    let mut out = sink(alloc, 100);
+    assert_eq!(rt; status_of(alloc, &[], &mut files, &mut out)?, 5);
+    assert_eq!(rt; out.taken.as_slice(), b"plcv: words\n".as_slice());
+    assert_eq!(rt; status_of(alloc, &["--help"], &mut files, &mut out)?, 5);
+    Ok(())
+}
+
+#[test]
+fn failing_reads_and_writes(rt: HostRuntime) -> Result<(), Fail> {
+    let alloc = rt.alloc();
+    let lines = [
+        "plcv: read c.json\n",
+        "plcv: read a.scl\n",
+        "plcv: read t.txt\n",
+    ];
+    let mut call = 1;
+    for line in lines {
+        let mut files = files(alloc, DEMO, "NOT run", PUSHED)?;
+        files.fail_at.push(call)?;
+        let mut out = sink(alloc, 100);
+        assert_eq!(rt; status_of(alloc, &REPLAY, &mut files, &mut out)?, 6);
+        assert_eq!(rt; out.taken.as_slice(), line.as_bytes());
+        call += 1;
+    }
+    let report = b"PLCV 1\ncase t\npattern invariant\nreplay broken\nscan 2\ncause pattern\n";
+    for taken in 0..report.len() {
+        let mut files = files(alloc, DEMO, "NOT run", PUSHED)?;
+        let mut out = sink(alloc, 1);
+        out.fail_at.push(taken as u64 + 1)?;
+        assert_eq!(rt; status_of(alloc, &REPLAY, &mut files, &mut out)?, 7);
+        assert_eq!(rt; out.taken.as_slice(), &report[..taken]);
+    }
+    Ok(())
+}
