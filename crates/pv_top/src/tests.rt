@@ -147,18 +147,16 @@ fn other_words(rt: HostRuntime) -> Result<(), Fail> {
 fn failing_reads_and_writes(rt: HostRuntime) -> Result<(), Fail> {
     let alloc = rt.alloc();
     let lines = [
-        "plcv: read c.json\n",
-        "plcv: read a.scl\n",
-        "plcv: read t.txt\n",
+        (1, "plcv: read c.json\n"),
+        (2, "plcv: read a.scl\n"),
+        (3, "plcv: read t.txt\n"),
     ];
-    let mut call = 1;
-    for line in lines {
+    for (call, line) in lines {
         let mut files = files(alloc, DEMO, "NOT run", PUSHED)?;
         files.fail_at.push(call)?;
         let mut out = sink(alloc, 100);
         assert_eq!(rt; status_of(alloc, &REPLAY, &mut files, &mut out)?, 6);
         assert_eq!(rt; out.taken.as_slice(), line.as_bytes());
-        call += 1;
     }
     let report = b"PLCV 1\ncase t\npattern invariant\nreplay broken\nscan 2\ncause pattern\n";
     for taken in 0..report.len() {
