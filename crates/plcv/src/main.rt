@@ -4,9 +4,8 @@
 
 use pv_edge::{HostFiles, HostOut, Text};
 use pv_top::Status;
-use std::env;
-use std::io;
 use std::process::ExitCode;
+use std::{env, io};
 
 /// The status where not even the list of words can be made.
 const NO_MEMORY: Status = 9;

@@ -1,7 +1,7 @@
 -- What an interpreter with numbered cells cites: a name's value stands at the number of its cell.
-use Rattle.std.proofs.Common.{◌≡◌, ℕ, zero, suc, ◌<◌, List, [], ◌∷◌, length, map, ℤ, pos, Bool, true, false, cond, bytes_eq, get_or, set, refl, ap, sym, ◌∙◌, arith}
+use Rattle.std.proofs.Common.{◌≡◌, ℕ, zero, suc, ◌<◌, List, [], ◌∷◌, length, map, ℤ, pos, true, false, cond, bytes_eq, get_or, set, refl, ap, ◌∙◌, arith}
 use Rattle.pv_mean.specs.declared.cell.Cell.{Cell}
-use Rattle.pv_mean.specs.Cells.{key_of_path, has_key}
+use Rattle.pv_mean.specs.Cells.{key_of_path}
 use Rattle.pv_mean.specs.Frames.{Frame, first, others}
 use Rattle.pv_mean.specs.Values.{value_at}
 use Rattle.pv_mean.specs.Statements.{with_value_at}
@@ -23,9 +23,9 @@ others_at (v ∷ vs) n = refl
 -- the number in the rest of the cells
 fewer : (c : Cell) (cells : List Cell) (key : List ℕ) (n : ℕ) → IsNumber (c ∷ cells) key (suc n) → IsNumber cells key n
 fewer c cells key n is = record {
-    within = let lt : suc n < length (c ∷ cells) = is.within in omega arith;
-    here = is.here;
-    before = λ k lt. is.before (suc k) (omega arith);
+  within = let lt : suc n < length (c ∷ cells) = is.within in omega arith;
+  here = is.here;
+  before = λ k lt. is.before (suc k) (omega arith);
 }
 
 pub value_at-number : (cells : List Cell) (frame : Frame) (key : List ℕ) (n : ℕ) → IsNumber cells key n → value_at cells frame key ≡ get_or frame n (pos 0)

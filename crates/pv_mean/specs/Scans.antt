@@ -13,8 +13,8 @@ pub record Scan : Type 0 where
 
 abbrev pub scan : Block → Image → Input → Scan
 scan block image input = record {
-    beginning = begin (cells_of block) image input;
-    ending = run_list (cells_of block) (statements_of block.body) (begin (cells_of block) image input);
+  beginning = begin (cells_of block) image input;
+  ending = run_list (cells_of block) (statements_of block.body) (begin (cells_of block) image input);
 }
 
 -- the image that a scan leaves for the next one

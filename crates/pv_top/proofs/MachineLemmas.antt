@@ -1,5 +1,5 @@
 -- The interpreter's machine runs the block's scans.
-use Rattle.std.proofs.Common.{◌≡◌, ◌++◌, ◌+◌, ℕ, zero, suc, ◌<◌, ◌≤◌, List, [], ◌∷◌, length, map, ℤ, pos, Bool, true, false, not, cond, refl, ap, sym, subst, ◌∙◌, append-nil, append_assoc, get_or, inl, inr, arith}
+use Rattle.std.proofs.Common.{◌≡◌, ◌++◌, ◌+◌, ℕ, zero, suc, List, [], ◌∷◌, length, map, ℤ, pos, Bool, true, false, not, cond, refl, ap, sym, subst, ◌∙◌, append-nil, append_assoc, get_or, inl, inr, arith}
 use Rattle.std.proofs.lemmas.Int.{ints}
 use Rattle.std.specs.Prelude.{filter, All}
 use Rattle.std.specs.List.{AllByRecursion}
@@ -16,7 +16,7 @@ use Rattle.pv_mean.specs.declared.cell.Cell.{Cell}
 use Rattle.pv_mean.specs.Cells.{key_of_path, cell_of, cells_of, is_input}
 use Rattle.pv_mean.specs.Frames.{Image, first, others, begin, image_of, start_image, input_len}
 use Rattle.pv_mean.specs.Statements.{Ending, normal, run_list}
-use Rattle.pv_mean.specs.Scans.{Scan, scan}
+use Rattle.pv_mean.specs.Scans.{Scan}
 use Rattle.pv_mean.specs.Runs.{after, run, run_from}
 use Rattle.pv_top.specs.declared.answer.End.{End}
 use Rattle.pv_top.specs.declared.answer.End.TheVariants.{Kept, Broken}
@@ -25,7 +25,7 @@ use Rattle.pv_top.specs.Traces.{IsBit, AreBits, IsScan, AreScans, scan_text, sca
 use Rattle.pv_top.specs.Programs.{IsTerm, IsAssignment, AreBools, value_in, run_program}
 use Rattle.pv_top.specs.Ends.{is_true, fails, Keeps, IsEnd}
 use Rattle.pv_top.specs.Machines.{IsMachineOf, IsReady, StartsInBool, end_after}
-use Rattle.pv_top.proofs.TraceLemmas.{IsNextScan, next_is, none_left}
+use Rattle.pv_top.proofs.TraceLemmas.{next_is, none_left}
 
 -- the cells have the keys of the variables
 pub keys_same : (vars : List Var) → map key_of_path (map cell_of vars) ≡ keys_of vars

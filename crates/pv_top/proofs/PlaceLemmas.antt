@@ -1,9 +1,9 @@
 -- The frame at a scan's beginning, made in place.
-use Rattle.std.proofs.Common.{◌≡◌, ◌≢◌, ◌++◌, ◌+◌, ℕ, zero, suc, ◌<◌, ◌≤◌, List, [], ◌∷◌, length, ℤ, pos, Bool, true, false, cond, not, get_or, set, take, drop, ◌⊎◌, inl, inr, refl, ap, sym, subst, ◌∙◌, append_assoc, append-nil, arith}
+use Rattle.std.proofs.Common.{◌≡◌, ◌≢◌, ◌++◌, ◌+◌, ℕ, zero, suc, ◌<◌, ◌≤◌, List, [], ◌∷◌, length, ℤ, pos, Bool, true, false, cond, get_or, set, take, drop, ◌⊎◌, inl, inr, refl, ap, sym, subst, ◌∙◌, append_assoc, append-nil, arith}
 use Rattle.std.specs.Prelude.{filter}
 use Rattle.std.proofs.Math.Seq.{take-suc-set, take-suc, drop-cons}
 use Rattle.std.proofs.lemmas.Bool.{cases_eq}
-use Rattle.std.proofs.lemmas.List.{length-set, get_or-set_same, get_or-set_other, drop-set-lt, take_all, drop_all}
+use Rattle.std.proofs.lemmas.List.{get_or-set_same, get_or-set_other, drop-set-lt, take_all, drop_all}
 use Rattle.pv_word.specs.declared.types.Ty.TheVariants.{Bool as BoolType}
 use Rattle.pv_word.specs.Types.{InRange}
 use Rattle.pv_mean.specs.declared.cell.Cell.{Cell}

@@ -1,17 +1,15 @@
 -- Programs with numbered cells mean what their statements mean.
-use Rattle.std.proofs.Common.{◌≡◌, ◌++◌, ◌+◌, ℕ, zero, suc, ◌<◌, List, [], ◌∷◌, length, map, ℤ, pos, true, false, bytes_eq, get_or, set, take, refl, ap, sym, subst, ◌∙◌, arith, Some}
-use Rattle.std.specs.Prelude.{position, All, slice_set}
+use Rattle.std.proofs.Common.{◌≡◌, ◌++◌, ◌+◌, ℕ, suc, ◌<◌, List, [], ◌∷◌, length, ℤ, bytes_eq, get_or, take, refl, ap, sym, subst, ◌∙◌, arith, Some}
+use Rattle.std.specs.Prelude.{position, slice_set}
 use Rattle.std.proofs.Math.Seq.{take-suc}
 use Rattle.std.proofs.lemmas.List.Quantifiers.{position-Some}
 use Rattle.std.proofs.lemmas.List.Elements.{All-push}
-use Rattle.std.proofs.lemmas.List.{length-map, length-set, get_or-set_same, get_or-set_other}
+use Rattle.std.proofs.lemmas.List.{length-map, length-set}
 use Rattle.pv_word.specs.declared.types.Ty.TheVariants.{Bool}
 use Rattle.pv_word.specs.Types.{InRange, and_of, or_of, not_of}
 use Rattle.pv_tree.specs.declared.place.Place.{Place}
-use Rattle.pv_tree.specs.declared.tree.UnaryOp.TheVariants.{Not}
-use Rattle.pv_tree.specs.declared.tree.BinaryOp.TheVariants.{And, Or}
 use Rattle.pv_tree.specs.declared.tree.Operand.{Operand}
-use Rattle.pv_tree.specs.declared.tree.Expr.{Expr, Lit, Read, Unary', Binary', Paren'}
+use Rattle.pv_tree.specs.declared.tree.Expr.{Expr, Read}
 use Rattle.pv_tree.specs.declared.tree.Stmt.{Stmt}
 use Rattle.pv_tree.specs.declared.tree.Stmt.TheVariants.{Assign}
 use Rattle.pv_tree.specs.Scope.{key_of}
@@ -19,12 +17,12 @@ use Rattle.pv_mean.specs.declared.cell.Cell.{Cell}
 use Rattle.pv_mean.specs.Cells.{key_of_path}
 use Rattle.pv_mean.specs.Frames.{Frame}
 use Rattle.pv_mean.specs.Values.{number, with_number, value}
-use Rattle.pv_mean.specs.Statements.{Ending, normal, go_on, store, run_one, run_list}
+use Rattle.pv_mean.specs.Statements.{normal, go_on, store, run_list}
 use Rattle.pv_mean.proofs.Numbers.{IsNumber, value_at-number, with_value_at-number}
 use Rattle.pv_mean.proofs.Lists.{run_list-append}
 use Rattle.pv_top.specs.declared.program.Term.{Term, Constant, Load, Not', And', Or'}
 use Rattle.pv_top.specs.declared.program.Assignment.{Assignment}
-use Rattle.pv_top.specs.Programs.{IsTerm, value_in, IsAssignment, run_program, keys_of_cells, IsNumberAmong, IsTermOf, IsAssignmentOf, IsProgramOf, target_of, source_of}
+use Rattle.pv_top.specs.Programs.{value_in, IsAssignment, run_program, keys_of_cells, IsNumberAmong, IsTermOf, IsAssignmentOf, IsProgramOf, target_of, source_of}
 
 -- the number of a key is that of a cell
 pub number_within : (keys : List (List ℕ)) (key : List ℕ) (n : ℕ) → IsNumberAmong keys key n → n < length keys

@@ -1,11 +1,9 @@
 -- A run that says nothing, for want of memory.
-use Rattle.std.proofs.Common.{◌≡◌, ◌≢◌, ◌≤◌, ℕ, List, [], Option, refl, sym, subst, ◌∙◌, inl, inr, arith, length, take}
-use Rattle.pv_edge.specs.Sink.{Takes, TakesPart}
+use Rattle.std.proofs.Common.{◌≡◌, ℕ, List, Option, sym, subst, inr, arith}
 use Rattle.pv_edge.proofs.Taking.{takes-none}
 use Rattle.pv_top.specs.declared.answer.Refusal.TheVariants.{Words}
 use Rattle.pv_top.specs.declared.answer.Answer.{Answer}
 use Rattle.pv_top.specs.declared.answer.Answer.TheVariants.{Refusal}
-use Rattle.pv_top.specs.Answers.{text_of}
 use Rattle.pv_top.specs.Replays.{Call, Delivers, Replays}
 
 -- nothing went to the sink, which is the empty prefix of any answer

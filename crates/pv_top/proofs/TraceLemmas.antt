@@ -1,6 +1,5 @@
 -- Texts of traces: a value and a scan are read in one way.
-use Rattle.std.proofs.Common.{◌≡◌, ◌⊎◌, ◌++◌, ℕ, suc, ◌+◌, ◌≤◌, ◌<◌, ℤ, pos, negsuc, List, [], ◌∷◌, length, take, drop, length-append, codes, refl, ap, sym, ◌∙◌, append_assoc, append-nil, inl, inr, arith, get_or, ◌==◌, true, false, zero, subst, set, Option, Some, None, MatchOption, IfSome, IfNone, Bor, ◌≢◌}
-use Rattle.std.specs.Prelude.{⊤}
+use Rattle.std.proofs.Common.{◌≡◌, ◌++◌, ℕ, suc, ◌+◌, ◌≤◌, ◌<◌, ℤ, pos, List, [], ◌∷◌, length, take, drop, length-append, codes, refl, ap, sym, ◌∙◌, append_assoc, append-nil, inl, inr, arith, get_or, ◌==◌, true, false, zero, subst, set, Option, Some, None, MatchOption, IfSome, IfNone, Bor, ◌≢◌}
 use mir.Val.{to_z, of_z}
 use mir.Syntax.{w128}
 use Rattle.std.proofs.Math.Seq.{take-suc-set}
@@ -8,8 +7,8 @@ use Rattle.std.proofs.lemmas.Bool.{false≢true}
 use Rattle.std.proofs.lemmas.Grind.{flat_map-append}
 use Rattle.std.proofs.lemmas.List.{length-take-le, drop_all, take_all}
 use Rattle.std.specs.List.{flat_map}
-use Rattle.std.specs.Fmt.{decimal, digits}
-use Rattle.pv_top.specs.Traces.{IsBit, AreBits, IsScan, AreScans, value_text, scan_text, scans_text, trace_text}
+use Rattle.std.specs.Fmt.{digits}
+use Rattle.pv_top.specs.Traces.{IsBit, AreBits, IsScan, AreScans, value_text, scan_text, scans_text}
 
 -- what a prefix that was sought says, by the outcome
 pub prefix_found : (s p : List ℕ) (r : Option (Bor (List ℕ))) → MatchOption r ((rest : List ℕ) → s ≢ p ++ rest) (λ x. s ≡ p ++ x.now) → IfSome r (λ x. s ≡ p ++ x.now)

@@ -7,7 +7,6 @@ use Rattle.pv_top.specs.declared.answer.Part.{Part}
 use Rattle.pv_top.specs.declared.answer.Part.TheVariants.{Case, Source, Trace}
 use Rattle.pv_top.specs.declared.answer.Refusal.{Refusal}
 use Rattle.pv_top.specs.declared.answer.Refusal.TheVariants.{Words, Unread, Unbuilt}
-use Rattle.pv_top.specs.declared.answer.Report.{Report as ReportOf}
 use Rattle.pv_top.specs.declared.answer.Stop.{Stop}
 use Rattle.pv_top.specs.declared.answer.Stop.TheVariants.{Refused, NoMemory}
 use Rattle.pv_top.specs.declared.answer.Answer.{Answer}

@@ -1,5 +1,5 @@
 -- How a replay ends, by the scans of its run: each keeps the invariant, or one is the first that breaks it.
-use Rattle.std.specs.Prelude.{◌≡◌, ◌+◌, ◌<◌, ◌≤◌, ℕ, List, length, ◌++◌, ◌∷◌, Bool, true, false, not, ℤ, pos}
+use Rattle.std.specs.Prelude.{◌≡◌, ◌+◌, List, length, ◌++◌, ◌∷◌, Bool, true, false, not, pos}
 use Rattle.std.specs.List.{AllByRecursion}
 use Rattle.std.specs.Ordering.{int_eq}
 use Rattle.pv_tree.specs.declared.tree.Expr.{Expr}

@@ -1,4 +1,4 @@
-use Rattle.std.proofs.Common.{◌≡◌, ◌+◌, ◌∙◌, suc, true, false, refl, arith}
+use Rattle.std.proofs.Common.{◌≡◌, ◌+◌, ◌∙◌, suc, true, false, arith}
 use Rattle.pv_top.proofs.PlaceLemmas.{place_stored, place_kept, placed_all, moved, role_is}
 use Rattle.pv_top.proofs.program.place.Goals.{then-is_input, else-is_input}
 use Rattle.pv_top.proofs.program.place.Goals as goal

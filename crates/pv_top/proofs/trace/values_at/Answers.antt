@@ -1,4 +1,4 @@
-use Rattle.std.proofs.Common.{◌≡◌, ◌<◌, length, arith}
+use Rattle.std.proofs.Common.{◌≡◌, length, arith}
 use Rattle.pv_top.proofs.TraceLemmas.{read_stops, read_step}
 use Rattle.pv_top.proofs.trace.values_at.Goals as goal
 

@@ -1,6 +1,4 @@
-use Rattle.std.proofs.Common.{◌≡◌, ◌++◌, take}
-use Rattle.std.specs.List.{flat_map}
-use Rattle.pv_top.specs.Traces.{AreBits, value_text}
+use Rattle.std.proofs.Common.{take}
 use Rattle.pv_top.proofs.TraceLemmas.{IsRead}
 use Rattle.pv_top.proofs.trace.values_at.Given as goal
 
