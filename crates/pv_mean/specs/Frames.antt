@@ -22,7 +22,10 @@ abbrev pub others : List ℤ → List ℤ
 others [] = []
 others (v ∷ vs) = vs
 
--- how many values an input has
+-- how many values an image has, and an input
+abbrev pub image_len : List Cell → ℕ
+image_len cells = length (filter (λ c. not (is_input c.role)) cells)
+
 abbrev pub input_len : List Cell → ℕ
 input_len cells = length (filter (λ c. is_input c.role) cells)
 
@@ -39,3 +42,8 @@ begin (c ∷ cs) image input = if is_input c.role then first input ∷ begin cs 
 abbrev pub image_of : List Cell → Frame → Image
 image_of [] frame = []
 image_of (c ∷ cs) frame = if is_input c.role then image_of cs (others frame) else first frame ∷ image_of cs (others frame)
+
+-- the values of the input cells in a frame
+abbrev pub input_of : List Cell → Frame → Input
+input_of [] frame = []
+input_of (c ∷ cs) frame = if is_input c.role then first frame ∷ input_of cs (others frame) else input_of cs (others frame)

@@ -18,3 +18,11 @@ run_from block image (input ∷ inputs) = scan block image input ∷ after block
 -- the run of the block over the inputs
 abbrev pub run : Block → List Input → List Scan
 run block inputs = run_from block (start_image (cells_of block)) inputs
+
+-- the image that a run leaves
+abbrev pub image_after : Block → Image → Ending → Image
+image_after block image (normal frame) = next_image block frame
+
+abbrev pub end_image : Block → Image → List Input → Image
+end_image block image [] = image
+end_image block image (input ∷ inputs) = end_image block (image_after block image (scan block image input).ending) inputs

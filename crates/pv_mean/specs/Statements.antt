@@ -1,5 +1,5 @@
 -- The run of a list of statements in a frame.
-use Rattle.std.specs.Prelude.{List, [], ◌∷◌, ℕ, ℤ, if◌then◌else◌}
+use Rattle.std.specs.Prelude.{List, [], ◌∷◌, ℕ, ℤ, ◌≢◌, if◌then◌else◌}
 use Rattle.pv_tree.specs.declared.tree.Stmt.{Stmt}
 use Rattle.pv_tree.specs.declared.tree.Stmt.TheVariants.{Assign}
 use Rattle.pv_tree.specs.declared.tree.Operand.{Operand}
@@ -33,3 +33,8 @@ run_one cells frame (Assign target place e) = store cells frame target (value ce
 abbrev pub run_list : List Cell → List Stmt → Frame → Ending
 run_list cells [] frame = normal frame
 run_list cells (s ∷ ss) frame = go_on (run_one cells frame s) (λ f. run_list cells ss f)
+
+-- no assignment has this key's cell as its target
+abbrev pub IsUntouched : List ℕ → List Stmt → Type 0
+IsUntouched key [] = Unit {0}
+IsUntouched key ((Assign target place e) ∷ ss) = (key_of target ≢ key) × IsUntouched key ss

@@ -1,7 +1,11 @@
 -- The value of an expression in a frame. Operands are taken from left to right, and the first trap decides.
+use Rattle.std.specs.List.{AllByRecursion}
+use Rattle.pv_tree.specs.declared.tree.Stmt.{Stmt}
+use Rattle.pv_tree.specs.declared.tree.Stmt.TheVariants.{Assign}
 use Rattle.std.specs.Prelude.{List, [], ◌∷◌, ℕ, ℤ, pos, if◌then◌else◌}
 use Rattle.pv_word.specs.declared.types.Ty.TheVariants.{Bool}
 use Rattle.pv_word.specs.Types.{and_of, or_of, not_of}
+use Rattle.pv_word.specs.Types.{InRange}
 use Rattle.pv_tree.specs.declared.tree.UnaryOp.{UnaryOp}
 use Rattle.pv_tree.specs.declared.tree.UnaryOp.TheVariants.{Not}
 use Rattle.pv_tree.specs.declared.tree.BinaryOp.{BinaryOp}
@@ -39,3 +43,18 @@ value cells frame (Read operand) = number (value_at cells frame (key_of operand)
 value cells frame (Unary' op place p arg) = with_number (value cells frame arg) (λ a. number (unary op a))
 value cells frame (Binary' op place p left q right) = with_number (value cells frame left) (λ a. with_number (value cells frame right) (λ b. number (binary op a b)))
 value cells frame (Paren' place p inner) = value cells frame inner
+
+-- the values are values of BOOL
+abbrev pub AllInBool : List ℤ → Type 0
+AllInBool values = AllByRecursion (InRange Bool) values
+
+-- the literals of an expression, and of a statement, are values of BOOL
+abbrev pub BoolLiterals : Expr → Type 0
+BoolLiterals (Lit ty v place) = InRange Bool v
+BoolLiterals (Read operand) = Unit {0}
+BoolLiterals (Unary' op place p arg) = BoolLiterals arg
+BoolLiterals (Binary' op place p left q right) = BoolLiterals left × BoolLiterals right
+BoolLiterals (Paren' place p inner) = BoolLiterals inner
+
+abbrev pub HasBoolLiterals : Stmt → Type 0
+HasBoolLiterals (Assign target place e) = BoolLiterals e

@@ -5,5 +5,6 @@
 #![tactic(auto)]
 
 mod cell;
+pub mod laws;
 
 pub use cell::{Cell, Role, cells};

@@ -4,3 +4,4 @@ mod PlaceLemmas
 mod MachineLemmas
 mod WordsLemmas
 mod Silent
+mod ReadLemmas

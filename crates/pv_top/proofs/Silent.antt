@@ -20,5 +20,5 @@ silent call nine same = record {
   only_words = λ no. inr (inr nine);
   unread = λ six. absurd (omega (arith, nine, six));
   unwritten = λ seven. absurd (omega (arith, nine, seven));
-  text = let P : Option (List ℕ) → Type 0 = λ t. Delivers (Refusal Words) call.status call.taken t in (Refusal Words, subst P (sym same) (nothing (Refusal Words) call.status call.taken nine));
+  text = let P : Option (List ℕ) → Type 0 = λ t. Delivers (Refusal Words) call.status call.taken t in (Refusal Words, subst P (sym same) (nothing (Refusal Words) call.status call.taken nine), tt);
 }

@@ -1,17 +1,49 @@
 -- What the command `replay CASE TRACE` promises, and what the program does with other words: each field is one promise.
-use Rattle.std.specs.Prelude.{◌≡◌, ◌≢◌, ◌⊎◌, ℕ, List, [], ◌∷◌, Option, codes}
+use Rattle.std.specs.Prelude.{Some, IfSome, ℤ, ◌≡◌, ◌≢◌, ◌⊎◌, ℕ, List, [], ◌∷◌, Option, codes}
 use Rattle.pv_edge.specs.Faults.{HasRisen}
+use Rattle.pv_edge.specs.Files.{FileMap}
 use Rattle.pv_edge.specs.Sink.{Takes, TakesPart}
+use Rattle.pv_tree.specs.declared.tree.Expr.{Expr}
+use Rattle.pv_tree.specs.declared.tree.Block.{Block}
+use Rattle.pv_mean.specs.Cells.{cells_of}
+use Rattle.pv_mean.specs.Frames.{input_len}
+use Rattle.pv_mean.specs.Runs.{run}
+use Rattle.pv_top.specs.declared.words.Command.{Command}
+use Rattle.pv_top.specs.declared.words.Command.TheVariants.{Replay}
+use Rattle.pv_top.specs.declared.answer.End.{End}
 use Rattle.pv_top.specs.declared.answer.Answer.{Answer}
+use Rattle.pv_top.specs.declared.answer.Answer.TheVariants.{Report, Refusal}
+use Rattle.pv_top.specs.Traces.{AreScans, trace_text}
+use Rattle.pv_top.specs.Ends.{IsEnd}
 use Rattle.pv_top.specs.Answers.{status_of, text_of}
 
 -- the words of the command
 abbrev pub IsReplay : List (List ℕ) → Type 0
 IsReplay words = (case : List ℕ) × (trace : List ℕ) × (words ≡ codes "replay" ∷ case ∷ trace ∷ [])
 
--- a run of the program, seen from outside: its words and its status, what the sink has taken and the counts of faults, before
--- and after
+-- the words spell the command
+abbrev pub Spells : List (List ℕ) → Command → Type 0
+Spells words (Replay case trace) = words ≡ codes "replay" ∷ case.now ∷ trace.now ∷ []
+
+-- the end is that of the run of the block and the invariant that were read, over the scans of the trace that the name is told
+-- to hold
+pub record IsReplayed (told : Option FileMap) (trace : List ℕ) (end : End) : Type 0 where
+  pub block : Block
+  pub invariant : Expr
+  pub inputs : List (List ℤ)
+  pub scans : AreScans (input_len (cells_of block)) inputs
+  pub read : IfSome told (λ files. files trace ≡ Some (trace_text inputs))
+  pub ends : IsEnd block invariant (run block inputs) end
+
+-- what an answer to the words means: a report that the replay ended so
+abbrev pub Means : Option FileMap → List (List ℕ) → Answer → Type 0
+Means told words (Report report) = (case : List ℕ) × (trace : List ℕ) × (words ≡ codes "replay" ∷ case ∷ trace ∷ []) × IsReplayed told trace report.end
+Means told words (Refusal refusal) = Unit {0}
+
+-- a run of the program, seen from outside: its words and its status, what the files are told to hold, what the sink has taken
+-- and the counts of faults, before and after
 pub record Call : Type 0 where
+  pub told : Option FileMap
   pub words : List (List ℕ)
   pub status : ℕ
   pub reads : ℕ
@@ -34,5 +66,5 @@ pub record Replays (call : Call) : Type 0 where
   -- a read fault and a write fault are told only where their count rose
   pub unread : call.status ≡ 6 → HasRisen call.reads call.reads_after
   pub unwritten : call.status ≡ 7 → HasRisen call.sink call.sink_after
-  -- what the sink tells is an answer, whole or a prefix
-  pub text : (answer : Answer) × Delivers answer call.status call.taken call.taken_after
+  -- what the sink tells is an answer that is true, whole or a prefix
+  pub text : (answer : Answer) × Delivers answer call.status call.taken call.taken_after × Means call.told call.words answer

@@ -4,7 +4,7 @@
 ghost use Rattle.std.specs.Prelude.{◌≡◌, ◌≤◌, ◌⊎◌, IfSome, IsSomeAnd, map, string_bytes};
 ghost use Rattle.pv_edge.specs.Faults.{HasRisen};
 ghost use Rattle.pv_top.specs.Answers.{status_of, text_of};
-ghost use Rattle.pv_top.specs.Replays.{IsReplay, Delivers, Replays};
+ghost use Rattle.pv_top.specs.Replays.{IsReplay, Means, Delivers, Replays};
 
 mod answer;
 mod case;
@@ -37,6 +37,7 @@ pub fn run<F: Files, S: Sink>(
     ensures kept { kept.new ≡ kept.old }
     ensures replay { Replays (record {
       words = map string_bytes words.now;
+      told = F.told files.old;
       status = result;
       reads = F.read_faults files.old;
       reads_after = F.read_faults files.new;
@@ -58,6 +59,7 @@ fn answer_of<F: Files>(alloc: Global, words: &[String], files: &mut F) -> Option
     ensures files { F.told files.new ≡ F.told files.old }
     ensures words { IfSome result (λ answer. status_of answer ≡ 5 → IsReplay (map string_bytes words.now) → ⊥) }
     ensures only_words { (IsReplay (map string_bytes words.now) → ⊥) → IfSome result (λ answer. status_of answer ≡ 5) }
+    ensures means { IfSome result (Means (F.told files.old) (map string_bytes words.now)) }
     ensures unread { IfSome result (λ answer. status_of answer ≡ 6 → HasRisen (F.read_faults files.old) (F.read_faults files.new)) }
 {
     let Some(command) = read_words(words) else {

@@ -1,6 +1,7 @@
 //! The command `replay CASE TRACE`.
 ghost use Rattle.std.specs.Prelude.{◌≡◌, ◌≤◌, Some, Ok, true, false, IfOk, IfErr, IfSome};
 ghost use Rattle.pv_edge.specs.Faults.{HasRisen};
+ghost use Rattle.pv_top.specs.Replays.{IsReplayed};
 ghost use Rattle.pv_top.specs.Answers.{is_words, is_unread};
 
 use crate::answer::{Part, Refusal, Report, Stop};
@@ -19,6 +20,7 @@ pub fn replay<F: Files>(
     trace_file: &str,
 ) -> Result<Report, Stop>
     ensures files { F.told files.new ≡ F.told files.old }
+    ensures replayed { IfOk result (λ report. IsReplayed (F.told files.old) trace_file.now report.end) }
     ensures never_falls { F.read_faults files.old ≤ F.read_faults files.new }
     ensures unread { IfErr result (λ stop. is_unread stop ≡ true → HasRisen (F.read_faults files.old) (F.read_faults files.new)) }
     ensures words { IfErr result (λ stop. is_words stop ≡ false) }

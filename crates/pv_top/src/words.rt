@@ -1,6 +1,6 @@
 //! The forms of words that the program has.
-ghost use Rattle.std.specs.Prelude.{IfNone, OnSome, map, string_bytes};
-ghost use Rattle.pv_top.specs.Replays.{IsReplay};
+ghost use Rattle.std.specs.Prelude.{IfNone, IfSome, map, string_bytes};
+ghost use Rattle.pv_top.specs.Replays.{IsReplay, Spells};
 
 /// A command with its words.
 #[derive(Clone, Copy, Debug, PartialEq, Eq)]
@@ -12,7 +12,7 @@ pub enum Command<'a> {
 /// The command that the words spell, if they have one of the forms. Nothing stands before or
 /// after it: there are no options.
 pub fn read_words(words: &[String]) -> Option<Command<'_>>
-    ensures some { OnSome result (IsReplay (map string_bytes words.now)) }
+    ensures some { IfSome result (λ command. Spells (map string_bytes words.now) command) }
     ensures none { IfNone result (IsReplay (map string_bytes words.now) → ⊥) }
 {
     match words {

@@ -1,0 +1,14 @@
+-- Runs one after the other.
+use Rattle.std.proofs.Common.{◌≡◌, ◌++◌, List, [], ◌∷◌, refl, ap}
+use Rattle.pv_tree.specs.declared.tree.Block.{Block}
+use Rattle.pv_mean.specs.Frames.{Image, Input}
+use Rattle.pv_mean.specs.Statements.{Ending, normal}
+use Rattle.pv_mean.specs.Scans.{scan}
+use Rattle.pv_mean.specs.Runs.{after, run_from, image_after, end_image}
+
+pub run_from-append : (block : Block) (image : Image) (inputs more : List Input) → run_from block image (inputs ++ more) ≡ run_from block image inputs ++ run_from block (end_image block image inputs) more
+run_from-append block image [] more = refl
+run_from-append block image (i ∷ inputs) more = ap (λ l. scan block image i ∷ l) (lead (scan block image i).ending (λ next. run_from-append block next inputs more))
+  where
+  lead : (e : Ending) → ((next : Image) → run_from block next (inputs ++ more) ≡ run_from block next inputs ++ run_from block (end_image block next inputs) more) → after block e (λ next. run_from block next (inputs ++ more)) ≡ after block e (λ next. run_from block next inputs) ++ run_from block (end_image block (image_after block image e) inputs) more
+  lead (normal frame) same = same _
