@@ -177,3 +177,19 @@ replayed block a m width again text lines frame end of wide same found is ran =
     let ends : end ≡ end_after 0 block a (run block inputs) = ran inputs again_ok found.3 ∙ ap (λ i. end_after 0 block a (run_from block i inputs)) start in
     let Q : End → Type 0 = λ e. IsEnd block a (run block inputs) e in
     (inputs, ok, found.2, subst Q (sym ends) (end_is block a [] (run block inputs) tt))
+
+kept_end : (n : ℕ) (block : Block) (a : Expr) (ss : List Scan) → AllByRecursion (Keeps block a) ss → end_after n block a ss ≡ Kept (n + length ss)
+kept_end n block a [] all = ap Kept (omega arith)
+kept_end n block a (s ∷ ss) all = ap (λ b. cond b (Broken (n + 1)) (end_after (n + 1) block a ss)) all.0 ∙ kept_end (n + 1) block a ss all.1 ∙ ap Kept (omega arith)
+
+broken_end : (n : ℕ) (block : Block) (a : Expr) (front : List Scan) (s : Scan) (later : List Scan) → AllByRecursion (Keeps block a) front → fails block a s.ending ≡ true → end_after n block a (front ++ s ∷ later) ≡ Broken (n + length front + 1)
+broken_end n block a [] s later all bad = ap (λ b. cond b (Broken (n + 1)) (end_after (n + 1) block a later)) bad ∙ ap Broken (omega arith)
+broken_end n block a (r ∷ front) s later all bad = ap (λ b. cond b (Broken (n + 1)) (end_after (n + 1) block a (front ++ s ∷ later))) all.0 ∙ broken_end (n + 1) block a front s later all.1 bad ∙ ap Broken (omega arith)
+
+-- an end is the one that the interpreter's function gives
+the_end : (block : Block) (a : Expr) (scans : List Scan) (end : End) → IsEnd block a scans end → end ≡ end_after 0 block a scans
+the_end block a scans (Kept n) is = ap Kept is.0 ∙ sym (kept_end 0 block a scans is.1 ∙ ap Kept (omega arith))
+the_end block a scans (Broken n) is = ap Broken is.4 ∙ sym (ap (end_after 0 block a) is.3 ∙ broken_end 0 block a is.0 is.1 is.2 is.5 is.6 ∙ ap Broken (omega arith))
+
+pub one_end : (block : Block) (a : Expr) (scans : List Scan) (end other : End) → IsEnd block a scans end → IsEnd block a scans other → end ≡ other
+one_end block a scans end other is also = the_end block a scans end is ∙ sym (the_end block a scans other also)

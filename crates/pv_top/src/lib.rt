@@ -8,6 +8,7 @@ ghost use Rattle.pv_top.specs.Replays.{IsReplay, Means, Delivers, Replays};
 
 mod answer;
 mod case;
+pub mod laws;
 mod machine;
 mod program;
 mod replay;
