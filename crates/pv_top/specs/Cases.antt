@@ -1,12 +1,13 @@
 -- A case: one JSON object that names the source, the entry block, the invariant and the limits. Of a key that stands twice in
 -- a text the last value counts, so an object has each key once; texts are lists of UTF-8 bytes.
-use Rattle.std.specs.Prelude.{◌≡◌, ◌≤◌, ◌⊎◌, ℕ, List, length, Some, codes, IsUtf8}
+use Rattle.std.specs.Prelude.{◌≡◌, ◌≤◌, ◌⊎◌, ℕ, List, length, Some, codes, string_bytes, IsUtf8}
 use Rattle.std.specs.List.{All}
 use Rattle.std.specs.Char.{IsAsciiAlphanumeric}
 use Rattle.serde_json.specs.Data.{Data, object, array, string, number, unsigned, item, no_items, Members}
 use Rattle.serde_json.specs.Events.{members_len}
 use Rattle.serde_json.specs.Find.{get}
 use Rattle.serde_json.specs.Read.{read}
+use Rattle.pv_top.specs.declared.case.Case.{Case}
 use Rattle.pv_top.specs.declared.case.Limits.{Limits}
 
 -- what a case says
@@ -16,6 +17,15 @@ pub record CaseData : Type 0 where
   pub entry : List ℕ
   pub invariant : List ℕ
   pub limits : Limits
+
+abbrev pub data_of : Case → CaseData
+data_of case = record {
+  name = string_bytes case.name;
+  file = string_bytes case.file;
+  entry = string_bytes case.entry;
+  invariant = string_bytes case.invariant;
+  limits = case.limits;
+}
 
 -- an object of so many members
 abbrev pub HasMembers : Data → ℕ → Type 0
@@ -57,7 +67,7 @@ pub record HasLimits (d : Data) (limits : Limits) : Type 0 where
   pub lemmas : HasNumber d (codes "lemmas") 1 10000000 limits.lemmas
   pub region_words : HasNumber d (codes "regionWords") 16 250000000 limits.region_words
 
--- the ten members that the fields name, and no others
+-- the ten members that the fields name, and no others: the object has ten, and each of these keys is there
 pub record IsCase (d : Data) (case : CaseData) : Type 0 where
   pub members : HasMembers d 10
   pub version : get (codes "version") d ≡ Some (number (unsigned 1))

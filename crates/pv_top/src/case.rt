@@ -1,13 +1,13 @@
 //! The case file: one JSON object that names the sources, the entry block, the requirement and the
 //! limits.
 
-ghost use Rattle.std.specs.Prelude.{◌≡◌, ◌≤◌, ◌↔◌, ℕ, List, Some, IfSome, IfNone, IfOk, IfErr, IsTrue, length, string_bytes};
+ghost use Rattle.std.specs.Prelude.{◌≡◌, ◌≤◌, ◌↔◌, ℕ, List, Some, IfSome, IfNone, IfOk, IfErr, IsTrue};
 ghost use Rattle.std.specs.List.{All};
 ghost use Rattle.serde_json.specs.Data.{Data, array, item, no_items, string};
 ghost use Rattle.serde_json.specs.Find.{get};
 ghost use Rattle.serde_json.specs.View.{view};
 ghost use Rattle.pv_tree.specs.declared.fault.ReadFault.TheVariants.{NotOfForm};
-ghost use Rattle.pv_top.specs.Cases.{CaseData, HasMembers, HasText, HasNumber, HasLimits, IsNameByte, IsCaseName, IsSource, IsInvariant, IsCase, IsCaseText};
+ghost use Rattle.pv_top.specs.Cases.{CaseData, data_of, HasMembers, HasText, HasNumber, HasLimits, IsNameByte, IsCaseName, IsSource, IsInvariant, IsCase, IsCaseText};
 
 use pv_tree::ReadFault;
 use serde_json::Value;
@@ -48,13 +48,8 @@ const NAME_LIMIT: usize = 64;
 /// Reads a case. It is NotOfForm where the bytes are no JSON object with exactly the members of the
 /// form, each obeying its rule; of a member that stands twice the last one counts.
 pub fn read_case(alloc: Global, bytes: &[u8]) -> Result<Case, ReadFault>
-    ensures found { IfOk result (λ case. IsCaseText bytes.now (record {
-      name = string_bytes case.name;
-      file = string_bytes case.file;
-      entry = string_bytes case.entry;
-      invariant = string_bytes case.invariant;
-      limits = case.limits;
-    })) }
+    ensures found { IfOk result (λ case. IsCaseText bytes.now (data_of case)) }
+    ensures only { IfOk result (λ case. (other : CaseData) → IsCaseText bytes.now other → other ≡ data_of case) }
     ensures refused { IfErr result (λ fault. fault ≡ NotOfForm → (case : CaseData) → IsCaseText bytes.now case → ⊥) }
 {
     match Value::from_slice(alloc, bytes) {
@@ -66,13 +61,7 @@ pub fn read_case(alloc: Global, bytes: &[u8]) -> Result<Case, ReadFault>
 
 /// The case that the value is.
 fn case_of(alloc: Global, value: &Value) -> Result<Case, ReadFault>
-    ensures found { IfOk result (λ case. IsCase (view value.now) (record {
-      name = string_bytes case.name;
-      file = string_bytes case.file;
-      entry = string_bytes case.entry;
-      invariant = string_bytes case.invariant;
-      limits = case.limits;
-    })) }
+    ensures found { IfOk result (λ case. IsCase (view value.now) (data_of case)) }
     ensures refused { IfErr result (λ fault. fault ≡ NotOfForm → (case : CaseData) → IsCase (view value.now) case → ⊥) }
 {
     let Some(parts) = parts_of(value) else {
