@@ -1,4 +1,5 @@
 mod TraceLemmas
+mod CaseLemmas
 mod ProgramLemmas
 mod PlaceLemmas
 mod MachineLemmas

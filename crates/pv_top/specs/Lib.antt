@@ -1,4 +1,5 @@
 pub mod Traces
+pub mod Cases
 pub mod Programs
 pub mod Ends
 pub mod Machines

@@ -1,6 +1,14 @@
 //! The case file: one JSON object that names the sources, the entry block, the requirement and the
 //! limits.
 
+ghost use Rattle.std.specs.Prelude.{◌≡◌, ◌≤◌, ◌↔◌, ℕ, List, Some, IfSome, IfNone, IfOk, IfErr, IsTrue};
+ghost use Rattle.std.specs.List.{All};
+ghost use Rattle.serde_json.specs.Data.{Data, array, item, no_items, string};
+ghost use Rattle.serde_json.specs.Find.{get};
+ghost use Rattle.serde_json.specs.View.{view};
+ghost use Rattle.pv_tree.specs.declared.fault.ReadFault.TheVariants.{NotOfForm};
+ghost use Rattle.pv_top.specs.Cases.{CaseData, data_of, HasMembers, HasText, HasNumber, HasLimits, IsNameByte, IsCaseName, IsSource, IsInvariant, IsCase, IsCaseText};
+
 use pv_tree::ReadFault;
 use serde_json::Value;
 use std::alloc::Global;
@@ -39,18 +47,23 @@ const NAME_LIMIT: usize = 64;
 
 /// Reads a case. It is NotOfForm where the bytes are no JSON object with exactly the members of the
 /// form, each obeying its rule; of a member that stands twice the last one counts.
-pub fn read_case(alloc: Global, bytes: &[u8]) -> Result<Case, ReadFault> {
-    let Ok(text) = str::from_utf8(bytes) else {
-        return Err(ReadFault::NotOfForm);
-    };
-    match Value::from_str(alloc, text) {
+pub fn read_case(alloc: Global, bytes: &[u8]) -> Result<Case, ReadFault>
+    ensures found { IfOk result (λ case. IsCaseText bytes.now (data_of case)) }
+    ensures only { IfOk result (λ case. (other : CaseData) → IsCaseText bytes.now other → other ≡ data_of case) }
+    ensures refused { IfErr result (λ fault. fault ≡ NotOfForm → (case : CaseData) → IsCaseText bytes.now case → ⊥) }
+{
+    match Value::from_slice(alloc, bytes) {
         Ok(value) => case_of(alloc, &value),
         Err(error) if error.is_memory() => Err(ReadFault::NoMemory),
         Err(_) => Err(ReadFault::NotOfForm),
     }
 }
 
-fn case_of(alloc: Global, value: &Value) -> Result<Case, ReadFault> {
+/// The case that the value is.
+fn case_of(alloc: Global, value: &Value) -> Result<Case, ReadFault>
+    ensures found { IfOk result (λ case. IsCase (view value.now) (data_of case)) }
+    ensures refused { IfErr result (λ fault. fault ≡ NotOfForm → (case : CaseData) → IsCase (view value.now) case → ⊥) }
+{
     let Some(parts) = parts_of(value) else {
         return Err(ReadFault::NotOfForm);
     };
@@ -73,16 +86,25 @@ struct Parts<'a> {
     limits: Limits,
 }
 
-fn parts_of(value: &Value) -> Option<Parts<'_>> {
-    if !has_members(value, 10) || integer(value, "version", 1, 1).is_none() {
-        return None;
-    }
+/// What the value says, where it is a case.
+fn parts_of(value: &Value) -> Option<Parts<'_>>
+    ensures found { IfSome result (λ parts. IsCase (view value.now) (record {
+      name = parts.name.now;
+      file = parts.file.now;
+      entry = parts.entry.now;
+      invariant = parts.invariant.now;
+      limits = parts.limits;
+    })) }
+    ensures none { IfNone result ((case : CaseData) → IsCase (view value.now) case → ⊥) }
+{
+    let _version = integer(value, "version", 1, 1)?;
     let name = text(value, "name")?;
     let file = source_of(value.get("sources")?)?;
     let entry = text(value, "entry")?;
     let invariant = invariant_of(value.get("pattern")?)?;
     let limits = limits_of(value)?;
-    if is_case_name(name) && is_empty_list(value.get("reduce")?) {
+    let reduce = value.get("reduce")?;
+    if has_members(value, 10) && is_case_name(name) && is_empty_list(reduce) {
         Some(Parts {
             name,
             file,
@@ -95,43 +117,76 @@ fn parts_of(value: &Value) -> Option<Parts<'_>> {
     }
 }
 
-fn limits_of(value: &Value) -> Option<Limits> {
+fn limits_of(value: &Value) -> Option<Limits>
+    ensures found { IfSome result (λ limits. HasLimits (view value.now) limits) }
+    ensures none { IfNone result ((limits : Limits) → HasLimits (view value.now) limits → ⊥) }
+{
+    let loop_bound = integer(value, "loopBound", 1, 256)?;
+    let depth = integer(value, "depth", 0, 64)?;
+    let lemmas = integer(value, "lemmas", 1, 10_000_000)?;
+    let region_words = integer(value, "regionWords", 16, 250_000_000)?;
     Some(Limits {
-        loop_bound: integer(value, "loopBound", 1, 256)?,
-        depth: integer(value, "depth", 0, 64)?,
-        lemmas: integer(value, "lemmas", 1, 10_000_000)?,
-        region_words: integer(value, "regionWords", 16, 250_000_000)?,
+        loop_bound,
+        depth,
+        lemmas,
+        region_words,
     })
 }
 
 /// The file of the one source, where the list has exactly one, in SCL.
-fn source_of(sources: &Value) -> Option<&str> {
-    match sources.as_array()?.as_slice() {
-        [source] if has_members(source, 2) && text(source, "language")? == "scl" => {
-            let file = text(source, "file")?;
-            if file.is_empty() { None } else { Some(file) }
-        }
-        _ => None,
-    }
-}
-
-/// The expression of the pattern, where it is an invariant.
-fn invariant_of(pattern: &Value) -> Option<&str> {
-    if has_members(pattern, 2) && text(pattern, "kind")? == "invariant" {
-        text(pattern, "a")
+fn source_of(sources: &Value) -> Option<&str>
+    ensures found { IfSome result (λ file. (source : Data)
+        × (view sources.now ≡ array (item source no_items)) × IsSource source file.now) }
+    ensures none { IfNone result ((source : Data) (file : List ℕ)
+        → view sources.now ≡ array (item source no_items) → IsSource source file → ⊥) }
+{
+    let source = only_item(sources)?;
+    let file = text(source, "file")?;
+    if has_members(source, 2) && says(source, "language", "scl") && !file.is_empty() {
+        Some(file)
     } else {
         None
     }
 }
 
-fn has_members(value: &Value, count: usize) -> bool {
+/// The expression of the pattern, where it is an invariant.
+fn invariant_of(pattern: &Value) -> Option<&str>
+    ensures found { IfSome result (λ expression. IsInvariant (view pattern.now) expression.now) }
+    ensures none { IfNone result ((expression : List ℕ) → IsInvariant (view pattern.now) expression → ⊥) }
+{
+    let expression = text(pattern, "a")?;
+    if has_members(pattern, 2) && says(pattern, "kind", "invariant") {
+        Some(expression)
+    } else {
+        None
+    }
+}
+
+fn has_members(value: &Value, count: usize) -> bool
+    ensures { IsTrue result ↔ HasMembers (view value.now) count }
+{
     match value.as_object() {
         Some(members) => members.len() == count,
         None => false,
     }
 }
 
-fn is_empty_list(value: &Value) -> bool {
+/// The item of a list that has exactly one.
+fn only_item(list: &Value) -> Option<&Value>
+    ensures found { IfSome result (λ only. view list.now ≡ array (item (view only.now) no_items)) }
+    ensures none { IfNone result ((only : Data) → view list.now ≡ array (item only no_items) → ⊥) }
+{
+    let items = list.as_array()?;
+    if items.len() == 1 {
+        Some(&items[0])
+    } else {
+        None
+    }
+}
+
+fn is_empty_list(value: &Value) -> bool
+    ensures { IsTrue result ↔ (view value.now ≡ array no_items) }
+{
     match value.as_array() {
         Some(items) => items.is_empty(),
         None => false,
@@ -139,7 +194,10 @@ fn is_empty_list(value: &Value) -> bool {
 }
 
 /// The member's text, where it is one within the limit.
-fn text<'a>(value: &'a Value, key: &str) -> Option<&'a str> {
+fn text<'a>(value: &'a Value, key: &str) -> Option<&'a str>
+    ensures found { IfSome result (λ text. HasText (view value.now) key.now text.now) }
+    ensures none { IfNone result ((text : List ℕ) → HasText (view value.now) key.now text → ⊥) }
+{
     let text = value.get(key)?.as_str()?;
     if text.len() <= TEXT_LIMIT {
         Some(text)
@@ -148,8 +206,21 @@ fn text<'a>(value: &'a Value, key: &str) -> Option<&'a str> {
     }
 }
 
+/// Whether the member is this text.
+fn says(value: &Value, key: &str, word: &str) -> bool
+    ensures { IsTrue result ↔ (get key.now (view value.now) ≡ Some (string word.now)) }
+{
+    match value.get(key).and_then(Value::as_str) {
+        Some(text) => text == word,
+        None => false,
+    }
+}
+
 /// The member's number, where it is an integer from `least` to `most`.
-fn integer(value: &Value, key: &str, least: u64, most: u64) -> Option<u64> {
+fn integer(value: &Value, key: &str, least: u64, most: u64) -> Option<u64>
+    ensures found { IfSome result (λ n. HasNumber (view value.now) key.now least most n) }
+    ensures none { IfNone result ((n : ℕ) → HasNumber (view value.now) key.now least most n → ⊥) }
+{
     let number = value.get(key)?.as_u64()?;
     if least <= number && number <= most {
         Some(number)
@@ -158,11 +229,20 @@ fn integer(value: &Value, key: &str, least: u64, most: u64) -> Option<u64> {
     }
 }
 
-fn is_case_name(name: &str) -> bool {
-    let bytes = name.as_bytes();
-    !bytes.is_empty() && bytes.len() <= NAME_LIMIT && bytes.iter().all(|&byte| is_name_byte(byte))
+fn is_case_name(name: &str) -> bool
+    ensures { IsTrue result ↔ IsCaseName name.now }
+{
+    !name.is_empty() && name.len() <= NAME_LIMIT && are_name_bytes(name.as_bytes())
 }
 
-fn is_name_byte(byte: u8) -> bool {
+fn are_name_bytes(bytes: &[u8]) -> bool
+    ensures { IsTrue result ↔ All IsNameByte bytes.now }
+{
+    bytes.iter().all(|&byte| is_name_byte(byte))
+}
+
+fn is_name_byte(byte: u8) -> bool
+    ensures { IsTrue result ↔ IsNameByte byte }
+{
     byte.is_ascii_alphanumeric() || byte == b'_' || byte == b'-'
 }
