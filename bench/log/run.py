@@ -4,33 +4,22 @@
 Usage: run.py [n]. Builds both programs in a temporary copy of the crates, and needs `rt` and a C compiler."""
 import os
 import pathlib
-import shutil
 import subprocess
 import sys
 import tempfile
 
 HERE = pathlib.Path(__file__).resolve().parent
-ROOT = HERE.parent.parent
+sys.path.insert(0, str(HERE.parent))
+sys.dont_write_bytecode = True
+from build import built  # noqa: E402
 
 
 def build(place):
     """The two programs."""
-    left_out = shutil.ignore_patterns("must-fail", "out")
-    for crate in ["pv_cnf", "pv_log"]:
-        shutil.copytree(ROOT / "crates" / crate, place / "crates" / crate, ignore=left_out)
-    shutil.copy(ROOT / "HANDLES", place)
-    (place / "crates.txt").write_text(
-        "pv_cnf: itoa thiserror\npv_log: itoa pv_cnf thiserror\nlog_bench: anyhow pv_cnf pv_log\n"
-    )
-    bench = place / "crates" / "log_bench"
-    (bench / "src").mkdir(parents=True)
-    shutil.copy(HERE / "program.txt", bench / "src" / "main.rt")
-    run = subprocess.run(["rt", "run"], cwd=bench, capture_output=True, text=True)
-    if run.returncode:
-        sys.exit(run.stdout + run.stderr)
+    program = built(place, "log_bench", HERE / "program.txt", ["pv_cnf", "pv_log"])
     plain = place / "plain"
     subprocess.run(["cc", "-O2", "-o", plain, HERE / "plain.c"], check=True)
-    return {"plcv": bench / "out" / "log_bench", "C": plain}
+    return {"plcv": program, "C": plain}
 
 
 def measure(program, lines):

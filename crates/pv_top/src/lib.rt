@@ -91,4 +91,6 @@ fn print<S: Sink>(alloc: Global, out: &mut S, answer: &Answer) -> Status
 }
 
 #[cfg(test)]
+mod step_formula;
+#[cfg(test)]
 mod tests;

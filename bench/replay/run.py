@@ -1,0 +1,128 @@
+#!/usr/bin/env python3
+"""Times `plcv replay` on blocks and traces of a size and of twice that size.
+
+Usage: run.py [n [scans]]: blocks of n and 2n variables (10,000) and traces of so many and twice so many scans (100,000). A block
+has at most 20,000 variables, so n is at most 10,000. The script `plcv` at the top builds the program where it is missing."""
+import json
+import pathlib
+import subprocess
+import sys
+import tempfile
+
+ROOT = pathlib.Path(__file__).resolve().parent.parent.parent
+sys.path.insert(0, str(ROOT / "bench"))
+sys.dont_write_bytecode = True
+from measure import compare, machine, measured  # noqa: E402
+
+PROGRAM = ROOT / "crates" / "plcv" / "out" / "plcv"
+MIB = 2**20
+
+
+def block(inputs, outputs, body):
+    """A function block of these variables."""
+    lines = ["FUNCTION_BLOCK Bench", "VAR_INPUT"]
+    lines += [f"  {name} : BOOL;" for name in inputs]
+    lines += ["END_VAR", "VAR_OUTPUT"]
+    lines += [f"  {name} : BOOL;" for name in outputs]
+    return "\n".join(lines) + f"\nEND_VAR\nBEGIN\n{body}END_FUNCTION_BLOCK\n"
+
+
+def variables(n):
+    """The names of n variables, a third of them inputs, as long for 2n as for n."""
+    return [f"in_{k:05}" for k in range(n // 3)], [f"out_{k:05}" for k in range(n - n // 3)]
+
+
+def mixed(n):
+    """A block of n variables and n assignments that read three of them."""
+    inputs, outputs = variables(n)
+    names = inputs + outputs
+    body = "".join(
+        f"  {outputs[k % len(outputs)]} := {names[k * 7919 % n]} AND NOT ({names[k * 104729 % n]} OR {names[k * 31 % n]});\n"
+        for k in range(n)
+    )
+    return block(inputs, outputs, body), len(inputs)
+
+
+def chain(size):
+    """A source of about so many bytes whose assignments each read what the one before assigned."""
+    outputs = [f"v{k}" for k in range(1000)]
+    lines = [f"{outputs[k]} := {outputs[k - 1]} AND NOT (b OR c);\n" for k in range(1000)]
+    turn = "".join(lines)
+    room = size - len(block(["b", "c"], outputs, ""))
+    body = turn * (room // len(turn))
+    return block(["b", "c"], outputs, body), 2
+
+
+def dense(size):
+    """A source of exactly so many bytes with as many tokens as it holds."""
+    room = size - len(block(["b"], ["a"], ""))
+    return block(["b"], ["a"], "a:=b;" * (room // 5) + " " * (room % 5)), 1
+
+
+def parentheses(size):
+    """A source of exactly so many bytes, nearly all of them opening parentheses."""
+    room = size - len(block(["b"], ["a"], "a:=;"))
+    return block(["b"], ["a"], "a:=" + "(" * room + ";"), 1
+
+
+def case_of(source):
+    """The case of a source's block with an invariant that always holds."""
+    return {
+        "version": 1,
+        "name": "bench",
+        "sources": [{"file": str(source), "language": "scl"}],
+        "entry": "Bench",
+        "pattern": {"kind": "invariant", "a": "TRUE"},
+        "loopBound": 1,
+        "depth": 0,
+        "lemmas": 100000,
+        "regionWords": 1000000,
+        "reduce": [],
+    }
+
+
+def trace_of(inputs, scans):
+    """A trace of so many scans, whose inputs change in each."""
+    rows = ["scan" + "".join(f" {(k + row) % 2}" for k in range(inputs)) + "\n" for row in range(2)]
+    return "PLCVTRACE 1\nparams\n" + "".join(rows) * (scans // 2) + rows[0] * (scans % 2) + "end\n"
+
+
+def replay(place, made, scans):
+    """The measured replay of so many scans of a source with so many inputs, and the MiB of source and trace."""
+    source, inputs = made
+    trace = trace_of(inputs, scans)
+    (place / "source.scl").write_text(source)
+    (place / "trace.txt").write_text(trace)
+    (place / "case.json").write_text(json.dumps(case_of(place / "source.scl")))
+    kept = f"PLCV 1\ncase bench\npattern invariant\nreplay kept\nscans {scans}\n"
+    refused = f"plcv: form {place / 'source.scl'}\n"
+    found = measured([PROGRAM, "replay", place / "case.json", place / "trace.txt"], statuses=(0, 3))
+    if found[2] != (refused if "((((" in source else kept):
+        sys.exit(found[2])
+    return found, len(source) / MIB, len(trace) / MIB
+
+
+def pair(place, name, made, scans):
+    """Compares two replays, of the two sources and the two numbers of scans."""
+    rows = []
+    for source, count in zip(made, scans):
+        found, of_source, of_trace = replay(place, source, count)
+        rows.append((f"source {of_source:.2f} MiB, {count} scans in {of_trace:.2f} MiB", found))
+    compare(name, *rows)
+
+
+def main():
+    n = int(sys.argv[1]) if len(sys.argv) > 1 else 10000
+    scans = int(sys.argv[2]) if len(sys.argv) > 2 else 100000
+    # Builds the program, then answers that it was given no words.
+    subprocess.run([ROOT / "plcv"], stdout=subprocess.DEVNULL)
+    machine()
+    with tempfile.TemporaryDirectory() as folder:
+        place = pathlib.Path(folder)
+        pair(place, f"{n} and {2 * n} variables and assignments", [mixed(n), mixed(2 * n)], [10, 10])
+        for make in chain, dense, parentheses:
+            pair(place, make.__name__, [make(2 * MIB), make(4 * MIB)], [2, 2])
+        pair(place, "30 variables and assignments", [mixed(30)] * 2, [scans, 2 * scans])
+
+
+main()
