@@ -1,5 +1,5 @@
 -- What the command `replay CASE TRACE` promises, and what the program does with other words: each field is one promise.
-use Rattle.std.specs.Prelude.{Some, IfSome, ℤ, ◌≡◌, ◌≢◌, ◌⊎◌, ℕ, List, [], ◌∷◌, Option, codes}
+use Rattle.std.specs.Prelude.{string_bytes, Some, IfSome, ℤ, ◌≡◌, ◌≢◌, ◌⊎◌, ℕ, List, [], ◌∷◌, Option, codes}
 use Rattle.pv_edge.specs.Faults.{HasRisen}
 use Rattle.pv_edge.specs.Files.{FileMap}
 use Rattle.pv_edge.specs.Sink.{Takes, TakesPart}
@@ -15,6 +15,7 @@ use Rattle.pv_top.specs.declared.answer.Answer.{Answer}
 use Rattle.pv_top.specs.declared.answer.Answer.TheVariants.{Report, Refusal}
 use Rattle.pv_top.specs.Traces.{AreScans, trace_text}
 use Rattle.pv_top.specs.Ends.{IsEnd}
+use Rattle.pv_top.specs.Cases.{CaseData, IsCaseText}
 use Rattle.pv_top.specs.Answers.{status_of, text_of}
 
 -- the words of the command
@@ -25,19 +26,22 @@ IsReplay words = (case : List ℕ) × (trace : List ℕ) × (words ≡ codes "re
 abbrev pub Spells : List (List ℕ) → Command → Type 0
 Spells words (Replay case trace) = words ≡ codes "replay" ∷ case.now ∷ trace.now ∷ []
 
--- the end is that of the run of the block and the invariant that were read, over the scans of the trace that the name is told
--- to hold
-pub record IsReplayed (told : Option FileMap) (trace : List ℕ) (end : End) : Type 0 where
+-- the name and the end are those of the case that its file is told to hold, and of the run of the block and the invariant that were
+-- read, over the scans of the trace that its file is told to hold
+pub record IsReplayed (told : Option FileMap) (case_file trace_file name : List ℕ) (end : End) : Type 0 where
+  pub case : CaseData
+  pub case_read : IfSome told (λ files. (bytes : List ℕ) × (files case_file ≡ Some bytes) × IsCaseText bytes case)
+  pub named : name ≡ case.name
   pub block : Block
   pub invariant : Expr
   pub inputs : List (List ℤ)
   pub scans : AreScans (input_len (cells_of block)) inputs
-  pub read : IfSome told (λ files. files trace ≡ Some (trace_text inputs))
+  pub trace_read : IfSome told (λ files. files trace_file ≡ Some (trace_text inputs))
   pub ends : IsEnd block invariant (run block inputs) end
 
 -- what an answer to the words means: a report that the replay ended so
 abbrev pub Means : Option FileMap → List (List ℕ) → Answer → Type 0
-Means told words (Report report) = (case : List ℕ) × (trace : List ℕ) × (words ≡ codes "replay" ∷ case ∷ trace ∷ []) × IsReplayed told trace report.end
+Means told words (Report report) = (case : List ℕ) × (trace : List ℕ) × (words ≡ codes "replay" ∷ case ∷ trace ∷ []) × IsReplayed told case trace (string_bytes report.case) report.end
 Means told words (Refusal refusal) = Unit {0}
 
 -- a run of the program, seen from outside: its words and its status, what the files are told to hold, what the sink has taken

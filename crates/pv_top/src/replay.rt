@@ -1,5 +1,5 @@
 //! The command `replay CASE TRACE`.
-ghost use Rattle.std.specs.Prelude.{◌≡◌, ◌≤◌, Some, Ok, true, false, IfOk, IfErr, IfSome};
+ghost use Rattle.std.specs.Prelude.{string_bytes, ◌≡◌, ◌≤◌, Some, Ok, true, false, IfOk, IfErr, IfSome};
 ghost use Rattle.pv_edge.specs.Faults.{HasRisen};
 ghost use Rattle.pv_top.specs.Replays.{IsReplayed};
 ghost use Rattle.pv_top.specs.Answers.{is_words, is_unread};
@@ -20,7 +20,7 @@ pub fn replay<F: Files>(
     trace_file: &str,
 ) -> Result<Report, Stop>
     ensures files { F.told files.new ≡ F.told files.old }
-    ensures replayed { IfOk result (λ report. IsReplayed (F.told files.old) trace_file.now report.end) }
+    ensures replayed { IfOk result (λ report. IsReplayed (F.told files.old) case_file.now trace_file.now (string_bytes report.case) report.end) }
     ensures never_falls { F.read_faults files.old ≤ F.read_faults files.new }
     ensures unread { IfErr result (λ stop. is_unread stop ≡ true → HasRisen (F.read_faults files.old) (F.read_faults files.new)) }
     ensures words { IfErr result (λ stop. is_words stop ≡ false) }
