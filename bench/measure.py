@@ -36,4 +36,4 @@ def compare(name, one, two):
 def machine():
     """The machine's size."""
     memory = os.sysconf("SC_PAGE_SIZE") * os.sysconf("SC_PHYS_PAGES") / 2**30
-    print(f"{os.cpu_count()} processors, {memory:.0f} GiB", flush=True)
+    print(f"{os.cpu_count()} processors, {memory:.1f} GiB", flush=True)
