@@ -11,12 +11,10 @@ ghost use Rattle.pv_top.specs.Traces.{AreScans, trace_text};
 pub fn scans_have_one_end()
     ensures { (block : Block) (a : Expr) (scans : List Scan) (end other : End)
         → IsEnd block a scans end → IsEnd block a scans other → end ≡ other }
-{
-}
+{}
 
 /// The text of a trace tells its scans.
 pub fn traces_have_one_reading()
     ensures { (width : ℕ) (scans others : List (List ℤ)) → AreScans width scans → AreScans width others
         → trace_text scans ≡ trace_text others → scans ≡ others }
-{
-}
+{}
