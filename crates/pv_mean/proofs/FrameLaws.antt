@@ -16,29 +16,29 @@ pub length-image_of : (cells : List Cell) (frame : Frame) → length (image_of c
 length-image_of [] frame = refl
 length-image_of (c ∷ cs) frame = lead (is_input c.role) (length-image_of cs (others frame))
   where
-  lead : (b : Bool) → length (image_of cs (others frame)) ≡ length (start_image cs) → length (cond b (image_of cs (others frame)) (first frame ∷ image_of cs (others frame))) ≡ length (map (λ d. d.start) (cond (not b) (c ∷ filter (λ d. not (is_input d.role)) cs) (filter (λ d. not (is_input d.role)) cs)))
-  lead true same = same
-  lead false same = ap (λ n. suc n) same
+    lead : (b : Bool) → length (image_of cs (others frame)) ≡ length (start_image cs) → length (cond b (image_of cs (others frame)) (first frame ∷ image_of cs (others frame))) ≡ length (map (λ d. d.start) (cond (not b) (c ∷ filter (λ d. not (is_input d.role)) cs) (filter (λ d. not (is_input d.role)) cs)))
+    lead true same = same
+    lead false same = ap (λ n. suc n) same
 
 pub input_of-begin : (cells : List Cell) (image : Image) (input : Input) → length input ≡ input_len cells → input_of cells (begin cells image input) ≡ input
 input_of-begin [] image [] len = refl
 input_of-begin [] image (v ∷ vs) len = absurd (omega arith)
 input_of-begin (c ∷ cs) image input len = lead (is_input c.role) input len (λ im i. input_of-begin cs im i)
   where
-  lead : (b : Bool) (i : Input) → length i ≡ length (cond b (c ∷ filter (λ d. is_input d.role) cs) (filter (λ d. is_input d.role) cs)) → ((im : Image) (j : Input) → length j ≡ input_len cs → input_of cs (begin cs im j) ≡ j) → cond b (first (cond b (first i ∷ begin cs image (others i)) (first image ∷ begin cs (others image) i)) ∷ input_of cs (others (cond b (first i ∷ begin cs image (others i)) (first image ∷ begin cs (others image) i)))) (input_of cs (others (cond b (first i ∷ begin cs image (others i)) (first image ∷ begin cs (others image) i)))) ≡ i
-  lead true [] h same = absurd (omega arith)
-  lead true (v ∷ vs) h same = ap (λ l. v ∷ l) (same image vs (omega arith))
-  lead false i h same = same (others image) i h
+    lead : (b : Bool) (i : Input) → length i ≡ length (cond b (c ∷ filter (λ d. is_input d.role) cs) (filter (λ d. is_input d.role) cs)) → ((im : Image) (j : Input) → length j ≡ input_len cs → input_of cs (begin cs im j) ≡ j) → cond b (first (cond b (first i ∷ begin cs image (others i)) (first image ∷ begin cs (others image) i)) ∷ input_of cs (others (cond b (first i ∷ begin cs image (others i)) (first image ∷ begin cs (others image) i)))) (input_of cs (others (cond b (first i ∷ begin cs image (others i)) (first image ∷ begin cs (others image) i)))) ≡ i
+    lead true [] h same = absurd (omega arith)
+    lead true (v ∷ vs) h same = ap (λ l. v ∷ l) (same image vs (omega arith))
+    lead false i h same = same (others image) i h
 
 pub image_of-begin : (cells : List Cell) (image : Image) (input : Input) → length image ≡ image_len cells → image_of cells (begin cells image input) ≡ image
 image_of-begin [] [] input len = refl
 image_of-begin [] (v ∷ vs) input len = absurd (omega arith)
 image_of-begin (c ∷ cs) image input len = lead (is_input c.role) image len (λ im i. image_of-begin cs im i)
   where
-  lead : (b : Bool) (im : Image) → length im ≡ length (cond (not b) (c ∷ filter (λ d. not (is_input d.role)) cs) (filter (λ d. not (is_input d.role)) cs)) → ((jm : Image) (j : Input) → length jm ≡ image_len cs → image_of cs (begin cs jm j) ≡ jm) → cond b (image_of cs (others (cond b (first input ∷ begin cs im (others input)) (first im ∷ begin cs (others im) input)))) (first (cond b (first input ∷ begin cs im (others input)) (first im ∷ begin cs (others im) input)) ∷ image_of cs (others (cond b (first input ∷ begin cs im (others input)) (first im ∷ begin cs (others im) input)))) ≡ im
-  lead true im h same = same im (others input) h
-  lead false [] h same = absurd (omega arith)
-  lead false (v ∷ vs) h same = ap (λ l. v ∷ l) (same vs input (omega arith))
+    lead : (b : Bool) (im : Image) → length im ≡ length (cond (not b) (c ∷ filter (λ d. not (is_input d.role)) cs) (filter (λ d. not (is_input d.role)) cs)) → ((jm : Image) (j : Input) → length jm ≡ image_len cs → image_of cs (begin cs jm j) ≡ jm) → cond b (image_of cs (others (cond b (first input ∷ begin cs im (others input)) (first im ∷ begin cs (others im) input)))) (first (cond b (first input ∷ begin cs im (others input)) (first im ∷ begin cs (others im) input)) ∷ image_of cs (others (cond b (first input ∷ begin cs im (others input)) (first im ∷ begin cs (others im) input)))) ≡ im
+    lead true im h same = same im (others input) h
+    lead false [] h same = absurd (omega arith)
+    lead false (v ∷ vs) h same = ap (λ l. v ∷ l) (same vs input (omega arith))
 
 -- no cell has two keys
 one_key : (c : Cell) (key other : List ℕ) → has_key key c ≡ true → has_key other c ≡ true → key ≡ other
@@ -49,11 +49,11 @@ value_at-with_value_at : (cells : List Cell) (frame : Frame) (other key : List �
 value_at-with_value_at [] frame other key v apart = refl
 value_at-with_value_at (c ∷ cs) frame other key v apart = lead (has_key other c) (has_key key c) refl refl (value_at-with_value_at cs (others frame) other key v apart)
   where
-  lead : (b d : Bool) → has_key other c ≡ b → has_key key c ≡ d → value_at cs (with_value_at cs (others frame) other v) key ≡ value_at cs (others frame) key → cond d (first (cond b (v ∷ others frame) (first frame ∷ with_value_at cs (others frame) other v))) (value_at cs (others (cond b (v ∷ others frame) (first frame ∷ with_value_at cs (others frame) other v))) key) ≡ cond d (first frame) (value_at cs (others frame) key)
-  lead true true h k same = absurd (apart (one_key c other key h k))
-  lead true false h k same = refl
-  lead false true h k same = refl
-  lead false false h k same = same
+    lead : (b d : Bool) → has_key other c ≡ b → has_key key c ≡ d → value_at cs (with_value_at cs (others frame) other v) key ≡ value_at cs (others frame) key → cond d (first (cond b (v ∷ others frame) (first frame ∷ with_value_at cs (others frame) other v))) (value_at cs (others (cond b (v ∷ others frame) (first frame ∷ with_value_at cs (others frame) other v))) key) ≡ cond d (first frame) (value_at cs (others frame) key)
+    lead true true h k same = absurd (apart (one_key c other key h k))
+    lead true false h k same = refl
+    lead false true h k same = refl
+    lead false false h k same = same
 
 -- the value of the key where the statements end
 ended_at : List Cell → List ℕ → Ending → ℤ
@@ -64,8 +64,8 @@ unfolding ended_at
 untouched cells [] frame key clear = refl
 untouched cells ((Assign target place e) ∷ ss) frame key clear = lead (value cells frame e) (λ f. untouched cells ss f key clear.1)
   where
-  lead : (v : Value) → ((f : Frame) → ended_at cells key (run_list cells ss f) ≡ value_at cells f key) → ended_at cells key (go_on (store cells frame target v) (λ f. run_list cells ss f)) ≡ value_at cells frame key
-  lead (number n) same = same (with_value_at cells frame (key_of target) n) ∙ value_at-with_value_at cells frame (key_of target) key n clear.0
+    lead : (v : Value) → ((f : Frame) → ended_at cells key (run_list cells ss f) ≡ value_at cells f key) → ended_at cells key (go_on (store cells frame target v) (λ f. run_list cells ss f)) ≡ value_at cells frame key
+    lead (number n) same = same (with_value_at cells frame (key_of target) n) ∙ value_at-with_value_at cells frame (key_of target) key n clear.0
 
 pub value_at-untouched : (cells : List Cell) (ss : List Stmt) (frame ended : Frame) (key : List ℕ) → IsUntouched key ss → run_list cells ss frame ≡ normal ended → value_at cells ended key ≡ value_at cells frame key
 unfolding ended_at

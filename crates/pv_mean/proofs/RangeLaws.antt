@@ -34,17 +34,17 @@ value_at_in_bool : (cells : List Cell) (frame : Frame) (key : List ℕ) → AllI
 value_at_in_bool [] frame key all = zero_in_bool
 value_at_in_bool (c ∷ cs) frame key all = lead (has_key key c) (value_at_in_bool cs (others frame) key (others_in_bool frame all))
   where
-  lead : (b : Bool) → InRange BoolType (value_at cs (others frame) key) → InRange BoolType (cond b (first frame) (value_at cs (others frame) key))
-  lead true later = first_in_bool frame all
-  lead false later = later
+    lead : (b : Bool) → InRange BoolType (value_at cs (others frame) key) → InRange BoolType (cond b (first frame) (value_at cs (others frame) key))
+    lead true later = first_in_bool frame all
+    lead false later = later
 
 with_value_at_in_bool : (cells : List Cell) (frame : Frame) (key : List ℕ) (v : ℤ) → AllInBool frame → InRange BoolType v → AllInBool (with_value_at cells frame key v)
 with_value_at_in_bool [] frame key v all one = tt
 with_value_at_in_bool (c ∷ cs) frame key v all one = lead (has_key key c) (with_value_at_in_bool cs (others frame) key v (others_in_bool frame all) one)
   where
-  lead : (b : Bool) → AllInBool (with_value_at cs (others frame) key v) → AllInBool (cond b (v ∷ others frame) (first frame ∷ with_value_at cs (others frame) key v))
-  lead true later = (one, others_in_bool frame all)
-  lead false later = (first_in_bool frame all, later)
+    lead : (b : Bool) → AllInBool (with_value_at cs (others frame) key v) → AllInBool (cond b (v ∷ others frame) (first frame ∷ with_value_at cs (others frame) key v))
+    lead true later = (one, others_in_bool frame all)
+    lead false later = (first_in_bool frame all, later)
 
 -- a number that is a value of BOOL
 abbrev InBool : Value → Type 0
@@ -62,12 +62,12 @@ value_in_bool cells frame (Lit ty v place) lits all = lits
 value_in_bool cells frame (Read operand) lits all = value_at_in_bool cells frame (key_of operand) all
 value_in_bool cells frame (Unary' op place p arg) lits all = lead (value cells frame arg)
   where
-  lead : (v : Value) → InBool (with_number v (λ a. number (unary op a)))
-  lead (number a) = unary_in_bool op a
+    lead : (v : Value) → InBool (with_number v (λ a. number (unary op a)))
+    lead (number a) = unary_in_bool op a
 value_in_bool cells frame (Binary' op place p left q right) lits all = lead (value cells frame left) (value cells frame right)
   where
-  lead : (v w : Value) → InBool (with_number v (λ a. with_number w (λ b. number (binary op a b))))
-  lead (number a) (number b) = binary_in_bool op a b
+    lead : (v w : Value) → InBool (with_number v (λ a. with_number w (λ b. number (binary op a b))))
+    lead (number a) (number b) = binary_in_bool op a b
 value_in_bool cells frame (Paren' place p inner) lits all = value_in_bool cells frame inner lits all
 
 -- a frame of values of BOOL
@@ -78,16 +78,16 @@ run_list_in_bool : (cells : List Cell) (ss : List Stmt) (frame : Frame) → AllB
 run_list_in_bool cells [] frame lits all = all
 run_list_in_bool cells ((Assign target place e) ∷ ss) frame lits all = lead (value cells frame e) (value_in_bool cells frame e lits.0 all) (λ f ok. run_list_in_bool cells ss f lits.1 ok)
   where
-  lead : (v : Value) → InBool v → ((f : Frame) → AllInBool f → EndsInBool (run_list cells ss f)) → EndsInBool (go_on (store cells frame target v) (λ f. run_list cells ss f))
-  lead (number n) one later = later (with_value_at cells frame (key_of target) n) (with_value_at_in_bool cells frame (key_of target) n all one)
+    lead : (v : Value) → InBool v → ((f : Frame) → AllInBool f → EndsInBool (run_list cells ss f)) → EndsInBool (go_on (store cells frame target v) (λ f. run_list cells ss f))
+    lead (number n) one later = later (with_value_at cells frame (key_of target) n) (with_value_at_in_bool cells frame (key_of target) n all one)
 
 begin_in_bool : (cells : List Cell) (image : Image) (input : Input) → AllInBool image → AllInBool input → AllInBool (begin cells image input)
 begin_in_bool [] image input im_ok in_ok = tt
 begin_in_bool (c ∷ cs) image input im_ok in_ok = lead (is_input c.role) (begin_in_bool cs image (others input) im_ok (others_in_bool input in_ok)) (begin_in_bool cs (others image) input (others_in_bool image im_ok) in_ok)
   where
-  lead : (b : Bool) → AllInBool (begin cs image (others input)) → AllInBool (begin cs (others image) input) → AllInBool (cond b (first input ∷ begin cs image (others input)) (first image ∷ begin cs (others image) input))
-  lead true h k = (first_in_bool input in_ok, h)
-  lead false h k = (first_in_bool image im_ok, k)
+    lead : (b : Bool) → AllInBool (begin cs image (others input)) → AllInBool (begin cs (others image) input) → AllInBool (cond b (first input ∷ begin cs image (others input)) (first image ∷ begin cs (others image) input))
+    lead true h k = (first_in_bool input in_ok, h)
+    lead false h k = (first_in_bool image im_ok, k)
 
 pub scan_in_bool : (cells : List Cell) (ss : List Stmt) (image : Image) (input : Input) (frame : Frame) → AllByRecursion HasBoolLiterals ss → AllInBool image → AllInBool input → run_list cells ss (begin cells image input) ≡ normal frame → AllInBool frame
 scan_in_bool cells ss image input frame lits im_ok in_ok e = let P : Ending → Type 0 = λ x. EndsInBool x in subst P e (run_list_in_bool cells ss (begin cells image input) lits (begin_in_bool cells image input im_ok in_ok))

@@ -10,5 +10,5 @@ pub run_from-append : (block : Block) (image : Image) (inputs more : List Input)
 run_from-append block image [] more = refl
 run_from-append block image (i ∷ inputs) more = ap (λ l. scan block image i ∷ l) (lead (scan block image i).ending (λ next. run_from-append block next inputs more))
   where
-  lead : (e : Ending) → ((next : Image) → run_from block next (inputs ++ more) ≡ run_from block next inputs ++ run_from block (end_image block next inputs) more) → after block e (λ next. run_from block next (inputs ++ more)) ≡ after block e (λ next. run_from block next inputs) ++ run_from block (end_image block (image_after block image e) inputs) more
-  lead (normal frame) same = same _
+    lead : (e : Ending) → ((next : Image) → run_from block next (inputs ++ more) ≡ run_from block next inputs ++ run_from block (end_image block next inputs) more) → after block e (λ next. run_from block next (inputs ++ more)) ≡ after block e (λ next. run_from block next inputs) ++ run_from block (end_image block (image_after block image e) inputs) more
+    lead (normal frame) same = same _

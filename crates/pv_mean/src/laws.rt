@@ -18,30 +18,26 @@ ghost use Rattle.pv_mean.specs.Runs.{run_from, end_image};
 pub fn runs_follow()
     ensures { (block : Block) (image : Image) (inputs more : List Input)
         → run_from block image (inputs ++ more) ≡ run_from block image inputs ++ run_from block (end_image block image inputs) more }
-{
-}
+{}
 
 /// The image that a frame leaves is as long as the start image.
 pub fn images_keep_their_length()
     ensures { (block : Block) (frame : Frame) → length (next_image block frame) ≡ length (start_image (cells_of block)) }
-{
-}
+{}
 
 /// A scan from values of BOOL ends in values of BOOL.
 pub fn scans_keep_the_range()
     ensures { (block : Block) (image : Image) (input : Input) (frame : Frame)
         → AllByRecursion HasBoolLiterals (statements_of block.body) → AllInBool image → AllInBool input
         → (scan block image input).ending ≡ normal frame → AllInBool frame }
-{
-}
+{}
 
 /// A cell that no assignment targets keeps its value over the statements.
 pub fn untouched_cells_keep_their_value()
     ensures { (cells : List Cell) (block : Block) (frame ended : Frame) (key : List ℕ)
         → IsUntouched key (statements_of block.body) → run_list cells (statements_of block.body) frame ≡ normal ended
         → value_at cells ended key ≡ value_at cells frame key }
-{
-}
+{}
 
 /// At a scan's beginning the input cells have the input's values, and the kept cells those of the image.
 pub fn scans_begin_with_image_and_input()
@@ -49,5 +45,4 @@ pub fn scans_begin_with_image_and_input()
         → length input ≡ input_len cells → input_of cells (begin cells image input) ≡ input }
     ensures image { (cells : List Cell) (image : Image) (input : Input)
         → length image ≡ image_len cells → image_of cells (begin cells image input) ≡ image }
-{
-}
+{}
