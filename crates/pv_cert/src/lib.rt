@@ -8,16 +8,16 @@ mod fault;
 mod laws;
 mod parts;
 mod proof;
-mod read;
+mod reader;
 mod stage;
-mod write;
+mod writer;
 
 pub use certificate::{Certificate, Claim, Proofs};
 pub use fault::CertFault;
 pub use laws::text_determines_certificate;
 pub use proof::{Chain, Proof, Query};
-pub use read::read;
-pub use write::write;
+pub use reader::read;
+pub use writer::write;
 
 #[cfg(test)]
 mod tests;

@@ -1,4 +1,4 @@
-ghost use Rattle.std.specs.Prelude.{◌≡◌, ◌×◌, ℕ, ◌-◌, ◌^◌, ◌<◌, ◌≤◌, [], length, Ok, Err, Some, None, IfOk, IfSome, IfNone, MatchOption};
+ghost use Rattle.std.specs.Prelude.{◌≡◌, ℕ, ◌-◌, ◌^◌, ◌<◌, ◌≤◌, [], length, Ok, Err, Some, None, IfOk, IfSome, IfNone, MatchOption};
 ghost use Rattle.pv_cert.specs.declared.certificate.Certificate.{Certificate};
 ghost use Rattle.pv_cert.specs.declared.stage.Stage.{Stage};
 ghost use Rattle.pv_cert.specs.declared.stage.Draft.{Draft};
