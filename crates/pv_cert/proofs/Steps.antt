@@ -111,8 +111,10 @@ leads d Verdict text t g h = subst (Leads (codes "PLCVCERT 1" ∷ []) text) (sym
 leads d Ready text t g (inl h) = subst (Leads (ready_lines d) text) (sym h.1) (record { proofs = g.proofs; fits = g.fits }, ap (λ (l : List ℕ). ready_lines d ++ l ∷ []) (sym h.0))
 leads d Ready text t g (inr h) = subst (Leads (ready_lines d) text) (sym h.3) (record { proofs = g.proofs; fits = (h.1, g.fits) }, ap (λ (l : List ℕ). ready_lines d ++ l ∷ []) (sym h.2))
 leads d (Reduced query) text t g h =
-    subst (Leads (lines_so_far d (Reduced query)) text) (sym h.1) (record { proofs = g.proofs; fits = g.fits },
-    ap (λ (l : List ℕ). ready_lines d ++ query_line query ∷ l ∷ []) (sym h.0) ∙ sym (append_assoc (ready_lines d) (query_line query ∷ []) (text ∷ [])))
+    subst (Leads (lines_so_far d (Reduced query)) text) (sym h.1) (
+      record { proofs = g.proofs; fits = g.fits },
+      ap (λ (l : List ℕ). ready_lines d ++ query_line query ∷ l ∷ []) (sym h.0) ∙ sym (append_assoc (ready_lines d) (query_line query ∷ []) (text ∷ [])),
+    )
 leads d (Counted query) text t g h = subst (Leads (lines_so_far d (Counted query)) text) (sym h.3) (count-leads d query h.0 text g h.1 h.2)
 leads d (Lines query left) text t g h = subst (Leads (lines_so_far d (Lines query left)) text) (sym h.2) (line-leads d query left h.0 text g h.1)
 leads d Whole text t g h = absurd h

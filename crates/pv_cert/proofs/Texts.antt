@@ -105,7 +105,7 @@ tail x y xs ys e = ap (drop 1) e
 head : (x y : ℕ) (xs ys : List ℕ) → x ∷ xs ≡ y ∷ ys → x ≡ y
 head x y xs ys e = ap (λ zs. get_or zs 0 0) e
 
-cut-one : (xs ys us vs : List ℕ) → NoFeed xs → NoFeed ys → xs ++ 10 ∷ us ≡ ys ++ 10 ∷ vs → (xs ≡ ys) × (us ≡ vs)
+pub cut-one : (xs ys us vs : List ℕ) → NoFeed xs → NoFeed ys → xs ++ 10 ∷ us ≡ ys ++ 10 ∷ vs → (xs ≡ ys) × (us ≡ vs)
 cut-one [] [] us vs a b e = (refl, tail 10 10 us vs e)
 cut-one [] (y ∷ ys) us vs a b e = absurd (b.0 (sym (head 10 y us (ys ++ 10 ∷ vs) e)))
 cut-one (x ∷ xs) [] us vs a b e = absurd (a.0 (head x 10 (xs ++ 10 ∷ us) vs e))
@@ -117,7 +117,7 @@ cut-one (x ∷ xs) (y ∷ ys) us vs a b e =
 pub onto : (line text rest : List ℕ) → ((line ++ 10 ∷ []) ++ text) ++ rest ≡ line ++ 10 ∷ (text ++ rest)
 onto line text rest = append_assoc (line ++ 10 ∷ []) text rest ∙ append_assoc line (10 ∷ []) (text ++ rest)
 
-not-empty : (line rest : List ℕ) → line ++ 10 ∷ rest ≡ [] → ⊥
+pub not-empty : (line rest : List ℕ) → line ++ 10 ∷ rest ≡ [] → ⊥
 not-empty [] rest e = cc
 not-empty (x ∷ xs) rest e = cc
 

@@ -1,5 +1,5 @@
 -- What reading gives, as the text of certificates says it.
-use Rattle.std.proofs.Common.{◌≡◌, ℕ, ◌+◌, ◌<◌, ◌≤◌, List, [], ◌∷◌, ◌++◌, length, append_assoc, append-nil, length-append, refl, ap, subst, ◌∙◌, sym, arith, inl, inr, Result, Ok, Err}
+use Rattle.std.proofs.Common.{◌≡◌, ℕ, ◌+◌, ◌-◌, ◌<◌, ◌≤◌, List, [], ◌∷◌, ◌++◌, length, map, append_assoc, append-nil, length-append, refl, ap, subst, ◌∙◌, sym, arith, inl, inr, Result, Ok, Err, Option, Some, None, MatchOption}
 use Rattle.std.specs.Prelude.{codes, IfOk}
 use Rattle.std.specs.List.{flat_map, AllByRecursion}
 use Rattle.std.proofs.lemmas.Bool.{cases_order}
@@ -16,9 +16,9 @@ use Rattle.pv_cert.specs.declared.stage.Stage.{Stage}
 use Rattle.pv_cert.specs.declared.stage.Stage.TheVariants.{Version, Verdict, Ready, Reduced, Counted, Lines, Whole}
 use Rattle.pv_cert.specs.declared.stage.Draft.{Draft}
 use Rattle.pv_cert.specs.CertificateText.{text_of_lines, query_line, log_line, proof_lines, head_lines, certificate_lines, certificate_text, no_reduction, QueryFits, HasProofText, HasCertificateText, IsTextOf, BeginsOne, NoFeed, FailsAt, IsUnlessNoMemory}
-use Rattle.pv_cert.specs.Reading.{proof_of, settled, with_line, Takes, TakesAll, blank, Reached, StopsAt, ReadsAll, Reads}
-use Rattle.pv_cert.proofs.Texts.{all-append, all-behind, feedless, onto, IsCut, cut-short, cut-lines, text-append, text-push, no-lines}
-use Rattle.pv_cert.proofs.Steps.{lines_so_far, IsGood, start-good, lead-all, Goes, goes, same-all, take-both, Parts, take-parts}
+use Rattle.pv_cert.specs.Reading.{proof_of, settled, with_line, Takes, TakesAll, blank, HasRoom, Reached, StopsAt, ReadsAll, Reads}
+use Rattle.pv_cert.proofs.Texts.{all-append, all-behind, feedless, onto, cut-one, not-empty, IsCut, cut-short, cut-lines, text-append, text-push, no-lines}
+use Rattle.pv_cert.proofs.Steps.{lines_so_far, IsGood, start-good, lead-all, Goes, goes, same-all, take-both, take-one, Parts, take-parts}
 
 -- ---- the lines of a certificate are taken one after the other
 
@@ -29,29 +29,33 @@ log-taken [] d query h = ap (λ (ls : List Line). settled (record d { log = ls }
 log-taken (line ∷ lines) d query h =
     let back : length (line ∷ lines) - 1 ≡ length lines = omega arith in
     let rest = log-taken lines (with_line d line) query h.1 in
-    let joined : (d.log ++ line ∷ []) ++ lines ≡ d.log ++ line ∷ lines = append_assoc d.log (line ∷ []) lines in
-    (settled (with_line d line) query (length lines),
+    let joined : (d.log ++ line ∷ []) ++ lines ≡ d.log ++ line ∷ lines = append_assoc d.log (line ∷ []) lines in (
+      settled (with_line d line) query (length lines),
       (line, record { valid = h.0; text = refl }, ap (λ (n : ℕ). settled (with_line d line) query n) (sym back)),
-      subst (λ (ls : List Line). TakesAll (settled (with_line d line) query (length lines)).0 (settled (with_line d line) query (length lines)).1 (map line_text lines) (settled (record d { log = ls }) query 0)) joined rest)
+      subst (λ (ls : List Line). TakesAll (settled (with_line d line) query (length lines)).0 (settled (with_line d line) query (length lines)).1 (map line_text lines) (settled (record d { log = ls }) query 0)) joined rest,
+    )
 
-after : List Proof → Draft
+abbrev after : List Proof → Draft
 after ps = record { proofs = ps; log = [] }
 
 whole-proof : (p : Proof) → HasProofText p → proof_of p.query p.log ≡ p
 whole-proof p h = ap (λ ch. record p { chain = ch }) (sym h.chain)
 
 proof-taken : (p : Proof) (ps : List Proof) → HasProofText p → TakesAll (after ps) Ready (proof_lines p) (after (ps ++ p ∷ []), Ready)
-unfolding after
 proof-taken p ps h =
     let log = log-taken p.log (after ps) p.query h.lines in
     let end : TakesAll (settled (after ps) p.query (length p.log)).0 (settled (after ps) p.query (length p.log)).1 (map line_text p.log) (after (ps ++ p ∷ []), Ready) =
-      subst (λ (q : Proof). TakesAll (settled (after ps) p.query (length p.log)).0 (settled (after ps) p.query (length p.log)).1 (map line_text p.log) (after (ps ++ q ∷ []), Ready)) (whole-proof p h) log in
-    ((after ps, Reduced p.query), inr (p.query, h.query, refl, refl),
-      ((after ps, Counted p.query), (refl, refl),
-        (settled (after ps) p.query (length p.log), (length p.log, h.few, refl, refl), end)))
+    subst (λ (q : Proof). TakesAll (settled (after ps) p.query (length p.log)).0 (settled (after ps) p.query (length p.log)).1 (map line_text p.log) (after (ps ++ q ∷ []), Ready)) (whole-proof p h) log in (
+      (after ps, Reduced p.query),
+      inr (p.query, h.query, refl, refl),
+      (
+        (after ps, Counted p.query),
+        (refl, refl),
+        (settled (after ps) p.query (length p.log), (length p.log, h.few, refl, refl), end),
+      ),
+    )
 
 proofs-taken : (qs ps : List Proof) → AllByRecursion HasProofText qs → TakesAll (after ps) Ready (flat_map proof_lines qs) (after (ps ++ qs), Ready)
-unfolding after
 proofs-taken [] ps h = ap (λ (l : List Proof). (after l, Ready)) (sym (append-nil ps))
 proofs-taken (q ∷ qs) ps h =
     let rest = proofs-taken qs (ps ++ q ∷ []) h.1 in
@@ -61,18 +65,19 @@ proofs-taken (q ∷ qs) ps h =
     (subst (λ (l : List Proof). TakesAll (after (ps ++ q ∷ [])) Ready (flat_map proof_lines qs) (after l, Ready)) joined rest)
 
 certificate-taken : (c : Certificate) → HasCertificateText c → TakesAll blank Version (certificate_lines c) (after c.proofs, Whole)
-unfolding after
-certificate-taken c h =
-    ((blank, Verdict), (refl, refl), ((blank, Ready), (refl, refl),
-      take-both (flat_map proof_lines c.proofs) (codes "end" ∷ []) blank Ready (after c.proofs, Ready) (after c.proofs, Whole)
-      (proofs-taken c.proofs [] h.proofs)
-      ((after c.proofs, Whole), inl (refl, refl), refl)))
+certificate-taken c h = (
+  (blank, Verdict),
+  (refl, refl),
+  (
+    (blank, Ready),
+    (refl, refl),
+    take-both (flat_map proof_lines c.proofs) (codes "end" ∷ []) blank Ready (after c.proofs, Ready) (after c.proofs, Whole)
+        (proofs-taken c.proofs [] h.proofs)
+        ((after c.proofs, Whole), inl (refl, refl), refl),
+  ),
+)
 
 -- ---- what was read
-
-module _ (bytes rest : List ℕ) (line : ℕ) (d : Draft) (stage : Stage) (r : Reached bytes rest line d stage) where
-  read-good : IsGood d stage × (lines_so_far d stage ≡ r.before)
-  read-good = lead-all r.before blank Version (d, stage) start-good r.taken
 
 -- what was read whole is a certificate
 read-is_text : (bytes rest : List ℕ) (line : ℕ) (d : Draft) (c : Certificate) → Reached bytes [] line d Whole → c.claim ≡ Satisfied 0 → c.proofs ≡ d.proofs → IsTextOf bytes c
@@ -165,7 +170,6 @@ one-certificate bytes c other s t =
     ap (λ (k : Claim). record c { claim = k }) claim ∙ ap (λ (l : List Proof). record other { proofs = l }) proofs
   where
     same-proofs : (ps qs : List Proof) → ◌≡◌ {A = Draft × Stage} (after ps, Whole) (after qs, Whole) → ps ≡ qs
-    unfolding after
     same-proofs ps qs e = ap (λ (u : Draft × Stage). u.0.proofs) e
 
 begins-less : (front more : List ℕ) → BeginsOne (front ++ more) → BeginsOne front
@@ -187,7 +191,7 @@ earlier bytes m n s t (next ∷ more) e r lt =
     let plain = all-behind NoFeed s.before (next ∷ more) all in
     let lines : t.before ≡ (s.before ++ next ∷ []) ++ more = e ∙ sym (append_assoc s.before (next ∷ []) more) in
     let front : text_of_lines t.before ≡ (text_of_lines s.before ++ (next ++ 10 ∷ [])) ++ text_of_lines more =
-      ap text_of_lines lines ∙ text-append (s.before ++ next ∷ []) more ∙ ap (λ (x : List ℕ). x ++ text_of_lines more) (text-push s.before next) in
+    ap text_of_lines lines ∙ text-append (s.before ++ next ∷ []) more ∙ ap (λ (x : List ℕ). x ++ text_of_lines more) (text-push s.before next) in
     s.stuck next (text_of_lines more ++ t.rest) plain.0 (r ∙ onto next (text_of_lines more) t.rest)
     (begins-less (text_of_lines s.before ++ (next ++ 10 ∷ [])) (text_of_lines more) (subst BeginsOne front t.begins))
 
@@ -226,3 +230,63 @@ pub reads-refused : (bytes : List ℕ) (r : Result Certificate CertFault) → Re
 reads-refused bytes (Ok c) h line s = absurd (s.none c (read-whole bytes c h))
 reads-refused bytes (Err (NotACertificate m)) h line s = inl (ap (λ (k : ℕ). Err (NotACertificate k)) (fails-once bytes m line (stops-fails bytes m h) s))
 reads-refused bytes (Err NoMemory) h line s = inr refl
+
+-- ---- the steps of reading
+
+-- what was read leaves room for what is to come
+room : (d : Draft) (stage : Stage) → IsGood d stage → HasRoom d stage
+room d Version g = tt
+room d Verdict g = tt
+room d Ready g = tt
+room d (Reduced query) g = tt
+room d (Counted query) g = tt
+room d (Lines query left) g = (g.fits.2, g.fits.3)
+room d Whole g = tt
+
+pub reached-room : (bytes rest : List ℕ) (line : ℕ) (d : Draft) (stage : Stage) → Reached bytes rest line d stage → HasRoom d stage
+reached-room bytes rest line d stage r = room d stage (lead-all r.before blank Version (d, stage) start-good r.taken).0
+
+pub reached-more : (bytes rest : List ℕ) (line : ℕ) (d : Draft) (stage : Stage) (next after : List ℕ) (t : Draft × Stage) → Reached bytes rest line d stage → NoFeed next → rest ≡ next ++ 10 ∷ after → Takes d stage next t → Reached bytes after (line + 1) t.0 t.1
+reached-more bytes rest line d stage next after t r plain e h =
+    let before = text_of_lines r.before in
+    let size = length-append r.before (next ∷ []) in
+    let a = r.number in
+    record {
+      before = r.before ++ next ∷ [];
+      split = r.split ∙ ap (λ (x : List ℕ). before ++ x) (e ∙ sym (append_assoc next (10 ∷ []) after)) ∙ sym (append_assoc before (next ++ 10 ∷ []) after) ∙ ap (λ (x : List ℕ). x ++ after) (sym (text-push r.before next));
+      whole = all-append NoFeed r.before (next ∷ []) r.whole (plain, tt);
+      number = omega arith;
+      taken = take-one r.before next blank Version (d, stage) t r.taken h;
+    }
+
+pub stops-within : (bytes rest : List ℕ) (line : ℕ) (d : Draft) (stage : Stage) (next after : List ℕ) → Reached bytes rest line d stage → NoFeed next → rest ≡ next ++ 10 ∷ after → ((t : Draft × Stage) → Takes d stage next t → ⊥) → StopsAt bytes line
+stops-within bytes rest line d stage next behind r plain e never = record {
+  rest = rest;
+  draft = d;
+  stage = stage;
+  reached = r;
+  stuck = λ other more clean f t h. (let same = cut-one other next more behind clean plain (sym f ∙ e) in never t (subst (λ (x : List ℕ). Takes d stage x t) same.0 h));
+  unfinished = λ f g. not-empty next behind (sym e ∙ f);
+}
+
+no-feed : (rest next after : List ℕ) → NoFeed rest → rest ≡ next ++ 10 ∷ after → ⊥
+no-feed rest next after plain e = (all-behind (λ byte. byte ≡ 10 → ⊥) next (10 ∷ after) (subst NoFeed e plain)).0 refl
+
+pub stops-end : (bytes rest : List ℕ) (line : ℕ) (d : Draft) (stage : Stage) → Reached bytes rest line d stage → NoFeed rest → (rest ≡ [] → stage ≡ Whole → ⊥) → StopsAt bytes line
+stops-end bytes rest line d stage r plain never = record {
+  rest = rest;
+  draft = d;
+  stage = stage;
+  reached = r;
+  stuck = λ next after clean e t h. no-feed rest next after plain e;
+  unfinished = never;
+}
+
+-- an option that is known
+pub at-none : {X : Type 0} (A : Type 0) (B : X → Type 0) (o : Option X) → o ≡ None → MatchOption o A B → A
+at-none A B None e h = h
+at-none A B (Some x) e h = absurd cc
+
+pub at-some : {X : Type 0} (A : Type 0) (B : X → Type 0) (o : Option X) (x : X) → o ≡ Some x → MatchOption o A B → B x
+at-some A B None x e h = absurd cc
+at-some A B (Some y) x e h = (let same : y ≡ x = cc in subst B same h)

@@ -42,7 +42,6 @@ Takes draft Whole text t = ⊥
 -- so many lines may still be added
 abbrev pub HasRoom : Draft → Stage → Type 0
 HasRoom draft (Lines query left) = (1 ≤ left) × (length draft.log + left < 2 ^ 32)
-HasRoom draft (Counted query) = draft.log ≡ []
 HasRoom draft _ = Unit {0}
 
 -- these lines are taken one after the other

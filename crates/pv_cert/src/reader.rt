@@ -1,4 +1,4 @@
-ghost use Rattle.std.specs.Prelude.{◌≡◌, ℕ, ◌-◌, ◌^◌, ◌<◌, ◌≤◌, [], length, Ok, Err, Some, None, IfOk, IfSome, IfNone, MatchOption};
+ghost use Rattle.std.specs.Prelude.{◌≡◌, ℕ, ◌-◌, ◌^◌, ◌<◌, ◌≤◌, [], length, Ok, Err, Some, None, IfOk, IfSome, IfNone, MatchOption, IsTrue, ◌↔◌};
 ghost use Rattle.pv_cert.specs.declared.certificate.Certificate.{Certificate};
 ghost use Rattle.pv_cert.specs.declared.stage.Stage.{Stage};
 ghost use Rattle.pv_cert.specs.declared.stage.Draft.{Draft};
@@ -138,6 +138,16 @@ fn take_line(
     }
 }
 
+/// Whether the end was read and nothing is left.
+fn is_done(stage: Stage, rest: &[u8]) -> bool
+    ensures { IsTrue result ↔ ((rest.now ≡ []) × (stage ≡ Stage.Whole)) }
+{
+    match stage {
+        Stage::Whole => rest.is_empty(),
+        _ => false,
+    }
+}
+
 /// Reads all the lines.
 fn read_lines(alloc: Global, bytes: &[u8]) -> Result<Certificate, CertFault>
     ensures { Reads bytes.now result }
@@ -157,7 +167,7 @@ fn read_lines(alloc: Global, bytes: &[u8]) -> Result<Certificate, CertFault>
         rest = after;
         line += 1;
     }
-    if !rest.is_empty() || stage != Stage::Whole {
+    if !is_done(stage, rest) {
         return Err(CertFault::NotACertificate { line });
     }
     Ok(Certificate {
