@@ -1,5 +1,5 @@
 -- Reading a certificate line by line: what was read, how it goes on, and that it goes on in one way.
-use Rattle.std.proofs.Common.{◌≡◌, ℕ, zero, suc, ◌+◌, ◌-◌, ◌^◌, ◌<◌, ◌≤◌, Bool, true, false, eqb, List, [], ◌∷◌, ◌++◌, length, get_or, drop, map, append_assoc, append-nil, length-append, refl, ap, subst, ◌∙◌, sym, arith, inl, inr, ◌==◌}
+use Rattle.std.proofs.Common.{◌≡◌, ℕ, zero, suc, ◌+◌, ◌-◌, ◌^◌, ◌<◌, ◌≤◌, true, false, List, [], ◌∷◌, ◌++◌, length, get_or, drop, map, append_assoc, append-nil, length-append, refl, ap, subst, ◌∙◌, sym, arith, inl, inr, ◌==◌}
 use Rattle.std.specs.Prelude.{codes}
 use Rattle.std.specs.List.{flat_map, AllByRecursion}
 use Rattle.std.specs.Fmt.{decimal}
@@ -12,11 +12,10 @@ use Rattle.pv_log.specs.LineText.{line_text, HasText, Spells}
 use Rattle.pv_log.proofs.Spelled.{one-line}
 use Rattle.pv_cert.specs.declared.proof.Query.{Query}
 use Rattle.pv_cert.specs.declared.proof.Query.TheVariants.{Base, Step}
-use Rattle.pv_cert.specs.declared.proof.Proof.{Proof}
 use Rattle.pv_cert.specs.declared.stage.Stage.{Stage}
 use Rattle.pv_cert.specs.declared.stage.Stage.TheVariants.{Version, Verdict, Ready, Reduced, Counted, Lines, Whole}
 use Rattle.pv_cert.specs.declared.stage.Draft.{Draft}
-use Rattle.pv_cert.specs.CertificateText.{query_line, log_line, proof_lines, head_lines, no_reduction, QueryFits, HasProofText}
+use Rattle.pv_cert.specs.CertificateText.{query_line, log_line, proof_lines, head_lines, QueryFits, HasProofText}
 use Rattle.pv_cert.specs.Reading.{proof_of, settled, with_line, Takes, TakesAll, blank}
 use Rattle.pv_cert.proofs.Texts.{all-append}
 

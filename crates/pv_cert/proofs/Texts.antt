@@ -14,7 +14,7 @@ use Rattle.pv_cert.specs.declared.proof.Query.{Query}
 use Rattle.pv_cert.specs.declared.proof.Query.TheVariants.{Base, Step}
 use Rattle.pv_cert.specs.declared.proof.Proof.{Proof}
 use Rattle.pv_cert.specs.declared.certificate.Certificate.{Certificate}
-use Rattle.pv_cert.specs.CertificateText.{text_of_lines, query_line, log_line, proof_lines, head_lines, certificate_lines, QueryFits, HasProofText, HasCertificateText, NoFeed}
+use Rattle.pv_cert.specs.CertificateText.{text_of_lines, query_line, proof_lines, certificate_lines, QueryFits, HasProofText, HasCertificateText, NoFeed}
 
 -- ---- what a prefix that was sought says, by the outcome
 

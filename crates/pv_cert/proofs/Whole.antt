@@ -1,10 +1,10 @@
 -- What reading gives, as the text of certificates says it.
-use Rattle.std.proofs.Common.{◌≡◌, ℕ, ◌+◌, ◌-◌, ◌<◌, ◌≤◌, List, [], ◌∷◌, ◌++◌, length, map, append_assoc, append-nil, length-append, refl, ap, subst, ◌∙◌, sym, arith, inl, inr, Result, Ok, Err, Option, Some, None, MatchOption}
+use Rattle.std.proofs.Common.{◌≡◌, ℕ, ◌+◌, ◌-◌, ◌<◌, List, [], ◌∷◌, ◌++◌, length, map, append_assoc, append-nil, length-append, refl, ap, subst, ◌∙◌, sym, arith, inl, inr, Result, Ok, Err, Option, Some, None, MatchOption}
 use Rattle.std.specs.Prelude.{codes, IfOk}
 use Rattle.std.specs.List.{flat_map, AllByRecursion}
 use Rattle.std.proofs.lemmas.Bool.{cases_order}
 use Rattle.pv_log.specs.declared.line.Line.{Line}
-use Rattle.pv_log.specs.LineText.{line_text, HasText, Spells}
+use Rattle.pv_log.specs.LineText.{line_text, HasText}
 use Rattle.pv_cert.specs.declared.proof.Query.{Query}
 use Rattle.pv_cert.specs.declared.proof.Proof.{Proof}
 use Rattle.pv_cert.specs.declared.certificate.Claim.{Claim}
@@ -15,10 +15,10 @@ use Rattle.pv_cert.specs.declared.fault.CertFault.TheVariants.{NotACertificate, 
 use Rattle.pv_cert.specs.declared.stage.Stage.{Stage}
 use Rattle.pv_cert.specs.declared.stage.Stage.TheVariants.{Version, Verdict, Ready, Reduced, Counted, Lines, Whole}
 use Rattle.pv_cert.specs.declared.stage.Draft.{Draft}
-use Rattle.pv_cert.specs.CertificateText.{text_of_lines, query_line, log_line, proof_lines, head_lines, certificate_lines, certificate_text, no_reduction, QueryFits, HasProofText, HasCertificateText, IsTextOf, BeginsOne, NoFeed, FailsAt, IsUnlessNoMemory}
+use Rattle.pv_cert.specs.CertificateText.{text_of_lines, proof_lines, head_lines, certificate_lines, certificate_text, HasProofText, HasCertificateText, IsTextOf, BeginsOne, NoFeed, FailsAt, IsUnlessNoMemory}
 use Rattle.pv_cert.specs.Reading.{proof_of, settled, with_line, Takes, TakesAll, blank, HasRoom, Reached, StopsAt, ReadsAll, Reads}
 use Rattle.pv_cert.proofs.Texts.{all-append, all-behind, feedless, onto, cut-one, not-empty, IsCut, cut-short, cut-lines, text-append, text-push, no-lines}
-use Rattle.pv_cert.proofs.Steps.{lines_so_far, IsGood, start-good, lead-all, Goes, goes, same-all, take-both, take-one, Parts, take-parts}
+use Rattle.pv_cert.proofs.Steps.{IsGood, start-good, lead-all, goes, same-all, take-both, take-one, take-parts}
 
 -- ---- the lines of a certificate are taken one after the other
 

@@ -8,7 +8,6 @@ use Rattle.pv_cert.specs.declared.proof.Query.{Query}
 use Rattle.pv_cert.specs.declared.proof.Query.TheVariants.{Base, Step}
 use Rattle.pv_cert.specs.declared.proof.Chain.{Chain}
 use Rattle.pv_cert.specs.declared.proof.Proof.{Proof}
-use Rattle.pv_cert.specs.declared.certificate.Claim.{Claim}
 use Rattle.pv_cert.specs.declared.certificate.Claim.TheVariants.{Satisfied}
 use Rattle.pv_cert.specs.declared.certificate.Certificate.{Certificate}
 use Rattle.pv_cert.specs.declared.fault.CertFault.{CertFault}

@@ -1,4 +1,4 @@
-use Rattle.std.proofs.Common.{◌≡◌, arith, ap, length, length-append, ◌∷◌, ◌+◌}
+use Rattle.std.proofs.Common.{arith, ap, length, length-append, ◌∷◌, ◌+◌}
 use Rattle.std.proofs.lemmas.Bool.{both_ways}
 use Rattle.pv_cert.proofs.Whole.{reached-room, reached-more, stops-within, stops-end, at-none, at-some}
 use Rattle.pv_cert.proofs.reader.read_lines.Goals as goal

@@ -1,4 +1,4 @@
-use Rattle.std.proofs.Common.{◌≡◌, ◌+◌, ◌≤◌, ◌^◌, ◌<◌, length}
+use Rattle.std.proofs.Common.{◌+◌, ◌≤◌, length}
 use Rattle.pv_cert.specs.Reading.{Reached, HasRoom}
 use Rattle.pv_cert.proofs.reader.read_lines.Given as goal
 
