@@ -1,11 +1,11 @@
 use pv_log::{Log, Numbers};
 
-/// What a proof refutes, for a number of scans from 0 on.
+/// What a proof refutes (k-induction after Sheeran, Singh and Stålmarck).
 #[derive(Clone, Copy, Debug, PartialEq, Eq)]
 pub enum Query {
-    /// A run from the start fails first in this scan.
+    /// A run from the start fails first at this scan, from 1.
     Base(u32),
-    /// Behind this many scans that don't fail, begun in any state, comes one that fails.
+    /// From some state so many scans don't fail, and the next one does.
     Step(u32),
 }
 

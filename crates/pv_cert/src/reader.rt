@@ -182,7 +182,7 @@ pub fn read(alloc: Global, bytes: &[u8]) -> Result<Certificate, CertFault>
     // What is read has this text, and what has this text is read.
     ensures found { IfOk result (IsTextOf bytes.now) }
     ensures complete { (c : Certificate) → IsTextOf bytes.now c → IsUnlessNoMemory result (Ok c) }
-    // A refusal names the first line with which no certificate begins so, and there is one at each such text.
+    // A refusal names the first line with which no certificate begins so, and where there is one it is refused.
     ensures stuck { (line : ℕ) → result ≡ Err (CertFault.NotACertificate line) → FailsAt bytes.now line }
     ensures refused { (line : ℕ) → FailsAt bytes.now line → IsUnlessNoMemory result (Err (CertFault.NotACertificate line)) }
 {
