@@ -1,0 +1,5 @@
+pub mod Texts
+pub mod Parsing
+pub mod Steps
+pub mod Whole
+pub mod Writable

@@ -1,0 +1,8 @@
+use Rattle.std.proofs.Common.{◌≡◌, ◌++◌, take}
+use Rattle.std.specs.List.{flat_map}
+use Rattle.pv_cert.specs.CertificateText.{text_of_lines, proof_lines}
+use Rattle.pv_cert.proofs.writer.push_proofs.Given as goal
+
+-- the proofs so far are written
+abbrev pub invariant-loop-proof : goal.invariant-loop-proof
+invariant-loop-proof l = l.text.items ≡ l.initial.text.items ++ text_of_lines (flat_map proof_lines (take l.proof-index l.proofs))

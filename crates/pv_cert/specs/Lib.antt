@@ -1,0 +1,2 @@
+pub mod CertificateText
+pub mod Reading

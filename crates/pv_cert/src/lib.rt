@@ -1,0 +1,23 @@
+//! Certificates: a verdict with the proofs that show it, and their text.
+//!
+//! The text of today is that of the verdict `satisfied 0`, with no words behind `chain`.
+#![tactic(auto)]
+
+mod certificate;
+mod fault;
+mod laws;
+mod parts;
+mod proof;
+mod reader;
+mod stage;
+mod writer;
+
+pub use certificate::{Certificate, Claim, Proofs};
+pub use fault::CertFault;
+pub use laws::text_determines_certificate;
+pub use proof::{Chain, Proof, Query};
+pub use reader::read;
+pub use writer::write;
+
+#[cfg(test)]
+mod tests;

@@ -1,0 +1,83 @@
+use crate::{CertFault, Claim, Query, read, write};
+use std::test::Fail;
+
+const SEVEN: &str =
+    "PLCVCERT 1\nverdict satisfied 0\nquery step 0\nchain\nlog 1\n12 0 11 8 9 5 0\nend\n";
+
+/// Two proofs, the second with an empty log.
+const TWO: &str =
+    "PLCVCERT 1\nverdict satisfied 0\nquery base 4294967295\nchain\nlog 2\n3 -1 0 2 0\n4 0 3 1 0\nquery step 0\nchain\nlog 0\nend\n";
+
+#[test]
+fn certificates_are_read_and_written(rt: HostRuntime) -> Result<(), Fail> {
+    for text in [SEVEN, TWO, "PLCVCERT 1\nverdict satisfied 0\nend\n"] {
+        let certificate = read(rt.alloc(), text.as_bytes())?;
+        let written = write(rt.alloc(), &certificate)?;
+        assert!(rt; written.as_slice() == text.as_bytes(), "{text:?}");
+    }
+    Ok(())
+}
+
+#[test]
+fn a_certificate_has_its_parts(rt: HostRuntime) -> Result<(), Fail> {
+    let certificate = read(rt.alloc(), SEVEN.as_bytes())?;
+    assert!(rt; certificate.claim == Claim::Satisfied(0));
+    for proof in certificate.proofs.as_slice() {
+        assert!(rt; proof.query == Query::Step(0));
+        for line in proof.log.as_slice() {
+            assert_eq!(rt; line.id, 12);
+            assert!(rt; line.hints.as_slice() == [11, 8, 9, 5].as_slice());
+        }
+    }
+    assert_eq!(rt; certificate.proofs.as_slice().len(), 1);
+    Ok(())
+}
+
+#[test]
+fn refusals_name_the_line(rt: HostRuntime) {
+    let cases = [
+        (
+            "PLCVCERT 1\nverdict satisfied 0\nquery step 0\nchain\nlog 1\n12 0 11",
+            6,
+        ),
+        ("PLCVCERT 3\nverdict satisfied 0\n", 1),
+        (
+            "PLCVCERT 1\nverdict satisfied 0\nquery step 0\nchain\nlog 1\n12 0 11 8 9 5 0\n",
+            7,
+        ),
+        (
+            "PLCVCERT 1\nverdict satisfied 0\nquery step 0\nchain\nlog 1\n12 0 11 8 9 5 0\nend",
+            7,
+        ),
+        (
+            "PLCVCERT 1\nverdict satisfied 0\nquery step 0\nchain\nlog 1\n12 0 11 8 9 5 0\nend\n\n",
+            8,
+        ),
+        ("PLCVCERT 1\nverdict satisfied 0\nquery step 00\n", 3),
+        ("PLCVCERT 1\nverdict satisfied 0\nquery step +1\n", 3),
+        (
+            "PLCVCERT 1\nverdict satisfied 0\nquery step 4294967296\n",
+            3,
+        ),
+        ("PLCVCERT 1\nverdict satisfied 1\n", 2),
+        (
+            "PLCVCERT 1\nverdict satisfied 0\nquery base 4294967295\nchain\nlog 9\nend\n",
+            6,
+        ),
+        (
+            "PLCVCERT 1\nverdict satisfied 0\nquery step 0\nchain cone\n",
+            4,
+        ),
+        ("PLCVCERT 1\r\n", 1),
+        ("PLCVCERT 1", 1),
+        ("", 1),
+    ];
+    for (text, line) in cases {
+        let answer = read(rt.alloc(), text.as_bytes()).err();
+        assert_eq!(rt;
+            answer,
+            Some(CertFault::NotACertificate { line }),
+            "{text:?}"
+        );
+    }
+}
