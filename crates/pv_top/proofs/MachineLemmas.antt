@@ -24,7 +24,8 @@ use Rattle.pv_top.specs.declared.machine.Machine.{Machine}
 use Rattle.pv_top.specs.Traces.{IsBit, AreBits, IsScan, AreScans, scan_text, scans_text, trace_text}
 use Rattle.pv_top.specs.Programs.{IsTerm, IsAssignment, AreBools, value_in, run_program}
 use Rattle.pv_top.specs.Ends.{is_true, fails, Keeps, IsEnd}
-use Rattle.pv_top.specs.Machines.{IsMachineOf, IsReady, StartsInBool, end_after}
+use Rattle.pv_top.specs.Machines.{IsMachineOf, IsReady, end_after}
+use Rattle.pv_top.specs.Replayable.{StartsInBool}
 use Rattle.pv_top.proofs.TraceLemmas.{next_is, none_left}
 
 -- the cells have the keys of the variables

@@ -1,4 +1,4 @@
--- A block as the machine of the interpreter has it. No public clause cites this but `Ends`.
+-- A block as the machine of the interpreter has it. No public clause cites this.
 use Rattle.std.specs.Prelude.{◌≡◌, ◌+◌, ℕ, List, [], ◌∷◌, length, ℤ, All, if◌then◌else◌}
 use Rattle.pv_word.specs.declared.types.Ty.TheVariants.{Bool as BoolType}
 use Rattle.pv_word.specs.Types.{InRange}
@@ -13,10 +13,7 @@ use Rattle.pv_top.specs.declared.answer.End.TheVariants.{Kept, Broken}
 use Rattle.pv_top.specs.declared.machine.Machine.{Machine}
 use Rattle.pv_top.specs.Programs.{IsTerm, IsAssignment, AreBools, IsTermOf, IsProgramOf}
 use Rattle.pv_top.specs.Ends.{fails}
-
--- the start values are values of BOOL
-abbrev pub StartsInBool : Cell → Type 0
-StartsInBool c = InRange BoolType c.start
+use Rattle.pv_top.specs.Replayable.{StartsInBool}
 
 -- the machine is that of the block and the invariant
 pub record IsMachineOf (block : Block) (a : Expr) (m : Machine) : Type 0 where

@@ -1,7 +1,7 @@
 //! A block that is ready to be replayed: its cells, its statements with their names found, and the
 //! invariant.
-ghost use Rattle.std.specs.Prelude.{◌≡◌, length, map, ℕ, ℤ, pos, List, IfOk, All};
-ghost use Rattle.std.specs.Bool.{OnTrue};
+ghost use Rattle.std.specs.Prelude.{◌≡◌, length, map, ℕ, ℤ, pos, List, IfOk, IfErr, IsTrue, ◌↔◌, All};
+ghost use Rattle.pv_tree.specs.declared.fault.ReadFault.TheVariants.{NotOfForm};
 ghost use Rattle.std.specs.Ordering.{int_eq};
 ghost use Rattle.pv_tree.specs.declared.tree.Block.{Block};
 ghost use Rattle.pv_tree.specs.declared.tree.Expr.{Expr};
@@ -11,7 +11,8 @@ ghost use Rattle.pv_mean.specs.Runs.{run, run_from};
 ghost use Rattle.pv_top.specs.Traces.{AreScans, scans_text, trace_text};
 ghost use Rattle.pv_top.specs.Programs.{AreBools, value_in, run_program};
 ghost use Rattle.pv_top.specs.Ends.{IsEnd};
-ghost use Rattle.pv_top.specs.Machines.{IsMachineOf, IsReady, StartsInBool, end_after};
+ghost use Rattle.pv_top.specs.Machines.{IsMachineOf, IsReady, end_after};
+ghost use Rattle.pv_top.specs.Replayable.{IsReplayable, StartsInBool};
 
 use crate::answer::End;
 use crate::program::{Assignment, Term, execute, place, program_of, term_of, value_of};
@@ -33,7 +34,8 @@ impl Machine {
     /// The machine of a block. NotOfForm where a name of the block or of the invariant isn't declared,
     /// or a variable's start value is none of BOOL.
     pub fn make(alloc: Global, block: &Block, invariant: &Expr) -> Result<Machine, ReadFault>
-        ensures { IfOk result (λ m. IsMachineOf block.now invariant.now m) }
+        ensures found { IfOk result (λ m. IsMachineOf block.now invariant.now m) }
+        ensures refused { IfErr result (λ fault. fault ≡ NotOfForm → IsReplayable block.now invariant.now → ⊥) }
     {
         let scope = scope_of(alloc, block)?;
         let cells = cells(alloc, block)?;
@@ -85,7 +87,7 @@ impl Machine {
 }
 
 fn start_in_bool(cells: &[Cell]) -> bool
-    ensures { OnTrue result (All StartsInBool cells.now) }
+    ensures { IsTrue result ↔ All StartsInBool cells.now }
 {
     cells
         .iter()
@@ -114,8 +116,10 @@ pub fn replay_block(
     invariant: &Expr,
     trace: &[u8],
 ) -> Result<End, ReadFault>
-    ensures { IfOk result (λ end. (inputs : List (List ℤ)) × AreScans (input_len (cells_of block.now)) inputs
+    ensures found { IfOk result (λ end. (inputs : List (List ℤ)) × AreScans (input_len (cells_of block.now)) inputs
         × (trace.now ≡ trace_text inputs) × IsEnd block.now invariant.now (run block.now inputs) end) }
+    ensures refused { IfErr result (λ fault. fault ≡ NotOfForm → IsReplayable block.now invariant.now → (inputs : List (List ℤ))
+        → AreScans (input_len (cells_of block.now)) inputs → trace.now ≡ trace_text inputs → ⊥) }
 {
     let machine = Machine::make(alloc, block, invariant)?;
     let mut input = vec![in alloc; 0; count_inputs(&machine.cells)]?;

@@ -1,8 +1,10 @@
 //! A block as it is replayed: its names are cell numbers, found once before the first scan.
-ghost use Rattle.std.specs.Prelude.{◌≡◌, length, slice_set, IfOk, All};
+ghost use Rattle.std.specs.Prelude.{◌≡◌, length, slice_set, Contains, IfOk, IfErr, All};
 ghost use Rattle.pv_word.specs.declared.types.Ty.TheVariants.{Bool};
 ghost use Rattle.pv_word.specs.Types.{InRange};
-ghost use Rattle.pv_tree.specs.Scope.{key_of, statements_of};
+ghost use Rattle.pv_tree.specs.declared.fault.ReadFault.TheVariants.{NotOfForm};
+ghost use Rattle.pv_tree.specs.Scope.{key_of, statements_of, IsDeclared, IsDeclaredIn};
+ghost use Rattle.pv_mean.specs.Values.{BoolLiterals, HasBoolLiterals};
 ghost use Rattle.pv_mean.specs.Frames.{input_len, begin, image_of};
 ghost use Rattle.pv_top.specs.Programs.{IsTerm, value_in, AreBools, IsAssignment, run_program, IsTermOf, IsAssignmentOf, IsProgramOf, IsNumberAmong, target_of, source_of};
 
@@ -30,7 +32,8 @@ pub struct Assignment {
 
 /// The assignments of a block, in order. NotOfForm where a name isn't declared.
 pub fn program_of(alloc: Global, scope: &Scope, block: &Block) -> Result<Vec<Assignment>, ReadFault>
-    ensures { IfOk result (λ program. IsProgramOf scope.now (statements_of block.now.body) program.items) }
+    ensures found { IfOk result (λ program. IsProgramOf scope.now (statements_of block.now.body) program.items) }
+    ensures refused { IfErr result (λ fault. fault ≡ NotOfForm → All (IsDeclaredIn scope.now) (statements_of block.now.body) → All HasBoolLiterals (statements_of block.now.body) → ⊥) }
 {
     let Body::Scl(statements) = &block.body;
     assignments_of(alloc, scope, statements)
@@ -41,7 +44,8 @@ fn assignments_of(
     scope: &Scope,
     statements: &[Stmt],
 ) -> Result<Vec<Assignment>, ReadFault>
-    ensures { IfOk result (λ program. IsProgramOf scope.now statements.now program.items) }
+    ensures found { IfOk result (λ program. IsProgramOf scope.now statements.now program.items) }
+    ensures refused { IfErr result (λ fault. fault ≡ NotOfForm → All (IsDeclaredIn scope.now) statements.now → All HasBoolLiterals statements.now → ⊥) }
 {
     let mut program = Vec::with_capacity(alloc, statements.len())?;
     for statement in statements {
@@ -52,7 +56,8 @@ fn assignments_of(
 }
 
 fn assignment_of(alloc: Global, scope: &Scope, statement: &Stmt) -> Result<Assignment, ReadFault>
-    ensures { IfOk result (λ a. IsAssignmentOf scope.now statement.now a) }
+    ensures found { IfOk result (λ a. IsAssignmentOf scope.now statement.now a) }
+    ensures refused { IfErr result (λ fault. fault ≡ NotOfForm → IsDeclaredIn scope.now statement.now → HasBoolLiterals statement.now → ⊥) }
 {
     let target = cell_of(scope, target_of_statement(statement))?;
     let value = term_of(alloc, scope, source_of_statement(statement))?;
@@ -75,7 +80,8 @@ fn source_of_statement(statement: &Stmt) -> &Expr
 
 /// The term of an expression. NotOfForm where a name isn't declared.
 pub fn term_of(alloc: Global, scope: &Scope, expr: &Expr) -> Result<Term, ReadFault>
-    ensures { IfOk result (λ term. IsTermOf scope.now expr.now term) }
+    ensures found { IfOk result (λ term. IsTermOf scope.now expr.now term) }
+    ensures refused { IfErr result (λ fault. fault ≡ NotOfForm → IsDeclared scope.now expr.now → BoolLiterals expr.now → ⊥) }
 {
     match expr {
         Expr::Lit { value, .. } => constant(*value),
@@ -105,7 +111,8 @@ pub fn term_of(alloc: Global, scope: &Scope, expr: &Expr) -> Result<Term, ReadFa
 
 /// The term of a literal. NotOfForm where it is no value of BOOL.
 fn constant(value: i128) -> Result<Term, ReadFault>
-    ensures { IfOk result (λ term. (term ≡ Term.Constant value) × InRange Bool value) }
+    ensures found { IfOk result (λ term. (term ≡ Term.Constant value) × InRange Bool value) }
+    ensures refused { IfErr result (λ fault. InRange Bool value → ⊥) }
 {
     if pv_word::in_range(Ty::Bool, value) {
         Ok(Term::Constant(value))
@@ -116,7 +123,8 @@ fn constant(value: i128) -> Result<Term, ReadFault>
 
 /// The number of the operand's cell. NotOfForm where its name isn't declared.
 fn cell_of(scope: &Scope, operand: &Operand) -> Result<usize, ReadFault>
-    ensures { IfOk result (λ n. IsNumberAmong scope.now (key_of operand.now) n) }
+    ensures found { IfOk result (λ n. IsNumberAmong scope.now (key_of operand.now) n) }
+    ensures refused { IfErr result (λ fault. Contains scope.now (key_of operand.now) → ⊥) }
 {
     let Root::Local { name, .. } = &operand.root;
     match scope.find(name) {
