@@ -1,19 +1,12 @@
 -- Machines: transition systems whose states and inputs are lists of numbers, each number within the range of its type. A scan
 -- of a program is a step of such a machine.
-use Rattle.std.specs.Prelude.{◌≡◌, Bool, List, [], ◌∷◌, ℤ}
+use Rattle.std.specs.Prelude.{◌≡◌, Bool, List, ℤ}
 use Rattle.pv_word.specs.declared.types.Ty.{Ty}
-use Rattle.pv_word.specs.Types.{InRange}
+use Rattle.pv_word.specs.Types.{AreValues}
 
 -- the values of a state, or of an input, or of the parameters, in the order of their types
 abbrev pub Values : Type 0
 Values = List ℤ
-
--- one number for each type, within its range
-abbrev pub HaveTypes : List Ty → Values → Type 0
-HaveTypes [] [] = Unit {0}
-HaveTypes [] (v ∷ vs) = ⊥
-HaveTypes (ty ∷ tys) [] = ⊥
-HaveTypes (ty ∷ tys) (v ∷ vs) = InRange ty v × HaveTypes tys vs
 
 -- how a step ends: it is done and leaves a state; traps and the loop bound are further cases
 pub data Step : Type 0 where
@@ -30,13 +23,13 @@ pub record Machine : Type 0 where
   pub fails : Values → Values → Bool
 
 abbrev pub IsState : Machine → Values → Type 0
-IsState m s = HaveTypes m.state s
+IsState m s = AreValues m.state s
 
 abbrev pub IsInput : Machine → Values → Type 0
-IsInput m i = HaveTypes m.input i
+IsInput m i = AreValues m.input i
 
 abbrev pub AreParams : Machine → Values → Type 0
-AreParams m p = HaveTypes m.params p
+AreParams m p = AreValues m.params p
 
 -- starts are states, and so is what a step from a state by an input leaves
 pub record IsLawful (m : Machine) : Type 0 where
