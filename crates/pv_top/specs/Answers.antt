@@ -1,14 +1,15 @@
 -- What the program says, and the status that goes with it: a report, or one fault line.
-use Rattle.std.specs.Prelude.{◌++◌, ℕ, List, Bool, true, false, codes, string_bytes}
+use Rattle.std.specs.Prelude.{◌++◌, ℕ, List, Bool, true, false, codes, string_bytes, Option, Some, None, Result, Ok, Err}
 use Rattle.std.specs.Fmt.{decimal}
-use Rattle.pv_top.specs.declared.answer.End.{End}
-use Rattle.pv_top.specs.declared.answer.End.TheVariants.{Kept, Broken}
+use Rattle.pv_replay.specs.declared.end.End.{End}
+use Rattle.pv_replay.specs.declared.end.End.TheVariants.{Kept, Broken}
 use Rattle.pv_top.specs.declared.answer.Part.{Part}
 use Rattle.pv_top.specs.declared.answer.Part.TheVariants.{Case, Source, Trace}
 use Rattle.pv_top.specs.declared.answer.Refusal.{Refusal}
 use Rattle.pv_top.specs.declared.answer.Refusal.TheVariants.{Words, Unread, Unbuilt}
 use Rattle.pv_top.specs.declared.answer.Stop.{Stop}
 use Rattle.pv_top.specs.declared.answer.Stop.TheVariants.{Refused, NoMemory}
+use Rattle.pv_top.specs.declared.answer.Report.{Report as ReportOf}
 use Rattle.pv_top.specs.declared.answer.Answer.{Answer}
 use Rattle.pv_top.specs.declared.answer.Answer.TheVariants.{Report, Refusal as RefusalOf}
 
@@ -44,13 +45,13 @@ abbrev pub text_of : Answer → List ℕ
 text_of (Report report) = report_text (string_bytes report.case) report.end
 text_of (RefusalOf refusal) = fault_line refusal
 
--- a refusal of the words, and one of a file that can't be read
-abbrev pub is_words : Stop → Bool
-is_words (Refused Words) = true
-is_words (Refused (Unread file)) = false
-is_words (Refused (Unbuilt part file)) = false
-is_words NoMemory = false
+-- what there is to say behind a command; want of memory leaves nothing
+abbrev pub answer_in : Result ReportOf Stop → Option Answer
+answer_in (Ok report) = Some (Report report)
+answer_in (Err (Refused refusal)) = Some (RefusalOf refusal)
+answer_in (Err NoMemory) = None
 
+-- the command stops since a file can't be read
 abbrev pub is_unread : Stop → Bool
 is_unread (Refused Words) = false
 is_unread (Refused (Unread file)) = true
