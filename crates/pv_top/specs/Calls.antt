@@ -3,6 +3,8 @@ use Rattle.std.specs.Prelude.{◌≡◌, ◌≢◌, ◌⊎◌, ℕ, List, [], �
 use Rattle.pv_edge.specs.Faults.{HasRisen}
 use Rattle.pv_edge.specs.Files.{FileMap}
 use Rattle.pv_edge.specs.Sink.{Takes, TakesPart}
+use Rattle.pv_top.specs.declared.words.Command.{Command}
+use Rattle.pv_top.specs.declared.words.Command.TheVariants.{Replay}
 use Rattle.pv_top.specs.declared.answer.Answer.{Answer}
 use Rattle.pv_top.specs.declared.answer.Answer.TheVariants.{Report, Refusal}
 use Rattle.pv_top.specs.declared.answer.Refusal.TheVariants.{Words}
@@ -29,6 +31,10 @@ IsReplay words case_file trace_file = words ≡ codes "replay" ∷ case_file ∷
 -- the words are those of a command
 abbrev pub IsCommand : List (List ℕ) → Type 0
 IsCommand words = (case_file : List ℕ) × (trace_file : List ℕ) × IsReplay words case_file trace_file
+
+-- the words spell the command
+abbrev pub Spells : List (List ℕ) → Command → Type 0
+Spells words (Replay case trace) = IsReplay words case.now trace.now
 
 -- what an answer to the words says is so
 pub data Says (told : Option FileMap) (words : List (List ℕ)) (answer : Answer) : Type 0 where

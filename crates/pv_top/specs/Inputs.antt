@@ -4,6 +4,7 @@ use Rattle.std.specs.Prelude.{◌≡◌, ◌⊎◌, ℕ, List, Option, Some, IfS
 use Rattle.pv_edge.specs.Files.{FileMap}
 use Rattle.pv_tree.specs.declared.tree.Expr.{Expr}
 use Rattle.pv_tree.specs.declared.tree.Block.{Block}
+use Rattle.pv_top.specs.declared.answer.Part.{Part}
 use Rattle.pv_top.specs.declared.answer.Part.TheVariants.{Case, Source, Trace}
 use Rattle.pv_top.specs.declared.answer.Refusal.TheVariants.{Words, Unread, Unbuilt}
 use Rattle.pv_top.specs.declared.answer.Stop.{Stop}
@@ -43,6 +44,20 @@ pub record HoldsNoProject (told : Option FileMap) (case : CaseData) : Type 0 whe
 pub record Reads (told : Option FileMap) (file : List ℕ) (case : CaseData) (block : Block) (a : Expr) : Type 0 where
   pub case_held : HoldsCase told file case
   pub project_held : HoldsProject told case block a
+
+-- why the reading of a file stops
+abbrev pub IsReadStop : List ℕ → Stop → Type 0
+IsReadStop name (Refused Words) = ⊥
+IsReadStop name (Refused (Unread file)) = string_bytes file ≡ name
+IsReadStop name (Refused (Unbuilt part file)) = ⊥
+IsReadStop name NoMemory = Unit {0}
+
+-- why what a file holds isn't taken: it isn't of the part's form, as the cause says
+abbrev pub IsFormStop : Part → List ℕ → Type 0 → Stop → Type 0
+IsFormStop part name cause (Refused Words) = ⊥
+IsFormStop part name cause (Refused (Unread file)) = ⊥
+IsFormStop part name cause (Refused (Unbuilt other file)) = (other ≡ part) × (string_bytes file ≡ name) × cause
+IsFormStop part name cause NoMemory = Unit {0}
 
 -- why the reading of a case stops: its file can't be read, or holds no case
 abbrev pub StopsCase : Option FileMap → List ℕ → Stop → Type 0

@@ -1,9 +1,10 @@
 //! What a run of the program says, and the status that it ends with.
 ghost use Rattle.std.specs.Prelude.{◌≡◌, IfOk, string_bytes};
 ghost use Rattle.pv_top.specs.declared.answer.Stop.TheVariants.{NoMemory};
-ghost use Rattle.pv_top.specs.declared.answer.End.TheVariants.{Kept, Broken};
-ghost use Rattle.pv_top.specs.Answers.{status_of, status_of_end, status_of_part, status_of_refusal, text_of, report_text, fault_line};
+ghost use Rattle.pv_replay.specs.declared.end.End.TheVariants.{Kept, Broken};
+ghost use Rattle.pv_top.specs.Answers.{status_of, status_of_end, status_of_part, status_of_refusal, text_of, report_text, fault_line, answer_in};
 
+use pv_replay::End;
 use std::alloc::{AllocError, Global};
 use thiserror::Error;
 
@@ -29,15 +30,6 @@ pub struct Report {
     /// The case's name.
     pub case: String,
     pub end: End,
-}
-
-/// How a replay ended.
-#[derive(Clone, Copy, Debug, PartialEq, Eq)]
-pub enum End {
-    /// Each of so many scans kept the requirement.
-    Kept(u64),
-    /// The scan of this number, from 1, is the first that broke it.
-    Broken(u64),
 }
 
 /// Why there is no report. Each is one line for the sink.
@@ -76,12 +68,23 @@ impl From<AllocError> for Stop {
     }
 }
 
+/// What there is to say behind a command; want of memory leaves nothing.
+pub fn answer_in(outcome: Result<Report, Stop>) -> Option<Answer>
+    ensures { result ≡ answer_in outcome }
+{
+    match outcome {
+        Ok(report) => Some(Answer::Report(report)),
+        Err(Stop::Refused(refusal)) => Some(Answer::Refusal(refusal)),
+        Err(Stop::NoMemory) => None,
+    }
+}
+
 impl Answer {
     pub fn status(&self) -> Status
         ensures { result ≡ status_of self.now }
     {
         match self {
-            Answer::Report(report) => report.end.status(),
+            Answer::Report(report) => end_status(report.end),
             Answer::Refusal(refusal) => refusal.status(),
         }
     }
@@ -97,14 +100,12 @@ impl Answer {
     }
 }
 
-impl End {
-    fn status(self) -> Status
-        ensures { result ≡ status_of_end self }
-    {
-        match self {
-            End::Kept(_) => 0,
-            End::Broken(_) => 1,
-        }
+fn end_status(end: End) -> Status
+    ensures { result ≡ status_of_end end }
+{
+    match end {
+        End::Kept(_) => 0,
+        End::Broken(_) => 1,
     }
 }
 

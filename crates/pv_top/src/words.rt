@@ -1,6 +1,6 @@
 //! The forms of words that the program has.
 ghost use Rattle.std.specs.Prelude.{IfNone, IfSome, map, string_bytes};
-ghost use Rattle.pv_top.specs.Replays.{IsReplay, Spells};
+ghost use Rattle.pv_top.specs.Calls.{IsCommand, Spells};
 
 /// A command with its words.
 #[derive(Clone, Copy, Debug, PartialEq, Eq)]
@@ -13,7 +13,7 @@ pub enum Command<'a> {
 /// after it: there are no options.
 pub fn read_words(words: &[String]) -> Option<Command<'_>>
     ensures some { IfSome result (λ command. Spells (map string_bytes words.now) command) }
-    ensures none { IfNone result (IsReplay (map string_bytes words.now) → ⊥) }
+    ensures none { IfNone result (IsCommand (map string_bytes words.now) → ⊥) }
 {
     match words {
         [verb, case, trace] if verb.as_str() == "replay" => Some(Command::Replay {
