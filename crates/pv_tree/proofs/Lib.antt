@@ -1,1 +1,4 @@
 mod Keys
+pub mod Chains
+pub mod ExpressionsComplete
+pub mod ExpressionsSound
