@@ -12,8 +12,8 @@ use Rattle.pv_tree.specs.declared.tree.BinaryOp.{BinaryOp}
 use Rattle.pv_tree.specs.declared.tree.BinaryOp.TheVariants.{And, Or}
 use Rattle.pv_tree.specs.Shape.{ExprShape, lit, read, unary, binary, paren}
 use Rattle.pv_tree.specs.Expressions.{IsTruth, IsSignOf, word_operand, SpellsExpression, IsWellFormed, strength, levels}
-use Rattle.pv_tree.specs.Readers.{FoundExpr, Start, negation, opening, truth, variable, start_of, started, enclosed, negated, is_sign, chain, readers, factor_in, is_close}
-use Rattle.pv_tree.proofs.Chains.{Stops, chain-stops, chain-joins, factor-suc, conjunction-suc, disjunction-suc}
+use Rattle.pv_tree.specs.Readers.{FoundExpr, Stops, start_of, started, enclosed, negated, is_sign, chain, readers, factor_in, is_close}
+use Rattle.pv_tree.proofs.Chains.{chain-stops, chain-joins, factor-suc, conjunction-suc, disjunction-suc}
 
 abbrev pub whole : ExprShape → List Token → FoundExpr
 whole expr rest = record { expr = expr; levels = levels expr; rest = rest }
@@ -54,15 +54,17 @@ reads_factor text expr tokens h = record {
     disjunction = from_conjunction text expr tokens (from_factor text expr tokens h)
   }
 
-start-truth : (k : Kind) (value : ℤ) → IsTruth k value → start_of k ≡ truth value
-start-truth k value (inl e) = ap start_of e.0 ∙ ap truth (sym e.1)
-start-truth k value (inr e) = ap start_of e.0 ∙ ap truth (sym e.1)
-
 reads_lit : (text : List ℕ) (value : ℤ) (token : Token) (tokens : List Token) → tokens ≡ token ∷ [] → IsTruth token.kind value → FactorReads text (lit (Some BoolType) value token.place) tokens
-reads_lit text value token tokens split is room rest fits =
+reads_lit text value token tokens split (inl is) room rest fits =
     factor-suc text room (tokens ++ rest)
     ∙ ap (λ ts. factor_in text (readers text room).factor (readers text room).disjunction (ts ++ rest)) split
-    ∙ ap (started text (readers text room).factor (readers text room).disjunction token rest) (start-truth token.kind value is)
+    ∙ ap (started text (readers text room).factor (readers text room).disjunction token rest) (ap start_of is.0)
+    ∙ ap (λ v. Some (whole (lit (Some BoolType) v token.place) rest)) (sym is.1)
+reads_lit text value token tokens split (inr is) room rest fits =
+    factor-suc text room (tokens ++ rest)
+    ∙ ap (λ ts. factor_in text (readers text room).factor (readers text room).disjunction (ts ++ rest)) split
+    ∙ ap (started text (readers text room).factor (readers text room).disjunction token rest) (ap start_of is.0)
+    ∙ ap (λ v. Some (whole (lit (Some BoolType) v token.place) rest)) (sym is.1)
 
 reads_variable : (text : List ℕ) (token : Token) (tokens : List Token) → tokens ≡ token ∷ [] → token.kind ≡ kind.Word word.Plain → FactorReads text (read (word_operand text token)) tokens
 reads_variable text token tokens split is room rest fits =

@@ -10,12 +10,14 @@ use Rattle.pv_tree.specs.declared.words.Word.TheVariants as word
 use Rattle.pv_tree.specs.declared.lex.Kind.{Kind}
 use Rattle.pv_tree.specs.declared.lex.Kind.TheVariants as kind
 use Rattle.pv_tree.specs.declared.lex.Token.{Token}
+use Rattle.pv_tree.specs.declared.parse.expressions.Start.{Start}
+use Rattle.pv_tree.specs.declared.parse.expressions.Start.TheVariants as start
 use Rattle.pv_tree.specs.declared.tree.UnaryOp.TheVariants.{Not}
 use Rattle.pv_tree.specs.declared.tree.BinaryOp.{BinaryOp}
 use Rattle.pv_tree.specs.declared.tree.BinaryOp.TheVariants.{And, Or}
 use Rattle.pv_tree.specs.Shape.{ExprShape, lit, read, unary, binary, paren}
 use Rattle.pv_tree.specs.Expressions.{IsTruth, IsSignOf, word_operand, SpellsExpression, IsWellFormed, strength_of, strength, levels}
-use Rattle.pv_tree.specs.Readers.{FoundExpr, Start, negation, opening, truth, variable, nothing, start_of, started, enclosed, negated, joined, is_sign, chain, readers, factor_in, is_close}
+use Rattle.pv_tree.specs.Readers.{FoundExpr, start_of, started, enclosed, negated, joined, is_sign, chain, readers, factor_in, is_close}
 use Rattle.pv_tree.proofs.Chains.{is_sign_from}
 
 -- what was read from the front of the tokens
@@ -75,18 +77,19 @@ chain_sound text op operand room ok (suc n) left depth (sign ∷ behind) all fou
 
 -- what a token of each kind may begin
 Begins : Start → Kind → Type 0
-Begins negation k = k ≡ kind.Word word.Not
-Begins opening k = k ≡ kind.Open
-Begins (truth value) k = IsTruth k value
-Begins variable k = k ≡ kind.Word word.Plain
-Begins nothing k = Unit {0}
+Begins start.Not k = k ≡ kind.Word word.Not
+Begins start.Open k = k ≡ kind.Open
+Begins start.True k = k ≡ kind.Word word.True
+Begins start.False k = k ≡ kind.Word word.False
+Begins start.Word k = k ≡ kind.Word word.Plain
+Begins start.Other k = Unit {0}
 
 begins : (k : Kind) → Begins (start_of k) k
 unfolding Begins
 begins (kind.Word word.Not) = refl
 begins kind.Open = refl
-begins (kind.Word word.True) = inl (refl, refl)
-begins (kind.Word word.False) = inr (refl, refl)
+begins (kind.Word word.True) = refl
+begins (kind.Word word.False) = refl
 begins (kind.Word word.Plain) = refl
 begins k = tt
 
@@ -128,18 +131,27 @@ option_map_found f (Some x) y e k = k x refl (some_same (f x) y e)
 started_sound : (text : List ℕ) (room : ℕ) (factor disjunction : List Token → Option FoundExpr) → IsSound text 3 room factor → IsSound text 1 room disjunction
     → (token : Token) (tokens : List Token) (s : Start) (found : FoundExpr) → Begins s token.kind → started text factor disjunction token tokens s ≡ Some found → Found text 3 (suc room) (token ∷ tokens) found
 unfolding Begins
-started_sound text room factor disjunction f d token tokens negation found is e = option_map_found (negated token.place) (factor tokens) found e (λ arg read same. negation_found text room token tokens arg found is (f tokens arg read) same)
-started_sound text room factor disjunction f d token tokens opening found is e = option_and_then_some _ _ _ e (λ arg read closes. enclosed_found text room token tokens arg.expr arg.levels arg.rest found is (d tokens arg read) closes)
-started_sound text room factor disjunction f d token tokens (truth value) found is e = subst (Found text 3 (suc room) (token ∷ tokens)) (some_same _ _ e) record {
+started_sound text room factor disjunction f d token tokens start.Not found is e = option_map_found (negated token.place) (factor tokens) found e (λ arg read same. negation_found text room token tokens arg found is (f tokens arg read) same)
+started_sound text room factor disjunction f d token tokens start.Open found is e = option_and_then_some _ _ _ e (λ arg read closes. enclosed_found text room token tokens arg.expr arg.levels arg.rest found is (d tokens arg read) closes)
+started_sound text room factor disjunction f d token tokens start.True found is e = subst (Found text 3 (suc room) (token ∷ tokens)) (some_same _ _ e) record {
     front = token ∷ [];
     split = refl;
-    spelled = (token, refl, is, refl, refl);
+    spelled = (token, refl, inl (is, refl), refl, refl);
     formed = tt;
     strong = omega arith;
     depth = refl;
     fits = omega arith
   }
-started_sound text room factor disjunction f d token tokens variable found is e = subst (Found text 3 (suc room) (token ∷ tokens)) (some_same _ _ e) record {
+started_sound text room factor disjunction f d token tokens start.False found is e = subst (Found text 3 (suc room) (token ∷ tokens)) (some_same _ _ e) record {
+    front = token ∷ [];
+    split = refl;
+    spelled = (token, refl, inr (is, refl), refl, refl);
+    formed = tt;
+    strong = omega arith;
+    depth = refl;
+    fits = omega arith
+  }
+started_sound text room factor disjunction f d token tokens start.Word found is e = subst (Found text 3 (suc room) (token ∷ tokens)) (some_same _ _ e) record {
     front = token ∷ [];
     split = refl;
     spelled = (token, refl, is, refl);
@@ -148,7 +160,7 @@ started_sound text room factor disjunction f d token tokens variable found is e 
     depth = refl;
     fits = omega arith
   }
-started_sound text room factor disjunction f d token tokens nothing found is e = absurd (none_some e)
+started_sound text room factor disjunction f d token tokens start.Other found is e = absurd (none_some e)
 
 factor_sound : (text : List ℕ) (room : ℕ) (factor disjunction : List Token → Option FoundExpr) → IsSound text 3 room factor → IsSound text 1 room disjunction → IsSound text 3 (suc room) (factor_in text factor disjunction)
 factor_sound text room factor disjunction f d [] found e = absurd (none_some e)

@@ -1,4 +1,6 @@
 mod Keys
 pub mod Chains
+pub mod Exits
 pub mod ExpressionsComplete
 pub mod ExpressionsSound
+pub mod Expressions

@@ -11,6 +11,8 @@ use Rattle.pv_tree.specs.declared.words.Word.TheVariants as word
 use Rattle.pv_tree.specs.declared.lex.Kind.{Kind}
 use Rattle.pv_tree.specs.declared.lex.Kind.TheVariants as kind
 use Rattle.pv_tree.specs.declared.lex.Token.{Token}
+use Rattle.pv_tree.specs.declared.parse.expressions.Start.{Start}
+use Rattle.pv_tree.specs.declared.parse.expressions.Start.TheVariants as start
 use Rattle.pv_tree.specs.declared.tree.UnaryOp.TheVariants.{Not}
 use Rattle.pv_tree.specs.declared.tree.BinaryOp.{BinaryOp}
 use Rattle.pv_tree.specs.declared.tree.BinaryOp.TheVariants.{And, Or}
@@ -18,6 +20,7 @@ use Rattle.pv_tree.specs.declared.tree.Section.{Section}
 use Rattle.pv_tree.specs.declared.tree.Section.TheVariants.{Input, Output, Static}
 use Rattle.pv_tree.specs.Shape.{ExprShape, lit, read, unary, binary, paren, StmtShape, assign, VarShape}
 use Rattle.pv_tree.specs.Expressions.{word_operand}
+use Rattle.pv_tree.specs.Statements.{most_levels}
 use Rattle.pv_tree.specs.Declarations.{declared_by}
 
 -- what was answered, seen by `view`, is what was read; want of memory says nothing
@@ -35,21 +38,17 @@ pub record FoundExpr : Type 0 where
   pub levels : ℕ
   pub rest : List Token
 
--- how a part of an expression that is no operator between operands may begin
-pub data Start : Type 0 where
-  negation : Start
-  opening : Start
-  truth : ℤ → Start
-  variable : Start
-  nothing : Start
+abbrev pub found_expr : ExprShape → ℕ → List Token → FoundExpr
+found_expr expr levels rest = record { expr = expr; levels = levels; rest = rest }
 
+-- how a part of an expression begins that is no operator between two operands
 abbrev pub start_of : Kind → Start
-start_of (kind.Word word.Not) = negation
-start_of kind.Open = opening
-start_of (kind.Word word.True) = truth (pos 1)
-start_of (kind.Word word.False) = truth (pos 0)
-start_of (kind.Word word.Plain) = variable
-start_of k = nothing
+start_of (kind.Word word.Not) = start.Not
+start_of kind.Open = start.Open
+start_of (kind.Word word.True) = start.True
+start_of (kind.Word word.False) = start.False
+start_of (kind.Word word.Plain) = start.Word
+start_of k = start.Other
 
 abbrev pub is_close : Kind → Bool
 is_close kind.Close = true
@@ -73,11 +72,12 @@ enclosed place expr levels (token ∷ tokens) =
 
 -- what begins with this token, given the readers one level down
 abbrev pub started : List ℕ → (List Token → Option FoundExpr) → (List Token → Option FoundExpr) → Token → List Token → Start → Option FoundExpr
-started text factor disjunction token tokens negation = option_map (negated token.place) (factor tokens)
-started text factor disjunction token tokens opening = option_and_then (λ found. enclosed token.place found.expr found.levels found.rest) (disjunction tokens)
-started text factor disjunction token tokens (truth value) = Some (record { expr = lit (Some BoolType) value token.place; levels = 1; rest = tokens })
-started text factor disjunction token tokens variable = Some (record { expr = read (word_operand text token); levels = 1; rest = tokens })
-started text factor disjunction token tokens nothing = None
+started text factor disjunction token tokens start.Not = option_map (negated token.place) (factor tokens)
+started text factor disjunction token tokens start.Open = option_and_then (λ found. enclosed token.place found.expr found.levels found.rest) (disjunction tokens)
+started text factor disjunction token tokens start.True = Some (record { expr = lit (Some BoolType) (pos 1) token.place; levels = 1; rest = tokens })
+started text factor disjunction token tokens start.False = Some (record { expr = lit (Some BoolType) (pos 0) token.place; levels = 1; rest = tokens })
+started text factor disjunction token tokens start.Word = Some (record { expr = read (word_operand text token); levels = 1; rest = tokens })
+started text factor disjunction token tokens start.Other = None
 
 abbrev pub factor_in : List ℕ → (List Token → Option FoundExpr) → (List Token → Option FoundExpr) → List Token → Option FoundExpr
 factor_in text factor disjunction [] = None
@@ -115,6 +115,40 @@ one_more text room below = record {
         (option_and_then (λ first. chain And below.factor (suc room) (suc room) first.expr first.levels first.rest) (factor_in text below.factor below.disjunction tokens))
   }
 
+-- the reader of an operator's right operand, which stands a level down
+abbrev pub operand_in : BinaryOp → ExprReaders → List Token → Option FoundExpr
+operand_in And below = below.factor
+operand_in Or below = below.conjunction
+
+-- no sign of the operator is next
+abbrev pub Stops : BinaryOp → List Token → Type 0
+Stops op [] = Unit {0}
+Stops op (token ∷ tokens) = is_sign op token.kind ≡ false
+
+-- a sign of the operator stands before these tokens
+pub record IsSignBefore (op : BinaryOp) (tokens : List Token) (place : Place) (behind : List Token) : Type 0 where
+  pub sign : Token
+  pub split : tokens ≡ sign ∷ behind
+  pub at : sign.place ≡ place
+  pub is : is_sign op sign.kind ≡ true
+
 unfoldable pub readers : List ℕ → ℕ → ExprReaders
 readers text zero = record { factor = λ tokens. None; conjunction = λ tokens. None; disjunction = λ tokens. None }
 readers text (suc room) = one_more text room (readers text room)
+
+-- whether the end of the text is all that is left
+abbrev pub is_end : Kind → Bool
+is_end kind.End = true
+is_end k = false
+
+abbrev pub is_ended : List Token → Bool
+is_ended [] = false
+is_ended (token ∷ []) = is_end token.kind
+is_ended (token ∷ next ∷ tokens) = false
+
+-- the expression that all the tokens are
+abbrev pub ended : {X : Type 0} → X → List Token → Option X
+ended x rest = if is_ended rest then Some x else None
+
+abbrev pub expression_in : List ℕ → List Token → Option ExprShape
+expression_in text tokens = option_and_then (λ found. ended found.expr found.rest) ((readers text most_levels).disjunction tokens)
