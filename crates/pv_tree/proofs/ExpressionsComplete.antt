@@ -139,9 +139,9 @@ reads text (lit ty value place) tokens (token, split, is, at, type) formed =
     subst (λ p. Reads text (lit ty value p) tokens) at (subst (λ t. Reads text (lit t value token.place) tokens) (sym type) (reads_factor text (lit (Some BoolType) value token.place) tokens (reads_lit text value token tokens split is)))
 reads text (read operand) tokens (token, split, is, same) formed =
     subst (λ o. Reads text (read o) tokens) (sym same) (reads_factor text (read (word_operand text token)) tokens (reads_variable text token tokens split is))
-reads text (unary Not place arg) tokens (sign, inner, split, at, spelled) formed =
-    subst (λ p. Reads text (unary Not p arg) tokens) at.place
-    (reads_factor text (unary Not sign.place arg) tokens (reads_negation text arg sign inner tokens split at.kind ((reads text arg inner spelled formed.1).factor formed.0)))
+reads text (unary Not place arg) tokens (sign, inner, split, is, at, spelled) formed =
+    subst (λ p. Reads text (unary Not p arg) tokens) at
+    (reads_factor text (unary Not sign.place arg) tokens (reads_negation text arg sign inner tokens split is ((reads text arg inner spelled formed.1).factor formed.0)))
 reads text (binary And place left right) tokens (before, sign, behind, split, is, at, spelled, also) formed =
     let l = (reads text left before spelled formed.2).conjunction formed.0 in
     let r = (reads text right behind also formed.3).factor formed.1 in

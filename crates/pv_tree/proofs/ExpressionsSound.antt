@@ -98,7 +98,7 @@ negation_found : (text : List ℕ) (room : ℕ) (sign : Token) (tokens : List To
 negation_found text room sign tokens arg found is h e = subst (Found text 3 (suc room) (sign ∷ tokens)) e record {
     front = sign ∷ h.front;
     split = ap (λ ts. sign ∷ ts) h.split;
-    spelled = (sign, h.front, refl, record { kind = is; place = refl }, h.spelled);
+    spelled = (sign, h.front, refl, is, refl, h.spelled);
     formed = (h.strong, h.formed);
     strong = omega arith;
     depth = ap (λ n. n + 1) h.depth;
@@ -124,7 +124,7 @@ enclosed_found text room sign tokens expr depth (behind ∷ rest) found is h e =
         fits = omega (arith, h.fits)
       }
 
-option_map_found : {A B P : Type 0} (f : A → B) (o : Option A) (y : B) → option_map f o ≡ Some y → ((x : A) → o ≡ Some x → f x ≡ y → P) → P
+pub option_map_found : {A B P : Type 0} (f : A → B) (o : Option A) (y : B) → option_map f o ≡ Some y → ((x : A) → o ≡ Some x → f x ≡ y → P) → P
 option_map_found f None y e k = absurd (none_some e)
 option_map_found f (Some x) y e k = k x refl (some_same (f x) y e)
 

@@ -4,3 +4,4 @@ pub mod Exits
 pub mod ExpressionsComplete
 pub mod ExpressionsSound
 pub mod Expressions
+pub mod Statements

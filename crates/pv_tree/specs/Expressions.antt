@@ -9,6 +9,8 @@ use Rattle.pv_tree.specs.declared.lex.Kind.{Kind}
 use Rattle.pv_tree.specs.declared.lex.Kind.TheVariants as kind
 use Rattle.pv_tree.specs.declared.lex.Token.{Token}
 use Rattle.pv_tree.specs.declared.tree.Root.TheVariants.{Local}
+use Rattle.pv_tree.specs.declared.tree.UnaryOp.{UnaryOp}
+use Rattle.pv_tree.specs.declared.tree.UnaryOp.TheVariants.{Not}
 use Rattle.pv_tree.specs.declared.tree.BinaryOp.{BinaryOp}
 use Rattle.pv_tree.specs.declared.tree.BinaryOp.TheVariants.{And, Or}
 use Rattle.pv_tree.specs.Shape.{OperandShape, ExprShape, lit, read, unary, binary, paren}
@@ -34,7 +36,11 @@ word_operand text token = record { root = Local (plain_name (text_of text token)
 abbrev pub IsTruth : Kind → ℤ → Type 0
 IsTruth k value = ((k ≡ kind.Word word.True) × (value ≡ pos 1)) ⊎ ((k ≡ kind.Word word.False) × (value ≡ pos 0))
 
--- AND is also spelled `&`
+-- the sign of an operator before its operand
+abbrev pub IsSignBeforeOf : UnaryOp → Kind → Type 0
+IsSignBeforeOf Not k = k ≡ kind.Word word.Not
+
+-- the sign of an operator between its operands: AND is also spelled `&`
 abbrev pub IsSignOf : BinaryOp → Kind → Type 0
 IsSignOf And k = (k ≡ kind.Word word.And) ⊎ (k ≡ kind.Ampersand)
 IsSignOf Or k = k ≡ kind.Word word.Or
@@ -46,7 +52,7 @@ SpellsExpression text (lit ty value place) tokens =
 SpellsExpression text (read operand) tokens =
     (token : Token) × (tokens ≡ token ∷ []) × (token.kind ≡ kind.Word word.Plain) × (operand ≡ word_operand text token)
 SpellsExpression text (unary op place arg) tokens =
-    (sign : Token) × (inner : List Token) × (tokens ≡ sign ∷ inner) × IsAt (kind.Word word.Not) place sign × SpellsExpression text arg inner
+    (sign : Token) × (inner : List Token) × (tokens ≡ sign ∷ inner) × IsSignBeforeOf op sign.kind × (sign.place ≡ place) × SpellsExpression text arg inner
 SpellsExpression text (binary op place left right) tokens =
     (before : List Token) × (sign : Token) × (behind : List Token) × (tokens ≡ before ++ (sign ∷ behind))
     × IsSignOf op sign.kind × (sign.place ≡ place) × SpellsExpression text left before × SpellsExpression text right behind

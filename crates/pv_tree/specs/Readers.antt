@@ -1,6 +1,6 @@
 -- Readers of lists of tokens: what stands at the front of the tokens, and the tokens behind it, or nothing where nothing
 -- of the kind stands there.
-use Rattle.std.specs.Prelude.{◌≡◌, ℕ, ℤ, zero, suc, pos, ◌+◌, max, nat_lt, Bool, true, false, List, [], ◌∷◌, ◌++◌, Option, Some, None, Result, Ok, Err, if◌then◌else◌}
+use Rattle.std.specs.Prelude.{◌≡◌, ℕ, ℤ, zero, suc, pos, ◌+◌, max, nat_lt, Bool, true, false, ◌&&◌, length, List, [], ◌∷◌, ◌++◌, Option, Some, None, Result, Ok, Err, if◌then◌else◌}
 use Rattle.std.specs.Option.{option_map, option_and_then}
 use Rattle.pv_word.specs.declared.types.Ty.TheVariants.{Bool as BoolType}
 use Rattle.pv_tree.specs.declared.fault.ReadFault.{ReadFault}
@@ -13,15 +13,23 @@ use Rattle.pv_tree.specs.declared.lex.Kind.TheVariants as kind
 use Rattle.pv_tree.specs.declared.lex.Token.{Token}
 use Rattle.pv_tree.specs.declared.parse.expressions.Start.{Start}
 use Rattle.pv_tree.specs.declared.parse.expressions.Start.TheVariants as start
+use Rattle.pv_tree.specs.declared.parse.names.Label.{Label}
+use Rattle.pv_tree.specs.declared.parse.names.Label.TheVariants as label
+use Rattle.pv_tree.specs.declared.parse.declarations.Stage.{Stage}
+use Rattle.pv_tree.specs.declared.parse.declarations.Stage.TheVariants as stage
+use Rattle.pv_tree.specs.declared.parse.declarations.Step.{Step}
+use Rattle.pv_tree.specs.declared.parse.declarations.Step.TheVariants as step
+use Rattle.pv_tree.specs.declared.tree.BlockKind.TheVariants.{Fb}
 use Rattle.pv_tree.specs.declared.tree.UnaryOp.TheVariants.{Not}
 use Rattle.pv_tree.specs.declared.tree.BinaryOp.{BinaryOp}
 use Rattle.pv_tree.specs.declared.tree.BinaryOp.TheVariants.{And, Or}
 use Rattle.pv_tree.specs.declared.tree.Section.{Section}
 use Rattle.pv_tree.specs.declared.tree.Section.TheVariants.{Input, Output, Static}
-use Rattle.pv_tree.specs.Shape.{ExprShape, lit, read, unary, binary, paren, StmtShape, assign, VarShape}
-use Rattle.pv_tree.specs.Expressions.{word_operand}
+use Rattle.pv_tree.specs.Shape.{ExprShape, lit, read, unary, binary, paren, StmtShape, assign, VarShape, BlockShape}
+use Rattle.pv_tree.specs.Expressions.{text_of, plain_name, word_operand}
 use Rattle.pv_tree.specs.Statements.{most_levels}
 use Rattle.pv_tree.specs.Declarations.{declared_by}
+use Rattle.pv_tree.specs.Reading.{quoted_name, most_vars}
 
 -- what was answered, seen by `view`, is what was read; want of memory says nothing
 abbrev pub Fails : {Y : Type 0} → ReadFault → Option Y → Type 0
@@ -152,3 +160,212 @@ ended x rest = if is_ended rest then Some x else None
 
 abbrev pub expression_in : List ℕ → List Token → Option ExprShape
 expression_in text tokens = option_and_then (λ found. ended found.expr found.rest) ((readers text most_levels).disjunction tokens)
+
+-- whether it is a plain word
+abbrev pub is_word : Kind → Bool
+is_word (kind.Word word.Plain) = true
+is_word k = false
+
+-- how a block's name begins
+abbrev pub label_of : Kind → Label
+label_of (kind.Word word.Plain) = label.Whole
+label_of (kind.Word word.Numbered) = label.Whole
+label_of (kind.Word word.Numbering) = label.Numbering
+label_of kind.Quoted = label.Quoted
+label_of k = label.Other
+
+abbrev pub is_number : Kind → Bool
+is_number kind.Number = true
+is_number k = false
+
+-- a block's name that was read, and the tokens behind it
+pub record FoundName : Type 0 where
+  pub name : Name
+  pub rest : List Token
+
+abbrev pub found_name : Name → List Token → FoundName
+found_name name rest = record { name = name; rest = rest }
+
+-- a numbered name, whose number has to be next
+abbrev pub number_behind : List ℕ → Token → List Token → Option FoundName
+number_behind text head [] = None
+number_behind text head (token ∷ tokens) =
+    if is_number token.kind then Some (found_name (plain_name (text_of text head ++ text_of text token)) tokens) else None
+
+abbrev pub labelled : List ℕ → Token → List Token → Label → Option FoundName
+labelled text token tokens label.Whole = Some (found_name (plain_name (text_of text token)) tokens)
+labelled text token tokens label.Numbering = number_behind text token tokens
+labelled text token tokens label.Quoted = Some (found_name (quoted_name (text_of text token)) tokens)
+labelled text token tokens label.Other = None
+
+abbrev pub name_in : List ℕ → List Token → Option FoundName
+name_in text [] = None
+name_in text (token ∷ tokens) = labelled text token tokens (label_of token.kind)
+
+-- what a token is where the reading of sections stands
+abbrev pub step_of : Stage → Kind → Step
+step_of stage.Outside (kind.Word word.VarInput) = step.To (stage.Inside Input)
+step_of stage.Outside (kind.Word word.VarOutput) = step.To (stage.Inside Output)
+step_of stage.Outside (kind.Word word.Var) = step.To (stage.Inside Static)
+step_of stage.Outside k = step.Behind
+step_of (stage.Inside section) (kind.Word word.EndVar) = step.To stage.Outside
+step_of (stage.Inside section) (kind.Word word.Plain) = step.Declare section
+step_of (stage.Naming section) (kind.Word word.Plain) = step.Declare section
+step_of (stage.Named section) kind.Comma = step.To (stage.Naming section)
+step_of (stage.Named section) kind.Colon = step.To (stage.Typing section)
+step_of (stage.Typing section) (kind.Word word.Bool) = step.To (stage.Typed section)
+step_of (stage.Typed section) kind.Semicolon = step.To (stage.Inside section)
+step_of s k = step.Wrong
+
+-- variables that were read, and the tokens behind their sections
+pub record FoundVars : Type 0 where
+  pub vars : List VarShape
+  pub rest : List Token
+
+abbrev pub found_vars : List VarShape → List Token → FoundVars
+found_vars vars rest = record { vars = vars; rest = rest }
+
+abbrev pub with_var : VarShape → FoundVars → FoundVars
+with_var var found = record { vars = var ∷ found.vars; rest = found.rest }
+
+-- one variable more, where there is room for it
+abbrev pub one_more_var : VarShape → ℕ → (ℕ → Option FoundVars) → Option FoundVars
+one_more_var var zero after = None
+one_more_var var (suc room) after = option_map (with_var var) (after room)
+
+abbrev pub stepped : List ℕ → ℕ → Token → List Token → (ℕ → Stage → Option FoundVars) → Step → Option FoundVars
+stepped text room token tokens after step.Behind = Some (found_vars [] (token ∷ tokens))
+stepped text room token tokens after step.Wrong = None
+stepped text room token tokens after (step.To next) = after room next
+stepped text room token tokens after (step.Declare section) = one_more_var (declared_by text section token) room (λ less. after less (stage.Named section))
+
+-- the variables from a stage on, at most `room` of them
+unfoldable pub variables_in : List ℕ → ℕ → Stage → List Token → Option FoundVars
+variables_in text room s [] = None
+variables_in text room s (token ∷ tokens) = stepped text room token tokens (λ less next. variables_in text less next tokens) (step_of s token.kind)
+
+-- a statement that was read, and the tokens behind it
+pub record FoundStmt : Type 0 where
+  pub stmt : StmtShape
+  pub rest : List Token
+
+abbrev pub found_stmt : StmtShape → List Token → FoundStmt
+found_stmt stmt rest = record { stmt = stmt; rest = rest }
+
+abbrev pub is_assign : Kind → Bool
+is_assign kind.Assign = true
+is_assign k = false
+
+abbrev pub is_semicolon : Kind → Bool
+is_semicolon kind.Semicolon = true
+is_semicolon k = false
+
+-- the tokens behind the `;` that has to be next
+abbrev pub behind_semicolon : List Token → Option (List Token)
+behind_semicolon [] = None
+behind_semicolon (token ∷ tokens) = if is_semicolon token.kind then Some tokens else None
+
+-- the levels that a statement leaves to its expressions
+abbrev pub value_levels : ℕ
+value_levels = 63
+
+-- the word that an assignment begins with, the place of the `:=` behind it, and the tokens behind that
+pub record Target : Type 0 where
+  pub name : Token
+  pub place : Place
+  pub rest : List Token
+
+abbrev pub target : Token → Place → List Token → Target
+target name place rest = record { name = name; place = place; rest = rest }
+
+abbrev pub target_in : List Token → Option Target
+target_in [] = None
+target_in (name ∷ []) = None
+target_in (name ∷ sign ∷ tokens) = if is_word name.kind && is_assign sign.kind then Some (target name sign.place tokens) else None
+
+-- the assignment of a value to a target, once the value is read
+abbrev pub assigned : List ℕ → Target → FoundExpr → Option FoundStmt
+assigned text to value = option_map (found_stmt (assign (word_operand text to.name) to.place value.expr)) (behind_semicolon value.rest)
+
+abbrev pub assignment_in : List ℕ → List Token → Option FoundStmt
+assignment_in text tokens = option_and_then (λ to. option_and_then (assigned text to) ((readers text value_levels).disjunction to.rest)) (target_in tokens)
+
+abbrev pub begins_statement : List Token → Bool
+begins_statement [] = false
+begins_statement (token ∷ tokens) = is_word token.kind
+
+-- statements that were read, and the tokens behind them
+pub record FoundStmts : Type 0 where
+  pub stmts : List StmtShape
+  pub rest : List Token
+
+abbrev pub found_stmts : List StmtShape → List Token → FoundStmts
+found_stmts stmts rest = record { stmts = stmts; rest = rest }
+
+abbrev pub with_stmt : StmtShape → FoundStmts → FoundStmts
+with_stmt stmt found = record { stmts = stmt ∷ found.stmts; rest = found.rest }
+
+-- the statements, at most `n` of them
+unfoldable pub statements_in : List ℕ → ℕ → List Token → Option FoundStmts
+statements_in text n [] = Some (found_stmts [] [])
+statements_in text zero (token ∷ tokens) = if is_word token.kind then None else Some (found_stmts [] (token ∷ tokens))
+statements_in text (suc n) (token ∷ tokens) =
+    if is_word token.kind
+    then option_and_then (λ first. option_map (with_stmt first.stmt) (statements_in text n first.rest)) (assignment_in text (token ∷ tokens))
+    else Some (found_stmts [] (token ∷ tokens))
+
+-- the tokens behind BEGIN where it is next, else all of them
+abbrev pub is_begin : Kind → Bool
+is_begin (kind.Word word.Begin) = true
+is_begin k = false
+
+abbrev pub behind_begin : List Token → List Token
+behind_begin [] = []
+behind_begin (token ∷ tokens) = if is_begin token.kind then tokens else token ∷ tokens
+
+abbrev pub is_closing : Kind → Bool
+is_closing (kind.Word word.EndFunctionBlock) = true
+is_closing k = false
+
+-- the tokens behind the END_FUNCTION_BLOCK that has to be next
+abbrev pub behind_closing : List Token → Option (List Token)
+behind_closing [] = None
+behind_closing (token ∷ tokens) = if is_closing token.kind then Some tokens else None
+
+abbrev pub is_opening : Kind → Bool
+is_opening (kind.Word word.FunctionBlock) = true
+is_opening k = false
+
+-- a block that was read, and the tokens behind it
+pub record FoundBlock : Type 0 where
+  pub block : BlockShape
+  pub rest : List Token
+
+abbrev pub block_of : Place → Name → List VarShape → List StmtShape → BlockShape
+block_of place name vars body = record { kind = Fb; name = name; vars = vars; value = None; body = body; place = place }
+
+abbrev pub found_block : BlockShape → List Token → FoundBlock
+found_block block rest = record { block = block; rest = rest }
+
+-- the block, once its body is read
+abbrev pub closed : Place → Name → List VarShape → FoundStmts → Option FoundBlock
+closed place name vars body = option_map (found_block (block_of place name vars body.stmts)) (behind_closing body.rest)
+
+abbrev pub body_in : List ℕ → List Token → Option FoundStmts
+body_in text tokens = statements_in text (length tokens) tokens
+
+abbrev pub block_in : List ℕ → List Token → Option FoundBlock
+block_in text [] = None
+block_in text (token ∷ tokens) =
+    if is_opening token.kind
+    then option_and_then (λ name. option_and_then (λ vars. option_and_then (closed token.place name.name vars.vars) (body_in text (behind_begin vars.rest)))
+        (variables_in text most_vars stage.Outside name.rest)) (name_in text tokens)
+    else None
+
+-- the name that all the tokens are
+abbrev pub whole_name_in : List ℕ → List Token → Option Name
+whole_name_in text tokens = option_and_then (λ found. ended found.name found.rest) (name_in text tokens)
+
+-- the block that all the tokens are, its head not looked at
+abbrev pub whole_block_in : List ℕ → List Token → Option BlockShape
+whole_block_in text tokens = option_and_then (λ found. ended found.block found.rest) (block_in text tokens)

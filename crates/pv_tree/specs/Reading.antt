@@ -65,7 +65,7 @@ pub record IsWellFormedBlock (block : BlockShape) : Type 0 where
   pub nesting : AllByRecursion (λ statement. statement_levels statement ≤ most_levels) block.body
   pub few : length block.vars ≤ most_vars
 
--- a word with which a section or the body begins
+-- a word with which a section or the body begins; a block with any other section has no tree today
 abbrev pub EndsHead : Kind → Type 0
 EndsHead k = (k ≡ kind.Word word.VarInput) ⊎ (k ≡ kind.Word word.VarOutput) ⊎ (k ≡ kind.Word word.Var) ⊎ (k ≡ kind.Word word.Begin)
 

@@ -1,6 +1,7 @@
 //! Function blocks.
 ghost use Rattle.std.specs.Prelude.{◌≡◌, ◌≤◌, IfOk, vec_len};
 ghost use Rattle.pv_tree.specs.Shape.{block_shape};
+ghost use Rattle.pv_tree.specs.Readers.{Gives, block_in, is_closing, without_begin};
 
 use super::MAX_VARS;
 use super::declarations::sections;

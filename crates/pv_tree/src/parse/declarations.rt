@@ -1,9 +1,11 @@
 //! The sections of declared variables.
 ghost use Rattle.std.specs.Prelude.{◌≡◌, ◌≤◌, IfOk, vec_len, map};
 ghost use Rattle.pv_tree.specs.Shape.{var_shape};
+ghost use Rattle.pv_tree.specs.Declarations.{declared_by};
+ghost use Rattle.pv_tree.specs.Readers.{Gives, found_vars, step_of, variables_in};
 
 use super::MAX_VARS;
-use super::front::word_name;
+use super::front::{next, word_name};
 use crate::fault::ReadFault;
 use crate::lex::{Kind, Token};
 use crate::tree::{DeclType, Section, Var};
@@ -48,11 +50,12 @@ pub fn sections<'a>(
     tokens: &'a [Token],
 ) -> Result<(Vec<Var>, &'a [Token]), ReadFault>
     ensures few { IfOk result (λ x. vec_len x.0 ≤ MAX_VARS) }
+    ensures reads { Gives (λ x. found_vars (map var_shape x.0.items) x.1.now) result (variables_in text.now MAX_VARS Stage.Outside tokens.now) }
 {
     let mut vars = Vec::new(alloc);
     let mut stage = Stage::Outside;
     let mut rest = tokens;
-    while let [token, behind @ ..] = rest {
+    while let Some((token, behind)) = next(rest) {
         match step_of(stage, token.kind) {
             Step::Behind => return Ok((vars, rest)),
             Step::Wrong => return Err(ReadFault::NotOfForm),
@@ -61,7 +64,7 @@ pub fn sections<'a>(
                 if vars.len() == MAX_VARS {
                     return Err(ReadFault::NotOfForm);
                 }
-                vars.push(declared(alloc, text, section, *token)?)?;
+                vars.push(declared(alloc, text, section, token)?)?;
                 stage = Stage::Named(section);
             }
         }
@@ -72,6 +75,7 @@ pub fn sections<'a>(
 
 /// What a token of this kind is at this stage.
 fn step_of(stage: Stage, kind: Kind) -> Step
+    ensures { result ≡ step_of stage kind }
 {
     match (stage, kind) {
         (Stage::Outside, Kind::Word(Word::VarInput)) => Step::To(Stage::Inside(Section::Input)),
@@ -79,7 +83,8 @@ fn step_of(stage: Stage, kind: Kind) -> Step
         (Stage::Outside, Kind::Word(Word::Var)) => Step::To(Stage::Inside(Section::Static)),
         (Stage::Outside, _) => Step::Behind,
         (Stage::Inside(_), Kind::Word(Word::EndVar)) => Step::To(Stage::Outside),
-        (Stage::Inside(s) | Stage::Naming(s), Kind::Word(Word::Plain)) => Step::Declare(s),
+        (Stage::Inside(s), Kind::Word(Word::Plain)) => Step::Declare(s),
+        (Stage::Naming(s), Kind::Word(Word::Plain)) => Step::Declare(s),
         (Stage::Named(s), Kind::Comma) => Step::To(Stage::Naming(s)),
         (Stage::Named(s), Kind::Colon) => Step::To(Stage::Typing(s)),
         (Stage::Typing(s), Kind::Word(Word::Bool)) => Step::To(Stage::Typed(s)),
@@ -90,6 +95,7 @@ fn step_of(stage: Stage, kind: Kind) -> Step
 
 /// The variable that a word declares.
 fn declared(alloc: Global, text: &[u8], section: Section, token: Token) -> Result<Var, AllocError>
+    ensures { IfOk result (λ var. var_shape var ≡ declared_by text.now section token) }
 {
     Ok(Var {
         name: word_name(alloc, text, token)?,
