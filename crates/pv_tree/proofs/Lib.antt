@@ -5,3 +5,5 @@ pub mod ExpressionsComplete
 pub mod ExpressionsSound
 pub mod Expressions
 pub mod Statements
+pub mod Declarations
+pub mod DeclarationsSound
