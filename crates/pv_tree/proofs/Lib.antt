@@ -7,3 +7,5 @@ pub mod Expressions
 pub mod Statements
 pub mod Declarations
 pub mod DeclarationsSound
+pub mod Names
+pub mod Blocks
