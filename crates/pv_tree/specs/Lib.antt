@@ -1,1 +1,4 @@
 pub mod Scope
+pub mod Tokens
+pub mod Stretches
+pub mod Words
