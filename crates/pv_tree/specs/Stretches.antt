@@ -6,7 +6,8 @@ use Rattle.pv_tree.specs.declared.lex.Kind.{Kind}
 use Rattle.pv_tree.specs.declared.lex.Kind.TheVariants as k
 use Rattle.pv_tree.specs.declared.lex.Stretch.{Stretch}
 use Rattle.pv_tree.specs.Words.{word_class}
-use Rattle.pv_tree.specs.Tokens.{is_space, is_letter, is_word_byte, is_area, is_width, is_blank, is_quotable, value_behind}
+use Rattle.pv_tree.specs.declared.lex.Token.{Token}
+use Rattle.pv_tree.specs.Tokens.{token_at, is_space, is_letter, is_word_byte, is_area, is_width, is_blank, is_quotable, value_behind}
 
 abbrev pub stretch : Option Kind → ℕ → Stretch
 stretch kind len = record { kind = kind; len = len }
@@ -67,3 +68,8 @@ stretch_of text =
     else (if first == 34 then quoted_of (drop 1 text)
     else (if first == 58 then Some (colon_of (drop 1 text))
     else option_map (λ kind. stretch (Some kind) 1) (sign_of first)))))
+
+-- the token of a stretch of this kind and length at this place of the file; none of white space
+abbrev pub tokens_of : ℕ → ℕ → Option Kind → ℕ → List Token
+tokens_of file at None len = []
+tokens_of file at (Some kind) len = token_at file at kind len ∷ []

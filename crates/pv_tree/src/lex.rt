@@ -2,12 +2,12 @@
 //!
 //! A text is cut into stretches without gaps, each the longest token or white space that begins at its place. A byte
 //! that begins no token of the form ends the reading, as does an open quote or a number of more than 64 bits.
-ghost use Rattle.std.specs.Prelude.{◌≡◌, ◌+◌, ◌<◌, ◌≤◌, ◌^◌, ◌==◌, length, List, option_map, IfSome, IfOk, IfErr};
+ghost use Rattle.std.specs.Prelude.{◌≡◌, ◌+◌, ◌<◌, ◌≤◌, ◌^◌, ◌==◌, length, List, option_map, IfSome, IfOk, IfErr, OnOk, ◌++◌, MatchOption, ◌*◌, ◌-◌};
 ghost use Rattle.std.specs.List.{prefix_len};
 ghost use Rattle.std.specs.Char.{is_ascii_digit};
-ghost use Rattle.pv_tree.specs.declared.fault.ReadFault.TheVariants.{NotOfForm};
+ghost use Rattle.pv_tree.specs.declared.fault.ReadFault.TheVariants.{NotOfForm, NoMemory};
 ghost use Rattle.pv_tree.specs.Tokens.{is_space, is_letter, is_word_byte, is_area, is_width, is_blank, is_quotable, token_at as token_of, AreTokens};
-ghost use Rattle.pv_tree.specs.Stretches.{stretch, sign_of, colon_of, quoted_of, goes_on, fits_64_bits, number_of, address_len as len_of_address, word_or_address_of, stretch_of};
+ghost use Rattle.pv_tree.specs.Stretches.{stretch, sign_of, colon_of, quoted_of, goes_on, fits_64_bits, number_of, address_len as len_of_address, word_or_address_of, stretch_of, tokens_of};
 
 use crate::fault::ReadFault;
 use crate::place::Place;
@@ -78,13 +78,28 @@ pub fn tokens(alloc: Global, file: u32, text: &[u8]) -> Result<Vec<Token>, ReadF
         let Some(stretch) = stretch_at(rest) else {
             return Err(ReadFault::NotOfForm);
         };
-        if let Some(kind) = stretch.kind {
-            tokens.push(token_at(file, at, kind, stretch.len))?;
-        }
+        push_token(&mut tokens, file, at, stretch)?;
         at += stretch.len;
     }
     tokens.push(token_at(file, at, Kind::End, 0))?;
     Ok(tokens)
+}
+
+/// Adds the token of the stretch that begins at `at`, where it isn't white space.
+fn push_token(
+    tokens: &mut Vec<Token>,
+    file: u32,
+    at: usize,
+    stretch: Stretch,
+) -> Result<(), ReadFault>
+    requires { at + stretch.len ≤ MAX_SOURCE }
+    ensures pushed { OnOk result (tokens.new.items ≡ tokens.old.items ++ tokens_of file at stretch.kind stretch.len) }
+    ensures refused { IfErr result (λ fault. fault ≡ NoMemory) }
+{
+    if let Some(kind) = stretch.kind {
+        tokens.push(token_at(file, at, kind, stretch.len))?;
+    }
+    Ok(())
 }
 
 /// The token of this kind that begins at `at` and has `len` bytes.
@@ -226,13 +241,20 @@ fn has_64_bits(digits: &[u8]) -> bool
 {
     let mut value = 0u64;
     for digit in digits {
-        let low = u64::from(digit.saturating_sub(b'0'));
-        let Some(next) = value.checked_mul(10).and_then(|v| v.checked_add(low)) else {
+        let Some(next) = with_digit(value, *digit) else {
             return false;
         };
         value = next;
     }
     true
+}
+
+/// The number with the digit behind it, or none where it has more than 64 bits.
+fn with_digit(value: u64, digit: u8) -> Option<u64>
+    ensures { MatchOption result (2 ^ 64 ≤ value * 10 + (digit - 48)) (λ v. v ≡ value * 10 + (digit - 48)) }
+{
+    let low = u64::from(digit.saturating_sub(b'0'));
+    value.checked_mul(10)?.checked_add(low)
 }
 
 /// The word or the address that begins the text with a letter or `_`: the longer one, of one length the address.
