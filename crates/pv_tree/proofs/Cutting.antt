@@ -1,6 +1,8 @@
 -- The tokens of a text: there is one list of them, and each of them lies in the text.
 use Rattle.std.proofs.Common.{◌≡◌, ℕ, zero, suc, ◌+◌, ◌-◌, ◌<◌, ◌≤◌, length, take, drop, ◌⊎◌, inl, inr, List, [], ◌∷◌, ◌++◌, Option, Some, None, refl, ap, sym, ◌∙◌, subst, arith, append_assoc, length-append, length-take, add_assoc, add-zero, zero-add}
 use Rattle.std.proofs.Math.Seq.{take-append_seam, drop-append_seam}
+use Rattle.std.specs.Prelude.{All}
+use Rattle.std.proofs.lemmas.List.Elements.{All-cons, All-nil}
 use Rattle.std.proofs.lemmas.List.{take-append-drop, drop-drop}
 use Rattle.pv_tree.specs.declared.words.Word.{Word}
 use Rattle.pv_tree.specs.declared.lex.Token.{Token}
@@ -166,3 +168,23 @@ pub AreTokens-ends : (file : ℕ) (text : List ℕ) (tokens : List Token) → Ar
 AreTokens-ends file text tokens d =
     let r = AreTokensFrom-some d in
     (r.0, r.1 ∙ ap (λ (m : ℕ). r.0 ++ token_at file m k.End 0 ∷ []) (zero-add (length text)))
+
+-- a token of this file that lies in the text, which ends at this place
+abbrev pub LiesIn : ℕ → ℕ → Token → Type 0
+LiesIn file end token = (token.place.file ≡ file) × (token.place.offset + token.len ≤ end)
+
+lie : {file at : ℕ} {text : List ℕ} {tokens : List Token} → AreTokensFrom file at text tokens → All (LiesIn file (at + length text)) tokens
+lie {file} {at} (finished e) =
+    subst (All (LiesIn file (at + 0))) (sym e) (All-cons (LiesIn file (at + 0)) (token_at file at k.End 0) [] (refl, omega arith) (All-nil (LiesIn file (at + 0))))
+lie {file} {at} {text} {tokens} (dropped bytes rest is n d) =
+    let place : (at + length bytes) + length rest ≡ at + length text = omega (arith, ap (length {A = ℕ}) is, length-append bytes rest) in
+    subst (λ (m : ℕ). All (LiesIn file m) tokens) place (lie d)
+lie {file} {at} {text} {tokens} (taken kind bytes rest others is n f e d) =
+    let place : (at + length bytes) + length rest ≡ at + length text = omega (arith, ap (length {A = ℕ}) is, length-append bytes rest) in
+    let inner : at + length bytes ≤ at + length text = omega (arith, place) in
+    subst (All (LiesIn file (at + length text))) (sym e)
+    (All-cons (LiesIn file (at + length text)) (token_at file at kind (length bytes)) others (refl, inner) (subst (λ (m : ℕ). All (LiesIn file m) others) place (lie d)))
+
+-- each token lies in the text
+pub AreTokens-lie : (file : ℕ) (text : List ℕ) (tokens : List Token) → AreTokens file text tokens → All (LiesIn file (length text)) tokens
+AreTokens-lie file text tokens d = subst (λ (m : ℕ). All (LiesIn file m) tokens) (zero-add (length text)) (lie d)

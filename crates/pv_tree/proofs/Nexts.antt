@@ -14,9 +14,9 @@ use Rattle.pv_tree.specs.declared.lex.Kind.TheVariants as k
 use Rattle.pv_tree.specs.declared.lex.Stretch.{Stretch}
 use Rattle.pv_tree.specs.Words.{word_class}
 use Rattle.pv_tree.specs.Tokens.{is_space, is_letter, is_word_byte, is_quotable, is_word, is_number, value_behind, IsQuoted, IsAddress, IsStretch, IsOfForm, IsNext}
-use Rattle.pv_tree.specs.Stretches.{stretch, sign_of, colon_of, quoted_of, goes_on, number_of, address_len, word_or_address_of, stretch_of}
+use Rattle.pv_tree.specs.Stretches.{stretch, sign_of, colon_of, quoted_of, goes_on, number_of, address_len, address_digits, word_or_address_of, stretch_of}
 use Rattle.pv_tree.proofs.Bytes.{letter-word_byte, area-letter, front_in, front-at_least, front-passes, Front, front-begins}
-use Rattle.pv_tree.proofs.Stretching.{at_space, at_letter, at_digit, word-is, word-letter, word-within, address-within, Addressed, address-is, address-taken, word-taken, number-digit, digits-number, joined-number, behind_digits, number-within, number-taken, Numbered, number-found, some-is, none-is, inner_len, quoted-taken, QuotedFound, quoted-found, quoted-is}
+use Rattle.pv_tree.proofs.Stretching.{at_space, at_letter, at_digit, word-is, word-letter, word-within, address-within, Addressed, address-is, address-taken, word-taken, word_at, address-narrow, AddressFound, address-found, digits-within, number-digit, digits-number, joined-number, behind_digits, number-within, number-taken, Numbered, number-found, some-is, none-is, inner_len, quoted-taken, QuotedFound, quoted-found, quoted-is}
 
 -- white space is of the form
 abbrev pub FormOf : Option Kind → List ℕ → Type 0
@@ -38,25 +38,25 @@ colon-low left =
       | inr off ↦ (let e : (colon_of left).len ≡ 1 = ap (λ (v : Bool). (cond v (stretch (Some k.Assign) 2) (stretch (Some k.Colon) 1)).len) off in omega arith)
     ]
 
-longer : (text : List ℕ) → (prefix_len is_word_byte text ≤ (word_or_address_of text).len) × (address_len text ≤ (word_or_address_of text).len)
-longer text =
+longer : (text : List ℕ) (s : Stretch) → word_or_address_of text ≡ Some s → (prefix_len is_word_byte text ≤ s.len) × (address_len text ≤ s.len)
+longer text s e =
     elim (cases_lt (address_len text) (prefix_len is_word_byte text)) [
-      | inl lt ↦ (let e = ap (λ (x : Stretch). x.len) (word-taken text lt) in (omega (arith, e), omega (arith, e)))
-      | inr ge ↦ (let e = ap (λ (x : Stretch). x.len) (address-taken text ge) in (omega (arith, e), omega (arith, e)))
+      | inl lt ↦ (let same = ap (λ (x : Stretch). x.len) (some-is (word_at text) s (sym (word-taken text lt) ∙ e)) in (omega (arith, same), omega (arith, same)))
+      | inr ge ↦ (let f : AddressFound text s = address-found text s (sym (address-taken text ge) ∙ e) in
+          let same = ap (λ (x : Stretch). x.len) f.is in (omega (arith, same), omega (arith, same)))
     ]
 
 -- the text that an address begins
-address-at : (bytes left : List ℕ) → IsAddress bytes → stretch_of (bytes ++ left) ≡ Some (word_or_address_of (bytes ++ left))
+address-at : (bytes left : List ℕ) → IsAddress bytes → stretch_of (bytes ++ left) ≡ word_or_address_of (bytes ++ left)
 address-at bytes left a =
-    subst (λ (x : List ℕ). stretch_of (x ++ left) ≡ Some (word_or_address_of (x ++ left))) (sym a.spelled)
+    subst (λ (x : List ℕ). stretch_of (x ++ left) ≡ word_or_address_of (x ++ left)) (sym a.spelled)
     (at_letter a.area (a.width ∷ ((a.blanks ++ a.digit ∷ a.digits) ++ left)) (area-letter a.area a.of_area))
 
 pub within : (other : Option Kind) (more left : List ℕ) (s : Stretch) → IsStretch other more → stretch_of (more ++ left) ≡ Some s → length more ≤ s.len
 within None more left s st e = at_bytes (st.0 ∷ []) left more (stretch None 1) s st.1 (at_space st.0 left st.2) (omega arith) e
 within (Some (k.Word word)) [] left s st e = omega arith
 within (Some (k.Word word)) (b ∷ bs) left s st e =
-    at_bytes (b ∷ bs) left (b ∷ bs) (word_or_address_of (b ∷ bs ++ left)) s refl (at_letter b (bs ++ left) (word-letter b bs st.0))
-    (omega (arith, word-within (b ∷ bs) left st.0, (longer (b ∷ bs ++ left)).0)) e
+    omega (arith, word-within (b ∷ bs) left st.0, (longer (b ∷ bs ++ left) s (sym (at_letter b (bs ++ left) (word-letter b bs st.0)) ∙ e)).0)
 within (Some k.Quoted) more left s st e =
     at_bytes (34 ∷ (st.inner ++ 34 ∷ [])) left more (stretch (Some k.Quoted) (length st.inner + 2)) s st.spelled (quoted-taken st.inner left st.quotable)
     (omega (arith, length-append st.inner (34 ∷ []))) e
@@ -65,8 +65,7 @@ within (Some k.Number) (d ∷ ds) left s st e =
     let f : Numbered (d ∷ (ds ++ left)) s = number-found (d ∷ (ds ++ left)) s (sym (at_digit d (ds ++ left) (number-digit d ds st)) ∙ e) in
     omega (arith, number-within (d ∷ ds) left st f.plain, ap (λ (x : Stretch). x.len) f.is)
 within (Some k.Address) more left s st e =
-    at_bytes more left more (word_or_address_of (more ++ left)) s refl (address-at more left st)
-    (omega (arith, address-within more left st, (longer (more ++ left)).1)) e
+    omega (arith, address-within more left st, (longer (more ++ left) s (sym (address-at more left st) ∙ e)).1)
 within (Some k.Assign) more left s st e = at_bytes (58 ∷ 61 ∷ []) left more (stretch (Some k.Assign) 2) s st refl (omega arith) e
 within (Some k.Open) more left s st e = at_bytes (40 ∷ []) left more (stretch (Some k.Open) 1) s st refl (omega arith) e
 within (Some k.Close) more left s st e = at_bytes (41 ∷ []) left more (stretch (Some k.Close) 1) s st refl (omega arith) e
@@ -84,19 +83,25 @@ pub record Found (text : List ℕ) (s : Stretch) : Type 0 where
   pub fits : s.len ≤ length text
   pub some : 0 < s.len
 
-letter-found : (b : ℕ) (rest : List ℕ) → is_letter b ≡ true → Found (b ∷ rest) (word_or_address_of (b ∷ rest))
-letter-found b rest on =
+letter-found : (b : ℕ) (rest : List ℕ) (s : Stretch) → is_letter b ≡ true → word_or_address_of (b ∷ rest) ≡ Some s → Found (b ∷ rest) s
+letter-found b rest s on e =
     let text : List ℕ = b ∷ rest in
     let n = front_in is_word_byte b rest (letter-word_byte b on) in
     elim (cases_lt (address_len text) (prefix_len is_word_byte text)) [
-      | inl lt ↦ subst (Found text) (sym (word-taken text lt)) (record {
+      | inl lt ↦ subst (Found text) (some-is (word_at text) s (sym (word-taken text lt) ∙ e)) (record {
           stretch = (word-is b rest on, refl);
           form = tt;
           fits = prefix_len-le-length is_word_byte text;
           some = omega (arith, n)
         })
       | inr ge ↦ (let a : Addressed text = address-is text (omega (arith, n)) in
-          subst (Found text) (sym (address-taken text ge)) (record { stretch = a.address; form = tt; fits = a.within; some = omega (arith, n) }))
+          let f : AddressFound text s = address-found text s (sym (address-taken text ge) ∙ e) in
+          subst (Found text) (sym f.is) (record {
+            stretch = a.address;
+            form = (a.address, subst (λ (ds : List ℕ). value_behind 0 ds < 2 ^ 64) (sym a.digits) f.low);
+            fits = a.within;
+            some = omega (arith, n)
+          }))
     ]
 
 digit-found : (b : ℕ) (rest : List ℕ) (s : Stretch) → is_ascii_digit b ≡ true → number_of (b ∷ rest) ≡ Some s → Found (b ∷ rest) s
@@ -167,7 +172,7 @@ found (b ∷ rest) s e =
     elim (cases_Bool (is_space b)) [
       | inl on ↦ subst (Found (b ∷ rest)) (some-is (stretch None 1) s (sym (at_space b rest on) ∙ e)) (record { stretch = (b, refl, on); form = tt; fits = omega arith; some = omega arith })
       | inr space ↦ elim (cases_Bool (is_letter b)) [
-        | inl on ↦ subst (Found (b ∷ rest)) (some-is (word_or_address_of (b ∷ rest)) s (sym (at_letter b rest on) ∙ e)) (letter-found b rest on)
+        | inl on ↦ letter-found b rest s on (sym (at_letter b rest on) ∙ e)
         | inr letter ↦ elim (cases_Bool (is_ascii_digit b)) [
           | inl on ↦ digit-found b rest s on (sym (at_digit b rest on) ∙ e)
           | inr digit ↦ other_found b rest s space letter digit e
@@ -180,10 +185,10 @@ found (b ∷ rest) s e =
 address-kind : (bytes rest : List ℕ) (s : Stretch) → IsAddress bytes → stretch_of (bytes ++ rest) ≡ Some s → length bytes ≡ s.len → s.kind ≡ Some k.Address
 address-kind bytes rest s a e same =
     let text : List ℕ = bytes ++ rest in
-    let is : word_or_address_of text ≡ s = some-is (word_or_address_of text) s (sym (address-at bytes rest a) ∙ e) in
+    let is : word_or_address_of text ≡ Some s = sym (address-at bytes rest a) ∙ e in
     elim (cases_lt (address_len text) (prefix_len is_word_byte text)) [
-      | inl lt ↦ absurd (omega (arith, ap (λ (x : Stretch). x.len) (sym (word-taken text lt) ∙ is), address-within bytes rest a))
-      | inr ge ↦ sym (ap (λ (x : Stretch). x.kind) (sym (address-taken text ge) ∙ is))
+      | inl lt ↦ absurd (omega (arith, ap (λ (x : Stretch). x.len) (some-is (word_at text) s (sym (word-taken text lt) ∙ is)), address-within bytes rest a))
+      | inr ge ↦ (let f : AddressFound text s = address-found text s (sym (address-taken text ge) ∙ is) in ap (λ (x : Stretch). x.kind) f.is)
     ]
 
 pub next-is : (text : List ℕ) (s : Stretch) → stretch_of text ≡ Some s → IsNext s.kind (take s.len text) (drop s.len text)
@@ -227,10 +232,9 @@ word-found word b bs rest next =
     let same : n ≡ length bytes = omega (arith, least, most) in
     let front : take n text ≡ bytes = ap (λ (m : ℕ). take m text) same ∙ take-append_seam bytes rest in
     elim (cases_lt (address_len text) n) [
-      | inl lt ↦ (let is : word_or_address_of text ≡ stretch (Some (k.Word (word_class (take n text)))) n = word-taken text lt in
-          at_letter b (bs ++ rest) letter ∙ ap Some (is
-            ∙ ap (λ (w : Word). stretch (Some (k.Word w)) n) (ap word_class front ∙ next.stretch.1)
-            ∙ ap (λ (m : ℕ). stretch (Some (k.Word word)) m) same))
+      | inl lt ↦ at_letter b (bs ++ rest) letter ∙ word-taken text lt ∙ ap Some (
+            ap (λ (w : Word). stretch (Some (k.Word w)) n) (ap word_class front ∙ next.stretch.1)
+            ∙ ap (λ (m : ℕ). stretch (Some (k.Word word)) m) same)
       | inr ge ↦ (let a : Addressed text = address-is text (omega (arith, ge, least)) in
           let short : address_len text ≤ length bytes = front-short (Some (k.Word word)) (Some k.Address) bytes rest (address_len text) next a.within a.address in
           let whole : address_len text ≡ length bytes = omega (arith, short, ge, least) in
@@ -249,17 +253,18 @@ word-short bytes rest next a =
     let st : is_word (take n text) ≡ true = subst (λ (t : List ℕ). is_word (take (prefix_len is_word_byte t) t) ≡ true) (sym whole) (word-is a.area tail letter) in
     front-short (Some k.Address) (Some (k.Word (word_class (take n text)))) bytes rest n next (prefix_len-le-length is_word_byte text) (st, refl)
 
-address-found : (bytes rest : List ℕ) → IsNext (Some k.Address) bytes rest → stretch_of (bytes ++ rest) ≡ Some (stretch (Some k.Address) (length bytes))
-address-found bytes rest next =
+address-next : (bytes rest : List ℕ) → IsNext (Some k.Address) bytes rest → IsOfForm k.Address bytes → stretch_of (bytes ++ rest) ≡ Some (stretch (Some k.Address) (length bytes))
+address-next bytes rest next form =
     let text : List ℕ = bytes ++ rest in
-    let a : IsAddress bytes = next.stretch in
+    let a : IsAddress bytes = form.0 in
     let least : length bytes ≤ address_len text = address-within bytes rest a in
     let some : 0 < length bytes = omega (arith, ap (length {A = ℕ}) a.spelled) in
     let d : Addressed text = address-is text (omega (arith, least, some)) in
     let most : address_len text ≤ length bytes = front-short (Some k.Address) (Some k.Address) bytes rest (address_len text) next d.within d.address in
     let same : address_len text ≡ length bytes = omega (arith, least, most) in
     let word : prefix_len is_word_byte text ≤ length bytes = word-short bytes rest next a in
-    address-at bytes rest a ∙ ap Some (address-taken text (omega (arith, word, same)) ∙ ap (λ (m : ℕ). stretch (Some k.Address) m) same)
+    let low : value_behind 0 (address_digits text) < 2 ^ 64 = subst (λ (ds : List ℕ). value_behind 0 ds < 2 ^ 64) (sym (digits-within bytes rest a same)) form.1 in
+    address-at bytes rest a ∙ address-taken text (omega (arith, word, same)) ∙ address-narrow text low ∙ ap (λ (m : ℕ). Some (stretch (Some k.Address) m)) same
 
 -- what begins with `_` and a digit
 goes_on-is : (rest : List ℕ) → goes_on rest ≡ true → (e : ℕ) × (r : List ℕ) × (rest ≡ 95 ∷ e ∷ r) × (is_ascii_digit e ≡ true)
@@ -318,7 +323,7 @@ next-found (Some k.Quoted) bytes rest next form =
     found_bytes (34 ∷ (q.inner ++ 34 ∷ [])) bytes rest (Some k.Quoted) q.spelled (quoted-taken q.inner rest q.quotable ∙ ap (λ (m : ℕ). Some (stretch (Some k.Quoted) m)) len)
 next-found (Some k.Number) [] rest next form = absurd (false≢true next.stretch)
 next-found (Some k.Number) (d ∷ ds) rest next form = number-next d ds rest next form
-next-found (Some k.Address) bytes rest next form = address-found bytes rest next
+next-found (Some k.Address) bytes rest next form = address-next bytes rest next form
 next-found (Some k.Assign) bytes rest next form = found_bytes (58 ∷ 61 ∷ []) bytes rest (Some k.Assign) next.stretch refl
 next-found (Some k.Open) bytes rest next form = found_bytes (40 ∷ []) bytes rest (Some k.Open) next.stretch refl
 next-found (Some k.Close) bytes rest next form = found_bytes (41 ∷ []) bytes rest (Some k.Close) next.stretch refl

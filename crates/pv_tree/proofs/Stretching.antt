@@ -14,15 +14,15 @@ use Rattle.pv_tree.specs.declared.lex.Kind.TheVariants as k
 use Rattle.pv_tree.specs.declared.lex.Stretch.{Stretch}
 use Rattle.pv_tree.specs.Words.{word_class}
 use Rattle.pv_tree.specs.Tokens.{is_space, is_letter, is_word_byte, is_area, is_width, is_blank, is_quotable, is_word, is_number, value_behind, IsQuoted, IsAddress, IsStretch, IsOfForm, IsNext}
-use Rattle.pv_tree.specs.Stretches.{stretch, sign_of, colon_of, quoted_of, goes_on, fits_64_bits, number_of, address_len, word_or_address_of, stretch_of}
+use Rattle.pv_tree.specs.Stretches.{stretch, sign_of, colon_of, quoted_of, goes_on, fits_64_bits, number_of, address_len, address_digits, address_of, word_or_address_of, stretch_of}
 use Rattle.pv_tree.proofs.Bytes.{letter-no_space, digit-no_space, digit-no_letter, digit-no_blank, digit-no_joint, letter-word_byte, area-letter, front_in, front_out, front-at_least, front-exact, front-passes, Front, front-begins}
 
 -- ---- the stretch by the first byte
 
 pub at_space : (b : ℕ) (rest : List ℕ) → is_space b ≡ true → stretch_of (b ∷ rest) ≡ Some (stretch None 1)
-at_space b rest e = ap (λ (v : Bool). cond v (Some (stretch None 1)) (cond (is_letter b) (Some (word_or_address_of (b ∷ rest))) (cond (is_ascii_digit b) (number_of (b ∷ rest)) (cond (b == 34) (quoted_of rest) (cond (b == 58) (Some (colon_of rest)) (option_map (λ (kind : Kind). stretch (Some kind) 1) (sign_of b))))))) e
+at_space b rest e = ap (λ (v : Bool). cond v (Some (stretch None 1)) (cond (is_letter b) (word_or_address_of (b ∷ rest)) (cond (is_ascii_digit b) (number_of (b ∷ rest)) (cond (b == 34) (quoted_of rest) (cond (b == 58) (Some (colon_of rest)) (option_map (λ (kind : Kind). stretch (Some kind) 1) (sign_of b))))))) e
 
-pub at_letter : (b : ℕ) (rest : List ℕ) → is_letter b ≡ true → stretch_of (b ∷ rest) ≡ Some (word_or_address_of (b ∷ rest))
+pub at_letter : (b : ℕ) (rest : List ℕ) → is_letter b ≡ true → stretch_of (b ∷ rest) ≡ word_or_address_of (b ∷ rest)
 at_letter b rest e = rw (letter-no_space b e, e) refl
 
 pub at_digit : (b : ℕ) (rest : List ℕ) → is_ascii_digit b ≡ true → stretch_of (b ∷ rest) ≡ number_of (b ∷ rest)
@@ -59,12 +59,12 @@ address-on a w rest ea ew et = rw (ea, ew, et) refl
 
 tail-at_least : (blanks : List ℕ) (digit : ℕ) (digits more : List ℕ) → list_all is_blank blanks ≡ true → is_ascii_digit digit ≡ true → list_all is_ascii_digit digits ≡ true
     → (rest : List ℕ) → rest ≡ blanks ++ digit ∷ (digits ++ more)
-    → (prefix_len is_blank rest ≡ length blanks) × (suc (length digits) ≤ prefix_len is_ascii_digit (drop (prefix_len is_blank rest) rest))
+    → (prefix_len is_blank rest ≡ length blanks) × (suc (length digits) ≤ prefix_len is_ascii_digit (drop (prefix_len is_blank rest) rest)) × (drop (prefix_len is_blank rest) rest ≡ digit ∷ (digits ++ more))
 tail-at_least blanks digit digits more eb ed eds rest is =
     let n : prefix_len is_blank rest ≡ length blanks = ap (prefix_len is_blank) is ∙ front-exact is_blank blanks digit (digits ++ more) eb (digit-no_blank digit ed) in
     let behind : drop (prefix_len is_blank rest) rest ≡ digit ∷ (digits ++ more) = ap (λ (m : ℕ). drop m rest) n ∙ ap (drop (length blanks)) is ∙ drop-append_seam blanks (digit ∷ (digits ++ more)) in
     let least : suc (length digits) ≤ prefix_len is_ascii_digit (digit ∷ (digits ++ more)) = front-at_least is_ascii_digit (digit ∷ digits) more (and_from (is_ascii_digit digit) (list_all is_ascii_digit digits) ed eds) in
-    (n, subst (λ (t : List ℕ). suc (length digits) ≤ prefix_len is_ascii_digit t) (sym behind) least)
+    (n, subst (λ (t : List ℕ). suc (length digits) ≤ prefix_len is_ascii_digit t) (sym behind) least, behind)
 
 -- an address that begins a text is no longer than the one that is found there
 pub address-within : (bytes rest : List ℕ) → IsAddress bytes → length bytes ≤ address_len (bytes ++ rest)
@@ -77,10 +77,24 @@ address-within bytes rest a =
     let own : length bytes ≡ 2 + (length a.blanks + suc (length a.digits)) = ap length a.spelled ∙ omega (arith, length-append a.blanks (a.digit ∷ a.digits)) in
     omega (arith, len, own)
 
+-- where it is as long, its digits are found
+pub digits-within : (bytes rest : List ℕ) (a : IsAddress bytes) → address_len (bytes ++ rest) ≡ length bytes → address_digits (bytes ++ rest) ≡ a.digit ∷ a.digits
+digits-within bytes rest a same =
+    let tail : List ℕ = (a.blanks ++ a.digit ∷ a.digits) ++ rest in
+    let whole : bytes ++ rest ≡ a.area ∷ a.width ∷ tail = ap (λ (t : List ℕ). t ++ rest) a.spelled in
+    let t = tail-at_least a.blanks a.digit a.digits rest a.blank a.first a.decimal tail (append_assoc a.blanks (a.digit ∷ a.digits) rest) in
+    let behind : List ℕ = drop (prefix_len is_blank tail) tail in
+    let there : has_tail tail ≡ true = lt-ltb 0 (prefix_len is_ascii_digit behind) (omega arith) in
+    let len : address_len (bytes ++ rest) ≡ 2 + prefix_len is_blank tail + prefix_len is_ascii_digit behind = ap address_len whole ∙ address-on a.area a.width tail a.of_area a.of_width there in
+    let own : length bytes ≡ 2 + (length a.blanks + suc (length a.digits)) = ap length a.spelled ∙ omega (arith, length-append a.blanks (a.digit ∷ a.digits)) in
+    let n : prefix_len is_ascii_digit behind ≡ suc (length a.digits) = omega (arith, len, own, same, t.0) in
+    ap address_digits whole ∙ ap (λ (m : ℕ). take m behind) n ∙ ap (take (suc (length a.digits))) t.2 ∙ take-append_seam (a.digit ∷ a.digits) rest
+
 -- what is found of an address is one
 pub record Addressed (text : List ℕ) : Type 0 where
   pub address : IsAddress (take (address_len text) text)
   pub within : address_len text ≤ length text
+  pub digits : address.digit ∷ address.digits ≡ address_digits text
 
 tail-is : (a w : ℕ) (rest : List ℕ) → is_area a ≡ true → is_width w ≡ true → has_tail rest ≡ true → Addressed (a ∷ w ∷ rest)
 tail-is a w rest ea ew et =
@@ -104,7 +118,8 @@ tail-is a w rest ea ew et =
         first = f.passes;
         decimal = f.pass
       };
-      within = omega (arith, len, prefix_len-le-length is_blank rest, prefix_len-le-length is_ascii_digit behind, length-drop blanks rest)
+      within = omega (arith, len, prefix_len-le-length is_blank rest, prefix_len-le-length is_ascii_digit behind, length-drop blanks rest);
+      digits = sym f.spelled
     }
 
 no_address : (text : List ℕ) → (is_area (slice_index text 0) && (is_width (slice_index text 1) && has_tail (drop 2 text))) ≡ false → address_len text ≡ 0
@@ -123,13 +138,47 @@ address-is (a ∷ w ∷ rest) h =
 
 -- ---- the word or the address
 
--- what is found is the address where it isn't the shorter one
-pub address-taken : (text : List ℕ) → prefix_len is_word_byte text ≤ address_len text → word_or_address_of text ≡ stretch (Some k.Address) (address_len text)
-address-taken text h = ap (λ (v : Bool). cond v (stretch (Some k.Address) (address_len text)) (stretch (Some (k.Word (word_class (take (prefix_len is_word_byte text) text)))) (prefix_len is_word_byte text))) (le-leb (prefix_len is_word_byte text) (address_len text) h)
+abbrev pub word_at : List ℕ → Stretch
+word_at text = stretch (Some (k.Word (word_class (take (prefix_len is_word_byte text) text)))) (prefix_len is_word_byte text)
 
-pub word-taken : (text : List ℕ) → address_len text < prefix_len is_word_byte text
-    → word_or_address_of text ≡ stretch (Some (k.Word (word_class (take (prefix_len is_word_byte text) text)))) (prefix_len is_word_byte text)
-word-taken text h = ap (λ (v : Bool). cond v (stretch (Some k.Address) (address_len text)) (stretch (Some (k.Word (word_class (take (prefix_len is_word_byte text) text)))) (prefix_len is_word_byte text))) (lt-leb (prefix_len is_word_byte text) (address_len text) h)
+-- what is found is the address where it isn't the shorter one
+pub address-taken : (text : List ℕ) → prefix_len is_word_byte text ≤ address_len text → word_or_address_of text ≡ address_of text
+address-taken text h = ap (λ (v : Bool). cond v (address_of text) (Some (word_at text))) (le-leb (prefix_len is_word_byte text) (address_len text) h)
+
+pub word-taken : (text : List ℕ) → address_len text < prefix_len is_word_byte text → word_or_address_of text ≡ Some (word_at text)
+word-taken text h = ap (λ (v : Bool). cond v (address_of text) (Some (word_at text))) (lt-leb (prefix_len is_word_byte text) (address_len text) h)
+
+pub address-narrow : (text : List ℕ) → value_behind 0 (address_digits text) < 2 ^ 64 → address_of text ≡ Some (stretch (Some k.Address) (address_len text))
+address-narrow text low = ap (λ (v : Bool). cond v (Some (stretch (Some k.Address) (address_len text))) None) (lt-ltb (value_behind 0 (address_digits text)) (2 ^ 64) low)
+
+pub none-is : {X : Type 0} (x : X) → None ≡ Some x → ⊥
+none-is x e = cc
+
+pub some-is : {X : Type 0} (x y : X) → Some x ≡ Some y → x ≡ y
+some-is x y e = cc
+
+-- what an address that was found says
+pub record AddressFound (text : List ℕ) (s : Stretch) : Type 0 where
+  pub is : s ≡ stretch (Some k.Address) (address_len text)
+  pub low : value_behind 0 (address_digits text) < 2 ^ 64
+
+pub address-found : (text : List ℕ) (s : Stretch) → address_of text ≡ Some s → AddressFound text s
+address-found text s e =
+    elim (cases_Bool (fits_64_bits (address_digits text))) [
+      | inl on ↦ (let same = ap (λ (v : Bool). cond v (Some (stretch (Some k.Address) (address_len text))) None) on in
+          record {
+            is = some-is s (stretch (Some k.Address) (address_len text)) (sym e ∙ same);
+            low = ltb-true (value_behind 0 (address_digits text)) (2 ^ 64) on
+          })
+      | inr off ↦ (let same = ap (λ (v : Bool). cond v (Some (stretch (Some k.Address) (address_len text))) None) off in
+          absurd (none-is s (sym same ∙ e)))
+    ]
+
+-- a text of one byte or none has no digits of an address
+pub short-fits : (text : List ℕ) → length text < 2 → true ≡ fits_64_bits (address_digits text)
+short-fits [] h = refl
+short-fits (b ∷ []) h = refl
+short-fits (b ∷ c ∷ rest) h = absurd (omega arith)
 
 -- ---- numbers
 
@@ -189,12 +238,6 @@ pub number-taken : (text : List ℕ) → goes_on (behind_digits text) ≡ false 
 number-taken text plain low =
     ap (λ (v : Bool). cond v (Some (stretch (Some k.Number) (prefix_len is_ascii_digit text))) None)
     (and_from (not (goes_on (behind_digits text))) (fits_64_bits (take (prefix_len is_ascii_digit text) text)) (ap not plain) (lt-ltb (value_behind 0 (take (prefix_len is_ascii_digit text) text)) (2 ^ 64) low))
-
-pub none-is : {X : Type 0} (x : X) → None ≡ Some x → ⊥
-none-is x e = cc
-
-pub some-is : {X : Type 0} (x y : X) → Some x ≡ Some y → x ≡ y
-some-is x y e = cc
 
 -- what a number that was found says
 pub record Numbered (text : List ℕ) (s : Stretch) : Type 0 where

@@ -2,7 +2,8 @@
 use Rattle.std.proofs.Common.{◌≡◌, ℕ, zero, suc, ◌+◌, ◌<◌, length, get_or, drop, map, Bool, true, false, cond, List, [], ◌∷◌, Option, Some, None, refl, ap, arith}
 use Rattle.pv_tree.specs.declared.words.Word.{Word}
 use Rattle.pv_tree.specs.declared.words.Keyword.{Keyword}
-use Rattle.pv_tree.specs.Words.{is_same, meaning, entry_of}
+use Rattle.pv_tree.specs.Words.{is_same, meaning}
+use Rattle.pv_tree.specs.Stretches.{entry_of}
 
 pub meaning-here : (text : List ℕ) (ks : List Keyword) (i : ℕ) (d : Keyword) → i < length ks → is_same text (get_or ks i d).spelling.now ≡ true
     → meaning (drop i (map entry_of ks)) text ≡ Some (get_or ks i d).word

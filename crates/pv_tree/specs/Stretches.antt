@@ -1,10 +1,12 @@
--- The stretch that begins a text, found from left to right. No public clause cites this.
+-- The stretch that begins a text, found from left to right, and the table of keywords as the code has it. No public clause cites this.
 use Rattle.std.specs.Prelude.{ℕ, suc, ◌+◌, ◌^◌, Bool, true, false, ◌&&◌, not, nat_lt, nat_le, ◌==◌, if◌then◌else◌, List, [], ◌∷◌, length, take, drop, slice_index, Option, Some, None, option_map}
 use Rattle.std.specs.List.{prefix_len}
 use Rattle.std.specs.Char.{is_ascii_digit}
 use Rattle.pv_tree.specs.declared.lex.Kind.{Kind}
 use Rattle.pv_tree.specs.declared.lex.Kind.TheVariants as k
 use Rattle.pv_tree.specs.declared.lex.Stretch.{Stretch}
+use Rattle.pv_tree.specs.declared.words.Word.{Word}
+use Rattle.pv_tree.specs.declared.words.Keyword.{Keyword}
 use Rattle.pv_tree.specs.Words.{word_class}
 use Rattle.pv_tree.specs.declared.lex.Token.{Token}
 use Rattle.pv_tree.specs.Tokens.{token_at, is_space, is_letter, is_word_byte, is_area, is_width, is_blank, is_quotable, value_behind}
@@ -51,19 +53,30 @@ address_len text =
     let digits = prefix_len is_ascii_digit (drop blanks (drop 2 text)) in
     if is_area (slice_index text 0) && (is_width (slice_index text 1) && nat_lt 0 digits) then 2 + blanks + digits else 0
 
+-- the digits of that address
+abbrev pub address_digits : List ℕ → List ℕ
+address_digits text =
+    let blanks = prefix_len is_blank (drop 2 text) in
+    let behind = drop blanks (drop 2 text) in
+    take (prefix_len is_ascii_digit behind) behind
+
+-- that address
+abbrev pub address_of : List ℕ → Option Stretch
+address_of text = if fits_64_bits (address_digits text) then Some (stretch (Some k.Address) (address_len text)) else None
+
 -- the word or the address that begins the text with a letter
-abbrev pub word_or_address_of : List ℕ → Stretch
+abbrev pub word_or_address_of : List ℕ → Option Stretch
 word_or_address_of text =
     let len = prefix_len is_word_byte text in
-    if nat_le len (address_len text) then stretch (Some k.Address) (address_len text)
-    else stretch (Some (k.Word (word_class (take len text)))) len
+    if nat_le len (address_len text) then address_of text
+    else Some (stretch (Some (k.Word (word_class (take len text)))) len)
 
 -- the stretch that begins the text
 abbrev pub stretch_of : List ℕ → Option Stretch
 stretch_of text =
     let first = slice_index text 0 in
     if is_space first then Some (stretch None 1)
-    else (if is_letter first then Some (word_or_address_of text)
+    else (if is_letter first then word_or_address_of text
     else (if is_ascii_digit first then number_of text
     else (if first == 34 then quoted_of (drop 1 text)
     else (if first == 58 then Some (colon_of (drop 1 text))
@@ -73,3 +86,7 @@ stretch_of text =
 abbrev pub tokens_of : ℕ → ℕ → Option Kind → ℕ → List Token
 tokens_of file at None len = []
 tokens_of file at (Some kind) len = token_at file at kind len ∷ []
+
+-- a keyword of the code as an entry of the definition's table
+abbrev pub entry_of : Keyword → List ℕ × Word
+entry_of keyword = (keyword.spelling.now, keyword.word)

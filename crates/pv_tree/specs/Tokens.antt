@@ -60,7 +60,8 @@ pub record IsQuoted (bytes : List ℕ) : Type 0 where
   pub spelled : bytes ≡ 34 ∷ (inner ++ 34 ∷ [])
   pub quotable : IsTrue (list_all is_quotable inner)
 
--- the address of a byte, word or double word: an area, a width, blanks and tabs or none, and digits
+-- the address of a byte, word or double word: an area, a width, blanks and tabs or none, and digits. (The addresses of bits and
+-- those with `%` are further shapes; `.` and `%` begin no token today.)
 pub record IsAddress (bytes : List ℕ) : Type 0 where
   pub area : ℕ
   pub width : ℕ
@@ -90,9 +91,10 @@ IsStretch (Some k.Colon) bytes = bytes ≡ codes ":"
 IsStretch (Some k.Comma) bytes = bytes ≡ codes ","
 IsStretch (Some k.End) bytes = ⊥
 
--- a token that is read today: a number is plain digits, of at most 64 bits
+-- a token that is read today: a number is plain digits, and it and the number of an address have at most 64 bits
 abbrev pub IsOfForm : Kind → List ℕ → Type 0
 IsOfForm k.Number bytes = IsTrue (list_all is_ascii_digit bytes) × (value_behind 0 bytes < 2 ^ 64)
+IsOfForm k.Address bytes = (address : IsAddress bytes) × (value_behind 0 (address.digit ∷ address.digits) < 2 ^ 64)
 IsOfForm _ bytes = ⊤
 
 -- the stretch that begins a text whose rest is this: no longer one begins there, and what is a word and an address is an address

@@ -4,7 +4,6 @@ use Rattle.std.specs.List.{list_all, list_any}
 use Rattle.std.specs.Str.{str_eq_ignore_ascii_case}
 use Rattle.std.specs.Char.{is_ascii_digit}
 use Rattle.pv_tree.specs.declared.words.Word.{Word}
-use Rattle.pv_tree.specs.declared.words.Keyword.{Keyword}
 use Rattle.pv_tree.specs.declared.words.Word.TheVariants as w
 
 -- the keywords of the form that is read, and what each is
@@ -95,10 +94,6 @@ is_numbered_one words text = list_any (λ word. is_numbered text word) words
 abbrev pub meaning : List (List ℕ × Word) → List ℕ → Option Word
 meaning [] text = None
 meaning (entry ∷ rest) text = if is_same text entry.0 then Some entry.1 else meaning rest text
-
--- a keyword of the code as such an entry
-abbrev pub entry_of : Keyword → List ℕ × Word
-entry_of keyword = (keyword.spelling.now, keyword.word)
 
 -- a word that names no variable
 unfoldable pub is_reserved : List ℕ → Bool

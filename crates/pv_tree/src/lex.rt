@@ -7,7 +7,7 @@ ghost use Rattle.std.specs.List.{prefix_len};
 ghost use Rattle.std.specs.Char.{is_ascii_digit};
 ghost use Rattle.pv_tree.specs.declared.fault.ReadFault.TheVariants.{NotOfForm, NoMemory};
 ghost use Rattle.pv_tree.specs.Tokens.{is_space, is_letter, is_word_byte, is_area, is_width, is_blank, is_quotable, token_at as token_of, AreTokens};
-ghost use Rattle.pv_tree.specs.Stretches.{stretch, sign_of, colon_of, quoted_of, goes_on, fits_64_bits, number_of, address_len as len_of_address, word_or_address_of, stretch_of, tokens_of};
+ghost use Rattle.pv_tree.specs.Stretches.{stretch, sign_of, colon_of, quoted_of, goes_on, fits_64_bits, number_of, address_len as len_of_address, address_digits, word_or_address_of, stretch_of, tokens_of};
 
 use crate::fault::ReadFault;
 use crate::place::Place;
@@ -129,7 +129,7 @@ fn stretch_at(text: &[u8]) -> Option<Stretch>
         return Some(Stretch { kind: None, len: 1 });
     }
     if is_letter(first) {
-        return Some(word_or_address_at(text));
+        return word_or_address_at(text);
     }
     if first.is_ascii_digit() {
         return number_at(text);
@@ -257,26 +257,41 @@ fn with_digit(value: u64, digit: u8) -> Option<u64>
     value.checked_mul(10)?.checked_add(low)
 }
 
-/// The word or the address that begins the text with a letter or `_`: the longer one, of one length the address.
-fn word_or_address_at(text: &[u8]) -> Stretch
-    requires { 0 < length text.now }
-    ensures high { result.len ≤ length text.now }
+/// The word or the address that begins the text with a letter or `_`: the longer one, of one length the address. None
+/// where the address has a number of over 64 bits.
+fn word_or_address_at(text: &[u8]) -> Option<Stretch>
+    ensures within { IfSome result (λ s. s.len ≤ length text.now) }
     ensures exact { result ≡ word_or_address_of text.now }
 {
     let len = word_len(text);
     let address = address_len(text);
     if len <= address {
-        Stretch {
+        if !is_narrow_address(text) {
+            return None;
+        }
+        return Some(Stretch {
             kind: Some(Kind::Address),
             len: address,
-        }
-    } else {
-        let (word, _rest) = text.split_at(len);
-        Stretch {
-            kind: Some(Kind::Word(word_of(word))),
-            len,
-        }
+        });
     }
+    let (word, _rest) = text.split_at(len);
+    Some(Stretch {
+        kind: Some(Kind::Word(word_of(word))),
+        len,
+    })
+}
+
+/// Whether the number of the address that begins the text has at most 64 bits.
+fn is_narrow_address(text: &[u8]) -> bool
+    ensures { result ≡ fits_64_bits (address_digits text.now) }
+{
+    if text.len() < 2 {
+        return true;
+    }
+    let (_letters, rest) = text.split_at(2);
+    let (_blanks, rest) = rest.split_at(blanks_len(rest));
+    let (digits, _rest) = rest.split_at(digits_len(rest));
+    has_64_bits(digits)
 }
 
 /// The length of the address of a byte, word or double word that begins the text: an area, a width, blanks and digits.

@@ -4,7 +4,8 @@
 ghost use Rattle.std.specs.Prelude.{◌≡◌, map};
 ghost use Rattle.std.specs.List.{list_any, list_all};
 ghost use Rattle.std.specs.Char.{is_ascii_digit};
-ghost use Rattle.pv_tree.specs.Words.{is_same, is_one_of, is_numbered, is_numbered_one, is_reserved, word_class, is_header_word, class_beside_keywords, entry_of, meaning, keywords, numbering, absolute, grammar_words, functions, outside};
+ghost use Rattle.pv_tree.specs.Stretches.{entry_of};
+ghost use Rattle.pv_tree.specs.Words.{is_same, is_one_of, is_numbered, is_numbered_one, is_reserved, word_class, is_header_word, class_beside_keywords, meaning, keywords, numbering, absolute, grammar_words, functions, outside};
 
 /// What a word is.
 #[derive(Clone, Copy, PartialEq, Eq, Debug)]

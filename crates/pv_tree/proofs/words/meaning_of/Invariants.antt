@@ -1,5 +1,6 @@
 use Rattle.std.proofs.Common.{◌≡◌, drop, map}
-use Rattle.pv_tree.specs.Words.{meaning, entry_of}
+use Rattle.pv_tree.specs.Words.{meaning}
+use Rattle.pv_tree.specs.Stretches.{entry_of}
 use Rattle.pv_tree.proofs.words.meaning_of.Given as goal
 
 abbrev pub invariant-loop-keyword : goal.invariant-loop-keyword
