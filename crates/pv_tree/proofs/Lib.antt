@@ -9,3 +9,10 @@ pub mod Declarations
 pub mod DeclarationsSound
 pub mod Names
 pub mod Blocks
+mod WordLemmas
+mod Numbers
+mod Bytes
+mod Stretching
+mod Nexts
+pub mod Cutting
+pub mod Readings

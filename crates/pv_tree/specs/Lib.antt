@@ -5,3 +5,6 @@ pub mod Declarations
 pub mod Reading
 pub mod Readers
 pub mod Scope
+pub mod Tokens
+pub mod Stretches
+pub mod Words

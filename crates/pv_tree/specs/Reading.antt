@@ -1,5 +1,5 @@
 -- What a source, an expression and a block's name read as.
-use Rattle.std.specs.Prelude.{◌≡◌, ◌⊎◌, ℕ, ◌+◌, ◌-◌, ◌≤◌, List, [], ◌∷◌, ◌++◌, length, take, drop, codes, None, All, Contains}
+use Rattle.std.specs.Prelude.{◌≡◌, ◌⊎◌, ℕ, ◌+◌, ◌-◌, ◌≤◌, List, [], ◌∷◌, ◌++◌, length, take, drop, IsTrue, None, All, Contains}
 use Rattle.std.specs.List.{AllByRecursion}
 use Rattle.std.specs.Str.{str_to_ascii_lowercase}
 use Rattle.pv_tree.specs.declared.name.Name.{Name}
@@ -12,6 +12,8 @@ use Rattle.pv_tree.specs.Shape.{ExprShape, BlockShape}
 use Rattle.pv_tree.specs.Expressions.{text_of, IsAt, plain_name, SpellsExpression, IsWellFormed, levels}
 use Rattle.pv_tree.specs.Statements.{SpellsStatements, IsWellFormedStatement, statement_levels, most_levels}
 use Rattle.pv_tree.specs.Declarations.{SpellsVariables}
+use Rattle.pv_tree.specs.Tokens.{AreTokens}
+use Rattle.pv_tree.specs.Words.{is_header_word}
 
 -- the most bytes that a source has
 abbrev pub most_bytes : ℕ
@@ -75,20 +77,24 @@ end_of [] = 0
 end_of (token ∷ []) = token.place.offset + token.len
 end_of (token ∷ next ∷ tokens) = end_of (next ∷ tokens)
 
--- the words that begin a header line
-abbrev pub header_words : List (List ℕ)
-header_words = codes "title" ∷ codes "author" ∷ codes "family" ∷ codes "name" ∷ codes "version" ∷ codes "know_how_protect" ∷ []
+-- a line begins between a place and the token
+abbrev pub BeginsLine : List ℕ → ℕ → Token → Type 0
+BeginsLine text end token = Contains (take (token.place.offset - end) (drop end text)) 10
 
--- a header line stands in a block's head: before the first section and the body a header word stands first on its line
+-- the token is a header word and stands first on its line, the token before it ending at this place
+pub record IsHeaderAt (text : List ℕ) (end : ℕ) (token : Token) : Type 0 where
+  pub kind : token.kind ≡ kind.Word word.Plain
+  pub word : IsTrue (is_header_word (text_of text token))
+  pub first : BeginsLine text end token
+
+-- a header line stands in a block's head: a header word first on its line, before the first section and the body
 pub record HasHeaderLine (text : List ℕ) (tokens : List Token) : Type 0 where
   pub before : List Token
   pub header : Token
   pub behind : List Token
   pub parts : tokens ≡ before ++ (header ∷ behind)
   pub head : All (λ token. EndsHead token.kind → ⊥) before
-  pub kind : header.kind ≡ kind.Word word.Plain
-  pub is : Contains header_words (str_to_ascii_lowercase (text_of text header))
-  pub first : Contains (take (header.place.offset - end_of before) (drop (end_of before) text)) 10
+  pub is : IsHeaderAt text (end_of before) header
 
 -- the tokens of a text, ended by End, read as this block
 pub record TokensReadBlock (text : List ℕ) (tokens : List Token) (block : BlockShape) : Type 0 where
@@ -117,3 +123,24 @@ pub record TokensReadName (text : List ℕ) (tokens : List Token) (name : Name) 
   pub parts : tokens ≡ inner ++ (ending ∷ [])
   pub ends : ending.kind ≡ kind.End
   pub spelled : SpellsName text name inner
+
+-- the text of this file reads as the block
+pub record ReadsBlock (file : ℕ) (text : List ℕ) (block : BlockShape) : Type 0 where
+  pub size : length text ≤ most_bytes
+  pub tokens : List Token
+  pub cut : AreTokens file text tokens
+  pub read : TokensReadBlock text tokens block
+
+-- the text of this file reads as the expression
+pub record ReadsExpression (file : ℕ) (text : List ℕ) (expr : ExprShape) : Type 0 where
+  pub size : length text ≤ most_bytes
+  pub tokens : List Token
+  pub cut : AreTokens file text tokens
+  pub read : TokensReadExpression text tokens expr
+
+-- the text reads as the name of a block
+pub record ReadsName (text : List ℕ) (name : Name) : Type 0 where
+  pub size : length text ≤ most_bytes
+  pub tokens : List Token
+  pub cut : AreTokens 0 text tokens
+  pub read : TokensReadName text tokens name

@@ -1,15 +1,18 @@
 //! From tokens to trees.
-ghost use Rattle.std.specs.Prelude.{◌≡◌, ◌≤◌, IfOk, vec_len};
-ghost use Rattle.pv_tree.specs.Shape.{expr_shape};
-ghost use Rattle.pv_tree.specs.Readers.{Gives, is_ended, expression_in};
+ghost use Rattle.std.specs.Prelude.{◌≡◌, ◌≤◌, IfOk, IfErr, vec_len};
+ghost use Rattle.pv_tree.specs.declared.fault.ReadFault.TheVariants.{NotOfForm};
+ghost use Rattle.pv_tree.specs.declared.name.Name.{Name};
+ghost use Rattle.pv_tree.specs.Shape.{ExprShape, BlockShape, expr_shape, block_shape};
+ghost use Rattle.pv_tree.specs.Reading.{TokensReadBlock, ReadsBlock, ReadsExpression, ReadsName};
+ghost use Rattle.pv_tree.specs.Readers.{Gives, is_ended, expression_in, whole_name_in};
 
 mod block;
 mod declarations;
 mod expressions;
+mod front;
 mod head;
 mod names;
 mod statements;
-mod front;
 
 use crate::fault::ReadFault;
 use crate::lex::{Kind, MAX_SOURCE, Token, tokens};
@@ -31,7 +34,9 @@ const MAX_VARS: usize = 20_000;
 ///
 /// `NotOfForm` where the text isn't of the form, whose rules on declared names `scope_of` tests.
 pub fn read_block(alloc: Global, file: u32, text: &[u8]) -> Result<Block, ReadFault>
-    ensures { IfOk result (λ block. vec_len block.interface.vars ≤ MAX_VARS) }
+    ensures few { IfOk result (λ block. vec_len block.interface.vars ≤ MAX_VARS) }
+    ensures found { IfOk result (λ block. ReadsBlock file text.now (block_shape block)) }
+    ensures refused { IfErr result (λ fault. fault ≡ NotOfForm → (block : BlockShape) → ReadsBlock file text.now block → ⊥) }
 {
     if text.len() > MAX_SOURCE {
         return Err(ReadFault::NotOfForm);
@@ -43,7 +48,10 @@ pub fn read_block(alloc: Global, file: u32, text: &[u8]) -> Result<Block, ReadFa
 /// Reads an expression, as that of a pattern. `file` is the number that its places have.
 ///
 /// `NotOfForm` where the text isn't one of at most 64 levels.
-pub fn read_expression(alloc: Global, file: u32, text: &[u8]) -> Result<Expr, ReadFault> {
+pub fn read_expression(alloc: Global, file: u32, text: &[u8]) -> Result<Expr, ReadFault>
+    ensures found { IfOk result (λ expr. ReadsExpression file text.now (expr_shape expr)) }
+    ensures refused { IfErr result (λ fault. fault ≡ NotOfForm → (expr : ExprShape) → ReadsExpression file text.now expr → ⊥) }
+{
     if text.len() > MAX_SOURCE {
         return Err(ReadFault::NotOfForm);
     }
@@ -54,7 +62,10 @@ pub fn read_expression(alloc: Global, file: u32, text: &[u8]) -> Result<Expr, Re
 /// Reads the name of a block: a word, a quoted name or a numbered name, with nothing but white space around it.
 ///
 /// `NotOfForm` where the text isn't one.
-pub fn read_name(alloc: Global, text: &[u8]) -> Result<Name, ReadFault> {
+pub fn read_name(alloc: Global, text: &[u8]) -> Result<Name, ReadFault>
+    ensures found { IfOk result (λ name. ReadsName text.now name) }
+    ensures refused { IfErr result (λ fault. fault ≡ NotOfForm → (name : Name) → ReadsName text.now name → ⊥) }
+{
     if text.len() > MAX_SOURCE {
         return Err(ReadFault::NotOfForm);
     }
@@ -64,7 +75,9 @@ pub fn read_name(alloc: Global, text: &[u8]) -> Result<Name, ReadFault> {
 
 /// Reads the block that all the tokens are.
 fn whole_block(alloc: Global, text: &[u8], tokens: &[Token]) -> Result<Block, ReadFault>
-    ensures { IfOk result (λ block. vec_len block.interface.vars ≤ MAX_VARS) }
+    ensures few { IfOk result (λ block. vec_len block.interface.vars ≤ MAX_VARS) }
+    ensures found { IfOk result (λ block. TokensReadBlock text.now tokens.now (block_shape block)) }
+    ensures refused { IfErr result (λ fault. fault ≡ NotOfForm → (block : BlockShape) → TokensReadBlock text.now tokens.now block → ⊥) }
 {
     if has_header_line(text, tokens) {
         return Err(ReadFault::NotOfForm);
@@ -88,7 +101,9 @@ fn whole_expression(alloc: Global, text: &[u8], tokens: &[Token]) -> Result<Expr
 }
 
 /// Reads the name that all the tokens are.
-fn whole_name(alloc: Global, text: &[u8], tokens: &[Token]) -> Result<Name, ReadFault> {
+fn whole_name(alloc: Global, text: &[u8], tokens: &[Token]) -> Result<Name, ReadFault>
+    ensures { Gives (λ name. name) result (whole_name_in text.now tokens.now) }
+{
     let (name, rest) = block_name(alloc, text, tokens)?;
     if !is_ended(rest) {
         return Err(ReadFault::NotOfForm);

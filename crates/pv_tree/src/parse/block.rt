@@ -1,10 +1,11 @@
 //! Function blocks.
 ghost use Rattle.std.specs.Prelude.{◌≡◌, ◌≤◌, IfOk, vec_len};
 ghost use Rattle.pv_tree.specs.Shape.{block_shape};
-ghost use Rattle.pv_tree.specs.Readers.{Gives, block_in, is_closing, without_begin};
+ghost use Rattle.pv_tree.specs.Readers.{Gives, is_opening, behind_begin, behind_closing, found_block, block_in};
 
 use super::MAX_VARS;
 use super::declarations::sections;
+use super::front::next;
 use super::names::block_name;
 use super::statements::statements;
 use crate::fault::ReadFault;
@@ -20,8 +21,9 @@ pub fn block<'a>(
     tokens: &'a [Token],
 ) -> Result<(Block, &'a [Token]), ReadFault>
     ensures few { IfOk result (λ x. vec_len x.0.interface.vars ≤ MAX_VARS) }
+    ensures reads { Gives (λ x. found_block (block_shape x.0) x.1.now) result (block_in text.now tokens.now) }
 {
-    let [opening, rest @ ..] = tokens else {
+    let Some((opening, rest)) = next(tokens) else {
         return Err(ReadFault::NotOfForm);
     };
     if !is_opening(opening.kind) {
@@ -42,7 +44,9 @@ pub fn block<'a>(
 }
 
 /// Whether a token of this kind is FUNCTION_BLOCK.
-fn is_opening(kind: Kind) -> bool {
+fn is_opening(kind: Kind) -> bool
+    ensures { result ≡ is_opening kind }
+{
     match kind {
         Kind::Word(Word::FunctionBlock) => true,
         _ => false,
@@ -50,8 +54,10 @@ fn is_opening(kind: Kind) -> bool {
 }
 
 /// The tokens behind BEGIN where it is next, else all of them.
-fn behind_begin(tokens: &[Token]) -> &[Token] {
-    let [token, rest @ ..] = tokens else {
+fn behind_begin(tokens: &[Token]) -> &[Token]
+    ensures { result.now ≡ behind_begin tokens.now }
+{
+    let Some((token, rest)) = next(tokens) else {
         return tokens;
     };
     match token.kind {
@@ -61,8 +67,10 @@ fn behind_begin(tokens: &[Token]) -> &[Token] {
 }
 
 /// The tokens behind the END_FUNCTION_BLOCK that has to be next.
-fn behind_closing(tokens: &[Token]) -> Result<&[Token], ReadFault> {
-    let [token, rest @ ..] = tokens else {
+fn behind_closing(tokens: &[Token]) -> Result<&[Token], ReadFault>
+    ensures { Gives (λ x. x.now) result (behind_closing tokens.now) }
+{
+    let Some((token, rest)) = next(tokens) else {
         return Err(ReadFault::NotOfForm);
     };
     match token.kind {
