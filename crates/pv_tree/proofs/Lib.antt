@@ -16,3 +16,4 @@ mod Stretching
 mod Nexts
 pub mod Cutting
 pub mod Readings
+pub mod Headers

@@ -1,5 +1,5 @@
 -- What a source, an expression and a block's name read as.
-use Rattle.std.specs.Prelude.{◌≡◌, ◌⊎◌, ℕ, ◌+◌, ◌-◌, ◌≤◌, List, [], ◌∷◌, ◌++◌, length, take, drop, IsTrue, None, All, Contains}
+use Rattle.std.specs.Prelude.{◌≡◌, ◌⊎◌, ℕ, ◌+◌, ◌-◌, ◌≤◌, List, [], ◌∷◌, ◌++◌, length, take, drop, IsTrue, None, Contains}
 use Rattle.std.specs.List.{AllByRecursion}
 use Rattle.std.specs.Str.{str_to_ascii_lowercase}
 use Rattle.pv_tree.specs.declared.name.Name.{Name}
@@ -93,7 +93,7 @@ pub record HasHeaderLine (text : List ℕ) (tokens : List Token) : Type 0 where
   pub header : Token
   pub behind : List Token
   pub parts : tokens ≡ before ++ (header ∷ behind)
-  pub head : All (λ token. EndsHead token.kind → ⊥) before
+  pub head : AllByRecursion (λ token. EndsHead token.kind → ⊥) before
   pub is : IsHeaderAt text (end_of before) header
 
 -- the tokens of a text, ended by End, read as this block

@@ -1,9 +1,9 @@
 //! Header lines in the head of a block.
-ghost use Rattle.std.specs.Prelude.{◌≡◌, ◌+◌, ◌↔◌, IsTrue};
+ghost use Rattle.std.specs.Prelude.{◌≡◌, ◌-◌, ◌↔◌, IsTrue, take, drop};
 ghost use Rattle.pv_tree.specs.Reading.{EndsHead, BeginsLine, IsHeaderAt, HasHeaderLine};
 
 use super::statements::is_word;
-use super::front::text_of;
+use super::front::{next, text_of};
 use crate::lex::{Kind, Token};
 use crate::words::{Word, is_header};
 
@@ -12,14 +12,16 @@ pub fn has_header_line(text: &[u8], tokens: &[Token]) -> bool
     ensures { IsTrue result ↔ HasHeaderLine text.now tokens.now }
 {
     let mut end = 0;
-    for token in tokens {
+    let mut rest = tokens;
+    while let Some((token, behind)) = next(rest) {
         if ends_head(token.kind) {
             return false;
         }
-        if is_header_word(text, end, *token) {
+        if is_header_word(text, end, token) {
             return true;
         }
         end = token.place.offset as usize + token.len as usize;
+        rest = behind;
     }
     false
 }
@@ -45,7 +47,14 @@ fn is_header_word(text: &[u8], end: usize, token: Token) -> bool
 fn begins_line(text: &[u8], end: usize, token: Token) -> bool
     ensures { IsTrue result ↔ BeginsLine text.now end token }
 {
+    between(text, end, token).contains(&b'\n')
+}
+
+/// The bytes between `end` and the token.
+fn between(text: &[u8], end: usize, token: Token) -> &[u8]
+    ensures { result.now ≡ take (token.place.offset - end) (drop end text.now) }
+{
     let (_, behind) = text.split_at(end.min(text.len()));
-    let between = (token.place.offset as usize).saturating_sub(end);
-    behind[..between.min(behind.len())].contains(&b'\n')
+    let len = (token.place.offset as usize).saturating_sub(end);
+    &behind[..len.min(behind.len())]
 }
