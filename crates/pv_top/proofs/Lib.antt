@@ -1,3 +1,4 @@
 mod CaseLemmas
 mod WordsLemmas
 mod StopLemmas
+mod SayLemmas

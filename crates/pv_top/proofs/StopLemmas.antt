@@ -1,4 +1,5 @@
 -- What a command says where it stops, by the file at which it does.
+use Rattle.std.specs.Result.{IsErrAnd}
 use Rattle.std.proofs.Common.{◌≡◌, ℕ, ℤ, List, Bool, true, false, Option, Some, None, Result, Ok, Err, IfOk, IfErr, IfSome, string_bytes, inl, inr, refl, sym, subst, ap, ◌∙◌}
 use Rattle.std.proofs.lemmas.Bool.{true≢false}
 use Rattle.pv_edge.specs.Files.{FileMap}
@@ -11,6 +12,7 @@ use Rattle.pv_top.specs.declared.answer.Part.{Part}
 use Rattle.pv_top.specs.declared.answer.Part.TheVariants.{Case, Source, Trace}
 use Rattle.pv_top.specs.declared.answer.Report.{Report as ReportOf}
 use Rattle.pv_top.specs.declared.answer.Refusal.TheVariants.{Words, Unread, Unbuilt}
+use Rattle.pv_top.specs.declared.answer.Answer.{Answer}
 use Rattle.pv_top.specs.declared.answer.Answer.TheVariants.{Report}
 use Rattle.pv_top.specs.declared.answer.Stop.{Stop}
 use Rattle.pv_top.specs.declared.answer.Stop.TheVariants.{Refused, NoMemory}
@@ -25,12 +27,12 @@ refused : {T : Type 0} (Q : Type 0) (r : Result T ReadFault) → IfErr r (λ fau
 refused {T} Q r clause is = let P : Result T ReadFault → Type 0 = λ x. IfErr x (λ fault. fault ≡ NotOfForm → Q) in subst P is clause refl
 
 -- three parts that differ
-is_case : Part → Bool
+abbrev is_case : Part → Bool
 is_case Case = true
 is_case Source = false
 is_case Trace = false
 
-is_source : Part → Bool
+abbrev is_source : Part → Bool
 is_source Case = false
 is_source Source = true
 is_source Trace = false
@@ -76,3 +78,8 @@ report_says told later case_file trace_file case block a report end reads same n
     let P : Option FileMap → Type 0 = λ t. Replayed t trace_file block a end in
     let Q : End → Type 0 = λ e. Replayed told trace_file block a e in
     record { case = case; block = block; a = a; reads = reads; named = named; replayed = subst Q (sym is) (subst P same replayed) }
+
+-- a stop that is passed on says what it said
+pub passed_on : (result : Result ReportOf Stop) (stop : Stop) (P : Answer → Type 0) → IsErrAnd result (λ e. e ≡ stop) → IfSome (answer_in (Err stop)) P → IfSome (answer_in result) P
+passed_on (Ok report) stop P is says = absurd is
+passed_on (Err e) stop P is says = let Q : Stop → Type 0 = λ s. IfSome (answer_in (Err s)) P in subst Q (sym is) says
