@@ -1,5 +1,5 @@
 -- Readers of lists of tokens: what stands at the front of the tokens, and the tokens behind it, or nothing where nothing
--- of the kind stands there.
+-- of the kind stands there. Private contracts say that the code computes these; no public contract cites them.
 use Rattle.std.specs.Prelude.{◌≡◌, ℕ, ℤ, zero, suc, pos, ◌+◌, max, nat_lt, Bool, true, false, ◌&&◌, length, List, [], ◌∷◌, ◌++◌, Option, Some, None, Result, Ok, Err, if◌then◌else◌}
 use Rattle.std.specs.Option.{option_map, option_and_then}
 use Rattle.pv_word.specs.declared.types.Ty.TheVariants.{Bool as BoolType}
