@@ -60,19 +60,19 @@ record Tail (begin tokens : List Token) : Type 0 where
 
 tail : (begin tokens : List Token) → IsBegin begin → Body tokens → Tail begin tokens
 tail begin tokens (inl none) b = record {
-    next = b.first;
-    others = b.others;
-    split = ap (λ ts. ts ++ tokens) none ∙ b.split;
-    behind = no_section b.first.kind b.is;
-    body = ap (λ ts. behind_begin (ts ++ tokens)) none ∙ ap behind_begin b.split ∙ cond-false _ _ _ (no_begin b.first.kind b.is) ∙ sym b.split
-  }
+  next = b.first;
+  others = b.others;
+  split = ap (λ ts. ts ++ tokens) none ∙ b.split;
+  behind = no_section b.first.kind b.is;
+  body = ap (λ ts. behind_begin (ts ++ tokens)) none ∙ ap behind_begin b.split ∙ cond-false _ _ _ (no_begin b.first.kind b.is) ∙ sym b.split;
+}
 tail begin tokens (inr (token, split, is)) b = record {
-    next = token;
-    others = tokens;
-    split = ap (λ ts. ts ++ tokens) split;
-    behind = ap (step_of stage.Outside) is;
-    body = ap (λ ts. behind_begin (ts ++ tokens)) split ∙ cond-true _ _ _ (ap is_begin is)
-  }
+  next = token;
+  others = tokens;
+  split = ap (λ ts. ts ++ tokens) split;
+  behind = ap (step_of stage.Outside) is;
+  body = ap (λ ts. behind_begin (ts ++ tokens)) split ∙ cond-true _ _ _ (ap is_begin is);
+}
 
 same_block : (place : Place) (block : BlockShape) → place ≡ block.place → block.kind ≡ Fb → block.value ≡ None → block_of place block.name block.vars block.body ≡ block
 same_block place block at is none =
@@ -84,13 +84,13 @@ block_read text block tokens rest h w =
     let last : List Token = h.body ++ (h.closing ∷ rest) in
     let t = tail h.begin last h.begins (body text block.body h.body h.closing rest h.states h.closes) in
     let whole : tokens ++ rest ≡ h.opening ∷ (h.name ++ (h.vars ++ (h.begin ++ last))) =
-        ap (λ ts. ts ++ rest) h.parts
-        ∙ ap (λ ts. h.opening ∷ ts) (append_assoc h.name _ rest ∙ ap (λ ts. h.name ++ ts) (append_assoc h.vars _ rest ∙ ap (λ ts. h.vars ++ ts) (append_assoc h.begin _ rest ∙ ap (λ ts. h.begin ++ ts) (append_assoc h.body (h.closing ∷ []) rest)))) in
+    ap (λ ts. ts ++ rest) h.parts
+    ∙ ap (λ ts. h.opening ∷ ts) (append_assoc h.name _ rest ∙ ap (λ ts. h.name ++ ts) (append_assoc h.vars _ rest ∙ ap (λ ts. h.vars ++ ts) (append_assoc h.begin _ rest ∙ ap (λ ts. h.begin ++ ts) (append_assoc h.body (h.closing ∷ []) rest)))) in
     let vars_read : variables_in text most_vars stage.Outside (h.vars ++ (h.begin ++ last)) ≡ Some (found_vars block.vars (h.begin ++ last)) =
-        ap (λ ts. variables_in text most_vars stage.Outside (h.vars ++ ts)) t.split ∙ variables_read text block.vars h.vars t.next t.others h.declares t.behind most_vars w.few
-        ∙ ap (λ ts. Some (found_vars block.vars ts)) (sym t.split) in
+    ap (λ ts. variables_in text most_vars stage.Outside (h.vars ++ ts)) t.split ∙ variables_read text block.vars h.vars t.next t.others h.declares t.behind most_vars w.few
+    ∙ ap (λ ts. Some (found_vars block.vars ts)) (sym t.split) in
     let body_read : body_in text (behind_begin (h.begin ++ last)) ≡ Some (found_stmts block.body (h.closing ∷ rest)) =
-        ap (body_in text) t.body ∙ statements_read text block.body h.body h.states w.well_formed w.nesting (h.closing ∷ rest) (ap is_word h.closes) (length last) (omega arith) in
+    ap (body_in text) t.body ∙ statements_read text block.body h.body h.states w.well_formed w.nesting (h.closing ∷ rest) (ap is_word h.closes) (length last) (omega arith) in
     let from_body : FoundVars → Option FoundBlock = λ vars. option_and_then (closed h.opening.place block.name vars.vars) (body_in text (behind_begin vars.rest)) in
     let from_vars : FoundName → Option FoundBlock = λ name. option_and_then (λ (vars : FoundVars). option_and_then (closed h.opening.place name.name vars.vars) (body_in text (behind_begin vars.rest))) (variables_in text most_vars stage.Outside name.rest) in
     ap (block_in text) whole
@@ -121,8 +121,9 @@ record Begun (tokens : List Token) : Type 0 where
 begun : (tokens : List Token) → Begun tokens
 begun [] = record { begin = []; split = refl; is = inl refl }
 begun (token ∷ tokens) = elim (chosen (is_begin token.kind) tokens (token ∷ tokens) (behind_begin (token ∷ tokens)) refl) [
-    inl w ↦ record { begin = token ∷ []; split = ap (λ ts. token ∷ ts) w.1; is = inr (token, refl, is_begin_from token.kind w.0) }
-  | inr w ↦ record { begin = []; split = w.1; is = inl refl } ]
+  | inl w ↦ record { begin = token ∷ []; split = ap (λ ts. token ∷ ts) w.1; is = inr (token, refl, is_begin_from token.kind w.0) }
+  | inr w ↦ record { begin = []; split = w.1; is = inl refl }
+]
 
 record Closing (tokens rest : List Token) : Type 0 where
   token : Token
@@ -152,38 +153,39 @@ parts_found text token tokens name vars stmts rest found opens named declared st
     let s = statements_found text (length (behind_begin vars.rest)) (behind_begin vars.rest) stmts stated in
     let c = closing_from stmts.rest rest closes in
     subst (FoundWhole text (token ∷ tokens)) same record {
-        front = token ∷ (n.front ++ (v.front ++ (b.begin ++ (s.front ++ (c.token ∷ [])))));
-        split = ap (λ ts. token ∷ ts) (
-            n.split ∙ ap (λ ts. n.front ++ ts) (v.split ∙ ap (λ ts. v.front ++ ts) (b.split ∙ ap (λ ts. b.begin ++ ts) (s.split ∙ ap (λ ts. s.front ++ ts) c.split ∙ sym (append_assoc s.front (c.token ∷ []) rest))
-            ∙ sym (append_assoc b.begin (s.front ++ (c.token ∷ [])) rest)) ∙ sym (append_assoc v.front (b.begin ++ (s.front ++ (c.token ∷ []))) rest))
-            ∙ sym (append_assoc n.front (v.front ++ (b.begin ++ (s.front ++ (c.token ∷ [])))) rest));
-        spelled = record {
-            opening = token;
-            name = n.front;
-            vars = v.front;
-            begin = b.begin;
-            body = s.front;
-            closing = c.token;
-            parts = refl;
-            opens = record { kind = is_opening_from token.kind opens; place = refl };
-            names = n.spelled;
-            declares = v.spelled;
-            begins = b.is;
-            states = s.spelled;
-            closes = c.is;
-            kind = refl;
-            value = refl
-          };
-        formed = record { well_formed = s.formed; nesting = s.fits; few = v.few }
-      }
+      front = token ∷ (n.front ++ (v.front ++ (b.begin ++ (s.front ++ (c.token ∷ [])))));
+      split = ap (λ ts. token ∷ ts) (
+          n.split ∙ ap (λ ts. n.front ++ ts) (v.split ∙ ap (λ ts. v.front ++ ts) (b.split ∙ ap (λ ts. b.begin ++ ts) (s.split ∙ ap (λ ts. s.front ++ ts) c.split ∙ sym (append_assoc s.front (c.token ∷ []) rest))
+          ∙ sym (append_assoc b.begin (s.front ++ (c.token ∷ [])) rest)) ∙ sym (append_assoc v.front (b.begin ++ (s.front ++ (c.token ∷ []))) rest))
+          ∙ sym (append_assoc n.front (v.front ++ (b.begin ++ (s.front ++ (c.token ∷ [])))) rest));
+      spelled = record {
+        opening = token;
+        name = n.front;
+        vars = v.front;
+        begin = b.begin;
+        body = s.front;
+        closing = c.token;
+        parts = refl;
+        opens = record { kind = is_opening_from token.kind opens; place = refl };
+        names = n.spelled;
+        declares = v.spelled;
+        begins = b.is;
+        states = s.spelled;
+        closes = c.is;
+        kind = refl;
+        value = refl;
+      };
+      formed = record { well_formed = s.formed; nesting = s.fits; few = v.few };
+    }
 
 pub block_found : (text : List ℕ) (tokens : List Token) (found : FoundBlock) → block_in text tokens ≡ Some found → FoundWhole text tokens found
 block_found text [] found e = absurd (none_some e)
 block_found text (token ∷ tokens) found e = elim (chosen (is_opening token.kind) _ _ _ e) [
-    inl w ↦ option_and_then_some _ _ _ w.1 (λ name named rest. option_and_then_some _ _ _ rest (λ vars declared more. option_and_then_some _ _ _ more (λ stmts stated left.
-        option_map_found (found_block (block_of token.place name.name vars.vars stmts.stmts)) (behind_closing stmts.rest) found left (λ behind closes same.
-            parts_found text token tokens name vars stmts behind found w.0 named declared stated closes same))))
-  | inr w ↦ absurd (none_some w.1) ]
+  | inl w ↦ option_and_then_some _ _ _ w.1 (λ name named rest. option_and_then_some _ _ _ rest (λ vars declared more. option_and_then_some _ _ _ more (λ stmts stated left.
+      option_map_found (found_block (block_of token.place name.name vars.vars stmts.stmts)) (behind_closing stmts.rest) found left (λ behind closes same.
+      parts_found text token tokens name vars stmts behind found w.0 named declared stated closes same))))
+  | inr w ↦ absurd (none_some w.1)
+]
 
 -- the tokens read as a block exactly where the reader on lists reads it and no header line stands in its head
 pub whole_block_read : (text : List ℕ) (tokens : List Token) (block : BlockShape) → TokensReadBlock text tokens block → whole_block_in text tokens ≡ Some block
@@ -197,14 +199,14 @@ whole_block_found text tokens block plain e = option_and_then_some _ _ _ e (λ f
     let made = cond_some (is_ended found.rest) found.block block ends in
     let last = ending_from found.rest made.0 in
     subst (TokensReadBlock text tokens) made.1 record {
-        inner = h.front;
-        ending = last.last;
-        parts = h.split ∙ ap (λ ts. h.front ++ ts) last.all;
-        ends = last.is;
-        spelled = h.spelled;
-        well_formed = h.formed;
-        no_header = plain
-      })
+      inner = h.front;
+      ending = last.last;
+      parts = h.split ∙ ap (λ ts. h.front ++ ts) last.all;
+      ends = last.is;
+      spelled = h.spelled;
+      well_formed = h.formed;
+      no_header = plain;
+    })
 
 pub one_block : (text : List ℕ) (tokens : List Token) (a b : BlockShape) → TokensReadBlock text tokens a → TokensReadBlock text tokens b → a ≡ b
 one_block text tokens a b x y = some_same a b (sym (whole_block_read text tokens a x) ∙ whole_block_read text tokens b y)

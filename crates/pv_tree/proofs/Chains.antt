@@ -143,10 +143,10 @@ module _ (text : List ℕ) (op : BinaryOp) (room : ℕ) (first : ExprShape) (lev
       let fits : max depth right.levels < room = ltb-true _ _ made.0 in
       let next = chain-joins op (operand_in op (readers text (room - 1))) room h.n left depth sign.sign behind right (is_sign_from op sign.sign.kind sign.is) read fits h.bound in
       subst (λ (b : FoundExpr). Joins text op room first levels tokens b.expr b.levels b.rest) made.1 record {
-          some = omega arith;
-          few = omega arith;
-          n = next.0;
-          bound = next.1;
-          same = h.same ∙ ap (chain op (operand_in op (readers text (room - 1))) room h.n left depth) sign.split ∙ next.2
-              ∙ ap (λ p. chain op (operand_in op (readers text (room - 1))) room next.0 (binary op p left right.expr) (max depth right.levels + 1) right.rest) sign.at
-        }
+        some = omega arith;
+        few = omega arith;
+        n = next.0;
+        bound = next.1;
+        same = h.same ∙ ap (chain op (operand_in op (readers text (room - 1))) room h.n left depth) sign.split ∙ next.2
+            ∙ ap (λ p. chain op (operand_in op (readers text (room - 1))) room next.0 (binary op p left right.expr) (max depth right.levels + 1) right.rest) sign.at;
+      }

@@ -1,15 +1,14 @@
 -- The tokens of a text: there is one list of them, and each of them lies in the text.
-use Rattle.std.proofs.Common.{◌≡◌, ℕ, zero, suc, ◌+◌, ◌-◌, ◌<◌, ◌≤◌, length, take, drop, ◌⊎◌, inl, inr, List, [], ◌∷◌, ◌++◌, Option, Some, None, refl, ap, sym, ◌∙◌, subst, arith, append_assoc, length-append, length-take, add_assoc, add-zero, zero-add}
+use Rattle.std.proofs.Common.{◌≡◌, ℕ, ◌+◌, ◌<◌, ◌≤◌, length, take, drop, List, [], ◌∷◌, ◌++◌, Option, Some, None, refl, ap, sym, ◌∙◌, subst, arith, append_assoc, length-append, length-take, add-zero, zero-add}
 use Rattle.std.proofs.Math.Seq.{take-append_seam, drop-append_seam}
 use Rattle.std.specs.Prelude.{All}
 use Rattle.std.proofs.lemmas.List.Elements.{All-cons, All-nil}
 use Rattle.std.proofs.lemmas.List.{take-append-drop, drop-drop}
-use Rattle.pv_tree.specs.declared.words.Word.{Word}
 use Rattle.pv_tree.specs.declared.lex.Token.{Token}
 use Rattle.pv_tree.specs.declared.lex.Kind.{Kind}
 use Rattle.pv_tree.specs.declared.lex.Kind.TheVariants as k
 use Rattle.pv_tree.specs.declared.lex.Stretch.{Stretch}
-use Rattle.pv_tree.specs.Tokens.{IsStretch, IsOfForm, IsNext, token_at, AreTokensFrom, AreTokens}
+use Rattle.pv_tree.specs.Tokens.{IsOfForm, IsNext, token_at, AreTokensFrom, AreTokens}
 use Rattle.pv_tree.specs.Tokens.AreTokensFrom.{finished, dropped, taken}
 use Rattle.pv_tree.specs.Stretches.{stretch, stretch_of, tokens_of}
 use Rattle.pv_tree.proofs.Stretching.{some-is, none-is}
@@ -31,7 +30,7 @@ same_next text kind other bytes more rest left is n f is' n' f' =
     record {
       kinds = ap (λ (x : Stretch). x.kind) s;
       fronts = sym (take-append_seam bytes rest) ∙ ap (λ (m : ℕ). take m (bytes ++ rest)) len ∙ ap (take (length more)) whole ∙ take-append_seam more left;
-      rests = sym (drop-append_seam bytes rest) ∙ ap (λ (m : ℕ). drop m (bytes ++ rest)) len ∙ ap (drop (length more)) whole ∙ drop-append_seam more left
+      rests = sym (drop-append_seam bytes rest) ∙ ap (λ (m : ℕ). drop m (bytes ++ rest)) len ∙ ap (drop (length more)) whole ∙ drop-append_seam more left;
     }
 
 -- nothing is found in an empty text
@@ -73,7 +72,7 @@ behind_token {file} {at} {text} (taken other more left others is' n' f' e d) kin
     record {
       others = others;
       first = e ∙ ap (λ (m : ℕ). token_at file at other m ∷ others) (sym len) ∙ ap (λ (x : Kind). token_at file at x (length bytes) ∷ others) (sym (some-is kind other s.kinds));
-      later = subst (λ (t : List ℕ). AreTokensFrom file (at + length t) rest others) (sym s.fronts) (subst (λ (t : List ℕ). AreTokensFrom file (at + length more) t others) (sym s.rests) d)
+      later = subst (λ (t : List ℕ). AreTokensFrom file (at + length t) rest others) (sym s.fronts) (subst (λ (t : List ℕ). AreTokensFrom file (at + length more) t others) (sym s.rests) d);
     }
 
 -- a text has at most one list of tokens
@@ -126,10 +125,10 @@ step file text at tokens s c e =
     let behind : drop s.len rest ≡ drop (at + s.len) text = drop-drop s.len at text in
     record {
       so_far = λ others d. (let later = subst (λ (t : List ℕ). AreTokensFrom file (at + s.len) t others) (sym behind) d in
-        subst (AreTokens file text) (sym (append_assoc tokens (tokens_of file at s.kind s.len) others)) (c.so_far (tokens_of file at s.kind s.len ++ others) (in_front file at rest s.kind s.len others n f.form f.fits later)));
+          subst (AreTokens file text) (sym (append_assoc tokens (tokens_of file at s.kind s.len) others)) (c.so_far (tokens_of file at s.kind s.len ++ others) (in_front file at rest s.kind s.len others n f.form f.fits later)));
       all = λ ts d. (let o = c.all ts d in
-        let w = without file at rest s.kind s.len o.0 n f.form f.fits o.1 in
-        (w.0, subst (λ (t : List ℕ). AreTokensFrom file (at + s.len) t w.0) behind w.1))
+          let w = without file at rest s.kind s.len o.0 n f.form f.fits o.1 in
+          (w.0, subst (λ (t : List ℕ). AreTokensFrom file (at + s.len) t w.0) behind w.1));
     }
 
 -- ---- the end, and where nothing is found

@@ -84,7 +84,7 @@ names_read text section (var ∷ next ∷ vars) s names rest may (name, comma, m
     ap (λ ts. variables_in text n s (ts ++ rest)) split
     ∙ name_read text section s var name (comma ∷ (more ++ rest)) may declares n less (omega arith)
     ∙ ap (option_map (with_vars (var ∷ []))) (reads_to text less (stage.Named section) (stage.Naming section) comma (more ++ rest) (ap (step_of (stage.Named section)) is)
-        ∙ names_read text section (next ∷ vars) (stage.Naming section) more rest (λ token plain. ap (step_of (stage.Naming section)) plain) others less room refl)
+    ∙ names_read text section (next ∷ vars) (stage.Naming section) more rest (λ token plain. ap (step_of (stage.Naming section)) plain) others less room refl)
     ∙ with_both (var ∷ []) (next ∷ vars) (variables_in text room (stage.Named section) rest)
 
 declaration_read : (text : List ℕ) (section : Section) (group : List VarShape) (tokens rest : List Token) → SpellsDeclaration text section group tokens → (n room : ℕ) → n ≡ length group + room
@@ -94,9 +94,9 @@ declaration_read text section group tokens rest (names, colon, ty, ending, split
     ∙ ap (variables_in text n (stage.Inside section)) (append_assoc names (colon ∷ ty ∷ ending ∷ []) rest)
     ∙ names_read text section group (stage.Inside section) names (colon ∷ ty ∷ ending ∷ rest) (λ token plain. ap (step_of (stage.Inside section)) plain) spelled n room bound
     ∙ ap (option_map (with_vars group)) (
-        reads_to text room (stage.Named section) (stage.Typing section) colon (ty ∷ ending ∷ rest) (ap (step_of (stage.Named section)) is_colon)
-        ∙ reads_to text room (stage.Typing section) (stage.Typed section) ty (ending ∷ rest) (ap (step_of (stage.Typing section)) is_bool)
-        ∙ reads_to text room (stage.Typed section) (stage.Inside section) ending rest (ap (step_of (stage.Typed section)) is_semicolon))
+    reads_to text room (stage.Named section) (stage.Typing section) colon (ty ∷ ending ∷ rest) (ap (step_of (stage.Named section)) is_colon)
+    ∙ reads_to text room (stage.Typing section) (stage.Typed section) ty (ending ∷ rest) (ap (step_of (stage.Typing section)) is_bool)
+    ∙ reads_to text room (stage.Typed section) (stage.Inside section) ending rest (ap (step_of (stage.Typed section)) is_semicolon))
 
 declarations_read : (text : List ℕ) (section : Section) (groups : List (List VarShape)) (tokens rest : List Token) → SpellsDeclarations text section groups tokens → (n room : ℕ) → n ≡ length (flat groups) + room
     → variables_in text n (stage.Inside section) (tokens ++ rest) ≡ option_map (with_vars (flat groups)) (variables_in text room (stage.Inside section) rest)
@@ -160,10 +160,10 @@ stands_first text most tokens = record { n = most; room = omega arith; same = wi
 module _ (text : List ℕ) (most : ℕ) (tokens : List Token) (vars : List VarShape) (s : Stage) (rest : List Token) (token : Token) (behind : List Token) (split : rest ≡ token ∷ behind) (h : Stands text most tokens vars s rest) where
   pub stands_to : (next : Stage) → step.To next ≡ step_of s token.kind → Stands text most tokens vars next behind
   stands_to next e = record {
-      n = h.n;
-      room = h.room;
-      same = h.same ∙ ap (λ ts. option_map (with_vars vars) (variables_in text h.n s ts)) split ∙ ap (option_map (with_vars vars)) (reads_to text h.n s next token behind (sym e))
-    }
+    n = h.n;
+    room = h.room;
+    same = h.same ∙ ap (λ ts. option_map (with_vars vars) (variables_in text h.n s ts)) split ∙ ap (option_map (with_vars vars)) (reads_to text h.n s next token behind (sym e));
+  }
 
   pub stands_wrong : step.Wrong ≡ step_of s token.kind → variables_in text most stage.Outside tokens ≡ None
   stands_wrong e = h.same ∙ ap (λ ts. option_map (with_vars vars) (variables_in text h.n s ts)) split ∙ ap (option_map (with_vars vars)) (reads_wrong text h.n s token behind (sym e))
@@ -186,7 +186,7 @@ module _ (text : List ℕ) (most : ℕ) (tokens : List Token) (vars : List VarSh
         same = h.same ∙ ap (λ ts. option_map (with_vars vars) (variables_in text h.n s ts)) split
             ∙ ap (option_map (with_vars vars)) (reads_name text h.n less s section token behind (sym e) (omega (arith, h.room)))
             ∙ with_both vars (declared_by text section token ∷ []) (variables_in text less (stage.Named section) behind)
-            ∙ ap (λ v. option_map (with_vars (vars ++ (v ∷ []))) (variables_in text less (stage.Named section) behind)) (sym is)
+            ∙ ap (λ v. option_map (with_vars (vars ++ (v ∷ []))) (variables_in text less (stage.Named section) behind)) (sym is);
       }
 
 pub stands_empty : (text : List ℕ) (most : ℕ) (tokens : List Token) (vars : List VarShape) (s : Stage) (rest : List Token) → rest ≡ [] → Stands text most tokens vars s rest → variables_in text most stage.Outside tokens ≡ None

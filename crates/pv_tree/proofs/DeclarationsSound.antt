@@ -105,29 +105,29 @@ longer text section var (next ∷ vars) name comma listed declares is spelled = 
 naming : (text : List ℕ) (section : Section) (vars : List VarShape) (name : Token) (tokens : List Token) → name.kind ≡ kind.Word word.Plain → FromNamed text section vars tokens
     → FromNaming text section (declared_by text section name ∷ vars) (name ∷ tokens)
 naming text section vars name tokens is (by_comma comma after split is_comma h) = record {
-    group = declared_by text section name ∷ h.group;
-    left = h.left;
-    listed = name ∷ comma ∷ h.listed;
-    colon = h.colon;
-    after = h.after;
-    are = ap (λ v. declared_by text section name ∷ v) h.are;
-    split = ap (λ ts. name ∷ ts) (split ∙ ap (λ ts. comma ∷ ts) h.split);
-    spelled = longer text section (declared_by text section name) h.group name comma h.listed (record { kind = is; is = refl }) is_comma h.spelled;
-    is = h.is;
-    behind = h.behind
-  }
+  group = declared_by text section name ∷ h.group;
+  left = h.left;
+  listed = name ∷ comma ∷ h.listed;
+  colon = h.colon;
+  after = h.after;
+  are = ap (λ v. declared_by text section name ∷ v) h.are;
+  split = ap (λ ts. name ∷ ts) (split ∙ ap (λ ts. comma ∷ ts) h.split);
+  spelled = longer text section (declared_by text section name) h.group name comma h.listed (record { kind = is; is = refl }) is_comma h.spelled;
+  is = h.is;
+  behind = h.behind;
+}
 naming text section vars name tokens is (by_colon colon after split is_colon h) = record {
-    group = declared_by text section name ∷ [];
-    left = vars;
-    listed = name ∷ [];
-    colon = colon;
-    after = after;
-    are = refl;
-    split = ap (λ ts. name ∷ ts) split;
-    spelled = (name, refl, record { kind = is; is = refl });
-    is = is_colon;
-    behind = h
-  }
+  group = declared_by text section name ∷ [];
+  left = vars;
+  listed = name ∷ [];
+  colon = colon;
+  after = after;
+  are = refl;
+  split = ap (λ ts. name ∷ ts) split;
+  spelled = (name, refl, record { kind = is; is = refl });
+  is = is_colon;
+  behind = h;
+}
 
 inside : (text : List ℕ) (section : Section) (vars : List VarShape) (tokens : List Token) → FromNaming text section vars tokens → FromInside text section vars tokens
 inside text section vars tokens h =
@@ -147,28 +147,35 @@ inside text section vars tokens h =
           ∙ sym (append_assoc first i.inner (i.closing ∷ i.more));
       spelled = (first, i.inner, refl, (h.listed, h.colon, t.ty, e.ending, refl, h.spelled, h.is, t.is, e.is), i.spelled);
       ended = i.ended;
-      others = i.others
+      others = i.others;
     }
 
 opened : (text : List ℕ) (section : Section) (vars : List VarShape) (token : Token) (tokens : List Token) → IsOpeningOf section token.kind → FromInside text section vars tokens → SpellsVariables text vars (token ∷ tokens)
-opened text section vars token tokens is h =
-    (flat h.groups ∷ h.outer, h.are,
-        (token ∷ (h.inner ++ (h.closing ∷ [])), h.more, ap (λ ts. token ∷ ts) (h.split ∙ sym (append_assoc h.inner (h.closing ∷ []) h.more)),
-            (section, h.groups, refl, token, h.inner, h.closing, refl, is, h.ended, h.spelled), h.others))
+opened text section vars token tokens is h = (
+  flat h.groups ∷ h.outer,
+  h.are,
+  (
+    token ∷ (h.inner ++ (h.closing ∷ [])),
+    h.more,
+    ap (λ ts. token ∷ ts) (h.split ∙ sym (append_assoc h.inner (h.closing ∷ []) h.more)),
+    (section, h.groups, refl, token, h.inner, h.closing, refl, is, h.ended, h.spelled),
+    h.others,
+  ),
+)
 
 closed : (text : List ℕ) (section : Section) (vars : List VarShape) (token : Token) (tokens : List Token) → token.kind ≡ kind.Word word.EndVar → SpellsVariables text vars tokens → FromInside text section vars (token ∷ tokens)
 closed text section vars token tokens is (sections, are, spelled) = record {
-    groups = [];
-    outer = sections;
-    inner = [];
-    closing = token;
-    more = tokens;
-    are = are;
-    split = refl;
-    spelled = refl;
-    ended = is;
-    others = spelled
-  }
+  groups = [];
+  outer = sections;
+  inner = [];
+  closing = token;
+  more = tokens;
+  are = are;
+  split = refl;
+  spelled = refl;
+  ended = is;
+  others = spelled;
+}
 
 -- what was read from a stage on
 record FoundFrom (text : List ℕ) (room : ℕ) (s : Stage) (tokens : List Token) (found : FoundVars) : Type 0 where
@@ -190,11 +197,11 @@ declares text zero s section token tokens found step more e = absurd (none_some 
 declares text (suc room) s section token tokens found step more e = option_map_found (with_var (declared_by text section token)) (variables_in text room (stage.Named section) tokens) found e (λ others read same.
     let h = more room others read in
     subst (FoundFrom text (suc room) s (token ∷ tokens)) same record {
-        front = token ∷ h.front;
-        split = ap (λ ts. token ∷ ts) h.split;
-        means = step others.vars h.front h.means;
-        few = omega (arith, h.few)
-      })
+      front = token ∷ h.front;
+      split = ap (λ ts. token ∷ ts) h.split;
+      means = step others.vars h.front h.means;
+      few = omega (arith, h.few);
+    })
 
 after_move : (text : List ℕ) (room : ℕ) (s : Stage) (token : Token) (tokens : List Token) (found : FoundVars) (what : Step) → Moves s token.kind what
     → ((less : ℕ) (next : Stage) (others : FoundVars) → variables_in text less next tokens ≡ Some others → FoundFrom text less next tokens others)

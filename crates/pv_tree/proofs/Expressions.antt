@@ -48,14 +48,14 @@ expression_found text tokens expr e = option_and_then_some _ _ _ e (λ found rea
     let made = cond_some (is_ended found.rest) found.expr expr ends in
     let last = ending_from found.rest made.0 in
     subst (TokensReadExpression text tokens) made.1 record {
-        inner = h.front;
-        ending = last.last;
-        parts = h.split ∙ ap (λ ts. h.front ++ ts) last.all;
-        ends = last.is;
-        spelled = h.spelled;
-        well_formed = h.formed;
-        nesting = omega (arith, h.depth, h.fits)
-      })
+      inner = h.front;
+      ending = last.last;
+      parts = h.split ∙ ap (λ ts. h.front ++ ts) last.all;
+      ends = last.is;
+      spelled = h.spelled;
+      well_formed = h.formed;
+      nesting = omega (arith, h.depth, h.fits);
+    })
 
 pub one_expression : (text : List ℕ) (tokens : List Token) (a b : ExprShape) → TokensReadExpression text tokens a → TokensReadExpression text tokens b → a ≡ b
 one_expression text tokens a b x y = some_same a b (sym (expression_read text tokens a x) ∙ expression_read text tokens b y)

@@ -49,10 +49,10 @@ from_conjunction text expr tokens h room rest fits stops =
 -- an expression that is read as a factor
 reads_factor : (text : List ℕ) (expr : ExprShape) (tokens : List Token) → FactorReads text expr tokens → Reads text expr tokens
 reads_factor text expr tokens h = record {
-    factor = λ strong. h;
-    conjunction = λ strong. from_factor text expr tokens h;
-    disjunction = from_conjunction text expr tokens (from_factor text expr tokens h)
-  }
+  factor = λ strong. h;
+  conjunction = λ strong. from_factor text expr tokens h;
+  disjunction = from_conjunction text expr tokens (from_factor text expr tokens h);
+}
 
 reads_lit : (text : List ℕ) (value : ℤ) (token : Token) (tokens : List Token) → tokens ≡ token ∷ [] → IsTruth token.kind value → FactorReads text (lit (Some BoolType) value token.place) tokens
 reads_lit text value token tokens split (inl is) room rest fits =
@@ -111,27 +111,44 @@ reads_enclosed text arg before behind inner tokens split opens closes h (suc roo
     ∙ ap (option_and_then f) (within.2 ∙ chain-stops Or (readers text room).conjunction (suc room) within.0 arg (levels arg) (behind ∷ rest) (stops Or))
     ∙ cond-true _ _ _ (ap is_close closes)
 
--- the readers of the right operand stand one level down
+-- what goes on behind a left operand
+OperandGoesOn : BinaryOp → (List Token → Option FoundExpr) → ℕ → ExprShape → List Token → Option FoundExpr → Type 0
+OperandGoesOn op operand room left rest start = (n : ℕ) × (room ≤ n + levels left) × (start ≡ chain op operand room n left (levels left) rest)
+
+-- with its sign and a right operand, whose readers stand one level down
+joined_on : (op : BinaryOp) (operand : List Token → Option FoundExpr) (room : ℕ) (left right : ExprShape) (sign : Token) (behind after : List Token) (start : Option FoundExpr) → IsSignOf op sign.kind
+    → operand behind ≡ Some (whole right after) → levels (binary op sign.place left right) ≤ room → OperandGoesOn op operand room left (sign ∷ behind) start
+    → OperandGoesOn op operand room (binary op sign.place left right) after start
+unfolding OperandGoesOn
+joined_on op operand room left right sign behind after start is taken fits first =
+    let next = chain-joins op operand room first.0 left (levels left) sign behind (whole right after) is taken (omega arith) first.1 in
+    (next.0, next.1, first.2 ∙ next.2)
+
 reads_and : (text : List ℕ) (left right : ExprShape) (sign : Token) (before behind tokens : List Token) → tokens ≡ before ++ (sign ∷ behind) → IsSignOf And sign.kind
     → ConjunctionReads text left before → FactorReads text right behind → ConjunctionReads text (binary And sign.place left right) tokens
+unfolding OperandGoesOn
 reads_and text left right sign before behind tokens split is l r zero rest fits = absurd (no_level right (omega (arith, at_least_one right)))
 reads_and text left right sign before behind tokens split is l r (suc room) rest fits =
-    let first = l (suc room) (sign ∷ (behind ++ rest)) (omega arith) in
-    let next = chain-joins And (readers text (suc room)).factor (suc (suc room)) first.0 left (levels left) sign (behind ++ rest) (whole right rest) is (r room rest (omega arith)) (omega arith) first.1 in
-    (next.0, next.1, ap (λ ts. (readers text (suc (suc room))).conjunction (ts ++ rest)) split ∙ ap (readers text (suc (suc room))).conjunction (append_assoc before (sign ∷ behind) rest) ∙ first.2 ∙ next.2)
+    let all : tokens ++ rest ≡ before ++ (sign ∷ (behind ++ rest)) = ap (λ ts. ts ++ rest) split ∙ append_assoc before (sign ∷ behind) rest in
+    joined_on And (readers text (suc room)).factor (suc (suc room)) left right sign (behind ++ rest) rest ((readers text (suc (suc room))).conjunction (tokens ++ rest)) is (r room rest (omega arith)) fits
+    (subst (λ ts. OperandGoesOn And (readers text (suc room)).factor (suc (suc room)) left (sign ∷ (behind ++ rest)) ((readers text (suc (suc room))).conjunction ts)) (sym all) (l (suc room) (sign ∷ (behind ++ rest)) (omega arith)))
 
 or_is_no_and : (k : Kind) → IsSignOf Or k → is_sign And k ≡ false
 or_is_no_and k e = ap (is_sign And) e
 
+right_read : (text : List ℕ) (right : ExprShape) (room : ℕ) (rest : List Token) (start : Option FoundExpr) → Stops And rest → OperandGoesOn And (readers text room).factor (suc room) right rest start → start ≡ Some (whole right rest)
+unfolding OperandGoesOn
+right_read text right room rest start stops second = second.2 ∙ chain-stops And (readers text room).factor (suc room) second.0 right (levels right) rest stops
+
 reads_or : (text : List ℕ) (left right : ExprShape) (sign : Token) (before behind tokens : List Token) → tokens ≡ before ++ (sign ∷ behind) → IsSignOf Or sign.kind
     → DisjunctionReads text left before → ConjunctionReads text right behind → DisjunctionReads text (binary Or sign.place left right) tokens
+unfolding OperandGoesOn
 reads_or text left right sign before behind tokens split is l r zero rest fits stops = absurd (no_level right (omega (arith, at_least_one right)))
 reads_or text left right sign before behind tokens split is l r (suc room) rest fits stops =
-    let first = l (suc room) (sign ∷ (behind ++ rest)) (omega arith) (or_is_no_and sign.kind is) in
-    let second = r room rest (omega arith) in
-    let operand : (readers text (suc room)).conjunction (behind ++ rest) ≡ Some (whole right rest) = second.2 ∙ chain-stops And (readers text room).factor (suc room) second.0 right (levels right) rest stops in
-    let next = chain-joins Or (readers text (suc room)).conjunction (suc (suc room)) first.0 left (levels left) sign (behind ++ rest) (whole right rest) is operand (omega arith) first.1 in
-    (next.0, next.1, ap (λ ts. (readers text (suc (suc room))).disjunction (ts ++ rest)) split ∙ ap (readers text (suc (suc room))).disjunction (append_assoc before (sign ∷ behind) rest) ∙ first.2 ∙ next.2)
+    let all : tokens ++ rest ≡ before ++ (sign ∷ (behind ++ rest)) = ap (λ ts. ts ++ rest) split ∙ append_assoc before (sign ∷ behind) rest in
+    let operand : (readers text (suc room)).conjunction (behind ++ rest) ≡ Some (whole right rest) = right_read text right room rest ((readers text (suc room)).conjunction (behind ++ rest)) stops (r room rest (omega arith)) in
+    joined_on Or (readers text (suc room)).conjunction (suc (suc room)) left right sign (behind ++ rest) rest ((readers text (suc (suc room))).disjunction (tokens ++ rest)) is operand fits
+    (subst (λ ts. OperandGoesOn Or (readers text (suc room)).conjunction (suc (suc room)) left (sign ∷ (behind ++ rest)) ((readers text (suc (suc room))).disjunction ts)) (sym all) (l (suc room) (sign ∷ (behind ++ rest)) (omega arith) (or_is_no_and sign.kind is)))
 
 -- what spells a well-formed expression is read as it
 pub reads : (text : List ℕ) (expr : ExprShape) (tokens : List Token) → SpellsExpression text expr tokens → IsWellFormed expr → Reads text expr tokens
@@ -147,18 +164,18 @@ reads text (binary And place left right) tokens (before, sign, behind, split, is
     let r = (reads text right behind also formed.3).factor formed.1 in
     let both = reads_and text left right sign before behind tokens split is l r in
     subst (λ p. Reads text (binary And p left right) tokens) at record {
-        factor = λ strong. absurd (omega arith);
-        conjunction = λ strong. both;
-        disjunction = from_conjunction text (binary And sign.place left right) tokens both
-      }
+      factor = λ strong. absurd (omega arith);
+      conjunction = λ strong. both;
+      disjunction = from_conjunction text (binary And sign.place left right) tokens both;
+    }
 reads text (binary Or place left right) tokens (before, sign, behind, split, is, at, spelled, also) formed =
     let l = (reads text left before spelled formed.2).disjunction in
     let r = (reads text right behind also formed.3).conjunction formed.1 in
     subst (λ p. Reads text (binary Or p left right) tokens) at record {
-        factor = λ strong. absurd (omega arith);
-        conjunction = λ strong. absurd (omega arith);
-        disjunction = reads_or text left right sign before behind tokens split is l r
-      }
+      factor = λ strong. absurd (omega arith);
+      conjunction = λ strong. absurd (omega arith);
+      disjunction = reads_or text left right sign before behind tokens split is l r;
+    }
 reads text (paren place arg) tokens (before, inner, behind, split, at, closes, spelled) formed =
     subst (λ p. Reads text (paren p arg) tokens) at.place
     (reads_factor text (paren before.place arg) tokens (reads_enclosed text arg before behind inner tokens split at.kind closes ((reads text arg inner spelled formed).disjunction)))

@@ -52,14 +52,14 @@ both_found text op room left depth sign all behind right both l is r e =
     let made = cond_some (nat_lt (max depth right.levels) (suc room)) (record { expr = binary op sign.place left right.expr; levels = max depth right.levels + 1; rest = right.rest }) both e in
     let fits : max depth right.levels < suc room = ltb-true _ _ made.0 in
     subst (Found text (strength_of op) (suc room) all) made.1 record {
-        front = l.front ++ (sign ∷ r.front);
-        split = l.split ∙ ap (λ ts. l.front ++ (sign ∷ ts)) r.split ∙ sym (append_assoc l.front (sign ∷ r.front) right.rest);
-        spelled = (l.front, sign, r.front, refl, is_sign_from op sign.kind is, refl, l.spelled, r.spelled);
-        formed = (l.strong, omega (arith, r.strong), l.formed, r.formed);
-        strong = omega arith;
-        depth = ap (λ n. max n (levels right.expr) + 1) l.depth ∙ ap (λ n. max depth n + 1) r.depth;
-        fits = omega arith
-      }
+      front = l.front ++ (sign ∷ r.front);
+      split = l.split ∙ ap (λ ts. l.front ++ (sign ∷ ts)) r.split ∙ sym (append_assoc l.front (sign ∷ r.front) right.rest);
+      spelled = (l.front, sign, r.front, refl, is_sign_from op sign.kind is, refl, l.spelled, r.spelled);
+      formed = (l.strong, omega (arith, r.strong), l.formed, r.formed);
+      strong = omega arith;
+      depth = ap (λ n. max n (levels right.expr) + 1) l.depth ∙ ap (λ n. max depth n + 1) r.depth;
+      fits = omega arith;
+    }
 
 chain_sound : (text : List ℕ) (op : BinaryOp) (operand : List Token → Option FoundExpr) (room : ℕ) → IsSound text (suc (strength_of op)) room operand
     → (n : ℕ) (left : ExprShape) (depth : ℕ) (tokens all : List Token) (found : FoundExpr)
@@ -71,9 +71,10 @@ chain_sound text op operand room ok zero left depth (sign ∷ behind) all found 
     elim (chosen (is_sign op sign.kind) _ _ _ e) [ inl w ↦ absurd (none_some w.1) | inr w ↦ subst (Found text (strength_of op) (suc room) all) (some_same _ _ w.1) l ]
 chain_sound text op operand room ok (suc n) left depth (sign ∷ behind) all found l e =
     elim (chosen (is_sign op sign.kind) _ _ _ e) [
-        inl w ↦ option_and_then_some _ _ _ w.1 (λ right read joins. option_and_then_some _ _ _ joins (λ both is goes_on.
-            chain_sound text op operand room ok n both.expr both.levels both.rest all found (both_found text op room left depth sign all behind right both l w.0 (ok behind right read) is) goes_on))
-      | inr w ↦ subst (Found text (strength_of op) (suc room) all) (some_same _ _ w.1) l ]
+      | inl w ↦ option_and_then_some _ _ _ w.1 (λ right read joins. option_and_then_some _ _ _ joins (λ both is goes_on.
+          chain_sound text op operand room ok n both.expr both.levels both.rest all found (both_found text op room left depth sign all behind right both l w.0 (ok behind right read) is) goes_on))
+      | inr w ↦ subst (Found text (strength_of op) (suc room) all) (some_same _ _ w.1) l
+    ]
 
 -- what a token of each kind may begin
 Begins : Start → Kind → Type 0
@@ -96,14 +97,14 @@ begins k = tt
 negation_found : (text : List ℕ) (room : ℕ) (sign : Token) (tokens : List Token) (arg found : FoundExpr) → sign.kind ≡ kind.Word word.Not
     → Found text 3 room tokens arg → negated sign.place arg ≡ found → Found text 3 (suc room) (sign ∷ tokens) found
 negation_found text room sign tokens arg found is h e = subst (Found text 3 (suc room) (sign ∷ tokens)) e record {
-    front = sign ∷ h.front;
-    split = ap (λ ts. sign ∷ ts) h.split;
-    spelled = (sign, h.front, refl, is, refl, h.spelled);
-    formed = (h.strong, h.formed);
-    strong = omega arith;
-    depth = ap (λ n. n + 1) h.depth;
-    fits = omega (arith, h.fits)
-  }
+  front = sign ∷ h.front;
+  split = ap (λ ts. sign ∷ ts) h.split;
+  spelled = (sign, h.front, refl, is, refl, h.spelled);
+  formed = (h.strong, h.formed);
+  strong = omega arith;
+  depth = ap (λ n. n + 1) h.depth;
+  fits = omega (arith, h.fits);
+}
 
 is_close_from : (k : Kind) → is_close k ≡ true → k ≡ kind.Close
 is_close_from kind.Close e = refl
@@ -115,14 +116,14 @@ enclosed_found text room sign tokens expr depth [] found is h e = absurd (none_s
 enclosed_found text room sign tokens expr depth (behind ∷ rest) found is h e =
     let made = cond_some (is_close behind.kind) _ _ e in
     subst (Found text 3 (suc room) (sign ∷ tokens)) made.1 record {
-        front = sign ∷ (h.front ++ (behind ∷ []));
-        split = ap (λ ts. sign ∷ ts) (h.split ∙ sym (append_assoc h.front (behind ∷ []) rest));
-        spelled = (sign, h.front, behind, refl, record { kind = is; place = refl }, is_close_from behind.kind made.0, h.spelled);
-        formed = h.formed;
-        strong = omega arith;
-        depth = ap (λ n. n + 1) h.depth;
-        fits = omega (arith, h.fits)
-      }
+      front = sign ∷ (h.front ++ (behind ∷ []));
+      split = ap (λ ts. sign ∷ ts) (h.split ∙ sym (append_assoc h.front (behind ∷ []) rest));
+      spelled = (sign, h.front, behind, refl, record { kind = is; place = refl }, is_close_from behind.kind made.0, h.spelled);
+      formed = h.formed;
+      strong = omega arith;
+      depth = ap (λ n. n + 1) h.depth;
+      fits = omega (arith, h.fits);
+    }
 
 pub option_map_found : {A B P : Type 0} (f : A → B) (o : Option A) (y : B) → option_map f o ≡ Some y → ((x : A) → o ≡ Some x → f x ≡ y → P) → P
 option_map_found f None y e k = absurd (none_some e)
@@ -134,32 +135,32 @@ unfolding Begins
 started_sound text room factor disjunction f d token tokens start.Not found is e = option_map_found (negated token.place) (factor tokens) found e (λ arg read same. negation_found text room token tokens arg found is (f tokens arg read) same)
 started_sound text room factor disjunction f d token tokens start.Open found is e = option_and_then_some _ _ _ e (λ arg read closes. enclosed_found text room token tokens arg.expr arg.levels arg.rest found is (d tokens arg read) closes)
 started_sound text room factor disjunction f d token tokens start.True found is e = subst (Found text 3 (suc room) (token ∷ tokens)) (some_same _ _ e) record {
-    front = token ∷ [];
-    split = refl;
-    spelled = (token, refl, inl (is, refl), refl, refl);
-    formed = tt;
-    strong = omega arith;
-    depth = refl;
-    fits = omega arith
-  }
+  front = token ∷ [];
+  split = refl;
+  spelled = (token, refl, inl (is, refl), refl, refl);
+  formed = tt;
+  strong = omega arith;
+  depth = refl;
+  fits = omega arith;
+}
 started_sound text room factor disjunction f d token tokens start.False found is e = subst (Found text 3 (suc room) (token ∷ tokens)) (some_same _ _ e) record {
-    front = token ∷ [];
-    split = refl;
-    spelled = (token, refl, inr (is, refl), refl, refl);
-    formed = tt;
-    strong = omega arith;
-    depth = refl;
-    fits = omega arith
-  }
+  front = token ∷ [];
+  split = refl;
+  spelled = (token, refl, inr (is, refl), refl, refl);
+  formed = tt;
+  strong = omega arith;
+  depth = refl;
+  fits = omega arith;
+}
 started_sound text room factor disjunction f d token tokens start.Word found is e = subst (Found text 3 (suc room) (token ∷ tokens)) (some_same _ _ e) record {
-    front = token ∷ [];
-    split = refl;
-    spelled = (token, refl, is, refl);
-    formed = tt;
-    strong = omega arith;
-    depth = refl;
-    fits = omega arith
-  }
+  front = token ∷ [];
+  split = refl;
+  spelled = (token, refl, is, refl);
+  formed = tt;
+  strong = omega arith;
+  depth = refl;
+  fits = omega arith;
+}
 started_sound text room factor disjunction f d token tokens start.Other found is e = absurd (none_some e)
 
 factor_sound : (text : List ℕ) (room : ℕ) (factor disjunction : List Token → Option FoundExpr) → IsSound text 3 room factor → IsSound text 1 room disjunction → IsSound text 3 (suc room) (factor_in text factor disjunction)
@@ -182,10 +183,10 @@ sound text (suc room) =
     let below = sound text room in
     let factor = factor_sound text room (readers text room).factor (readers text room).disjunction below.factor below.disjunction in
     let conjunction : IsSound text 2 (suc room) (readers text (suc room)).conjunction = λ tokens found e. option_and_then_some _ _ _ e (λ first read goes_on.
-        chain_sound text And (readers text room).factor room below.factor (suc room) first.expr first.levels first.rest tokens found (weaker text 3 2 (suc room) tokens first (omega arith) (factor tokens first read)) goes_on) in
+    chain_sound text And (readers text room).factor room below.factor (suc room) first.expr first.levels first.rest tokens found (weaker text 3 2 (suc room) tokens first (omega arith) (factor tokens first read)) goes_on) in
     record {
-        factor = factor;
-        conjunction = conjunction;
-        disjunction = λ tokens found e. option_and_then_some _ _ _ e (λ first read goes_on.
-            chain_sound text Or (readers text room).conjunction room below.conjunction (suc room) first.expr first.levels first.rest tokens found (weaker text 2 1 (suc room) tokens first (omega arith) (conjunction tokens first read)) goes_on)
-      }
+      factor = factor;
+      conjunction = conjunction;
+      disjunction = λ tokens found e. option_and_then_some _ _ _ e (λ first read goes_on.
+          chain_sound text Or (readers text room).conjunction room below.conjunction (suc room) first.expr first.levels first.rest tokens found (weaker text 2 1 (suc room) tokens first (omega arith) (conjunction tokens first read)) goes_on);
+    }

@@ -47,9 +47,10 @@ split_from text end (token ∷ tokens) (inr h) =
 
 pub header_at_first : (text : List ℕ) (tokens : List Token) → HasHeaderLine text tokens ↔ HeaderFrom text 0 tokens
 header_at_first text tokens = (
-    (λ h. subst (HeaderFrom text 0) (sym h.parts) (header_from text 0 h.before h.header h.behind h.head (subst (λ n. IsHeaderAt text n h.header) (sym (end_is h.before)) h.is))),
-    (λ h. let s = split_from text 0 tokens h in
-        record { before = s.before; header = s.header; behind = s.behind; parts = s.parts; head = s.head; is = subst (λ n. IsHeaderAt text n s.header) (end_is s.before) s.is }))
+  (λ h. subst (HeaderFrom text 0) (sym h.parts) (header_from text 0 h.before h.header h.behind h.head (subst (λ n. IsHeaderAt text n h.header) (sym (end_is h.before)) h.is))),
+  (λ h. let s = split_from text 0 tokens h in
+      record { before = s.before; header = s.header; behind = s.behind; parts = s.parts; head = s.head; is = subst (λ n. IsHeaderAt text n s.header) (end_is s.before) s.is }),
+)
 
 no_word : (k : Kind) → EndsHead k → k ≡ kind.Word word.Plain → ⊥
 no_word k (inl e) f = cc
@@ -76,5 +77,6 @@ goes_on text end token behind plain (inr h) = h.1
 pub header_next : (text : List ℕ) (tokens : List Token) (end : ℕ) (rest : List Token) (token : Token) (behind : List Token) → rest ≡ token ∷ behind → (EndsHead token.kind → ⊥) → (IsHeaderAt text end token → ⊥)
     → HeaderFrom text 0 tokens ↔ HeaderFrom text end rest → HeaderFrom text 0 tokens ↔ HeaderFrom text (token.place.offset + token.len) behind
 header_next text tokens end rest token behind split goes plain h = (
-    (λ a. goes_on text end token behind plain (subst (HeaderFrom text end) split (h.0 a))),
-    (λ b. h.1 (subst (HeaderFrom text end) (sym split) (inr (goes, b)))))
+  (λ a. goes_on text end token behind plain (subst (HeaderFrom text end) split (h.0 a))),
+  (λ b. h.1 (subst (HeaderFrom text end) (sym split) (inr (goes, b)))),
+)

@@ -1,14 +1,14 @@
 mod Keys
-pub mod Chains
-pub mod Exits
-pub mod ExpressionsComplete
-pub mod ExpressionsSound
-pub mod Expressions
-pub mod Statements
-pub mod Declarations
-pub mod DeclarationsSound
-pub mod Names
-pub mod Blocks
+mod Chains
+mod Exits
+mod ExpressionsComplete
+mod ExpressionsSound
+mod Expressions
+mod Statements
+mod Declarations
+mod DeclarationsSound
+mod Names
+mod Blocks
 mod WordLemmas
 mod Numbers
 mod Bytes
@@ -16,4 +16,5 @@ mod Stretching
 mod Nexts
 pub mod Cutting
 pub mod Readings
-pub mod Headers
+pub mod Shapes
+mod Headers

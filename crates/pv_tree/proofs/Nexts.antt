@@ -1,22 +1,21 @@
 -- What is found at the front of a text is the next stretch of the definition, and the next stretch is found.
-use Rattle.std.proofs.Common.{◌≡◌, ℕ, zero, suc, ◌+◌, ◌-◌, ◌^◌, ◌<◌, ◌≤◌, length, get_or, take, drop, Bool, true, false, cond, ◌⊎◌, inl, inr, List, [], ◌∷◌, ◌++◌, Option, Some, None, refl, ap, sym, ◌∙◌, subst, arith, append_assoc, length-append, length-drop, length-take}
-use Rattle.std.specs.Prelude.{◌&&◌, ◌||◌, ◌==◌, slice_index, option_map, ⊤}
+use Rattle.std.proofs.Common.{◌≡◌, ℕ, suc, ◌+◌, ◌^◌, ◌<◌, ◌≤◌, length, take, drop, Bool, true, false, cond, inl, inr, List, [], ◌∷◌, ◌++◌, Option, Some, None, refl, ap, sym, ◌∙◌, subst, arith, append_assoc, length-append, length-take}
+use Rattle.std.specs.Prelude.{◌==◌, slice_index, option_map, ⊤}
 use Rattle.std.specs.List.{prefix_len, list_all}
 use Rattle.std.specs.Char.{is_ascii_digit}
 use Rattle.std.proofs.Math.Seq.{take-append_seam, drop-append_seam}
 use Rattle.std.proofs.lemmas.List.{take-append-drop}
-use Rattle.std.proofs.lemmas.List.Folds.{length-prefix_len}
 use Rattle.std.proofs.lemmas.List.Sums.{prefix_len-le-length}
-use Rattle.std.proofs.lemmas.Bool.{both_ways, false≢true, eqb-true, eq-eqb, ne_eqb, cases_Bool, cases_eq, cases_lt, and_parts, and_from}
+use Rattle.std.proofs.lemmas.Bool.{false≢true, eqb-true, eq-eqb, ne_eqb, cases_Bool, cases_eq, cases_lt, and_parts}
 use Rattle.pv_tree.specs.declared.words.Word.{Word}
 use Rattle.pv_tree.specs.declared.lex.Kind.{Kind}
 use Rattle.pv_tree.specs.declared.lex.Kind.TheVariants as k
 use Rattle.pv_tree.specs.declared.lex.Stretch.{Stretch}
 use Rattle.pv_tree.specs.Words.{word_class}
-use Rattle.pv_tree.specs.Tokens.{is_space, is_letter, is_word_byte, is_quotable, is_word, is_number, value_behind, IsQuoted, IsAddress, IsStretch, IsOfForm, IsNext}
+use Rattle.pv_tree.specs.Tokens.{is_space, is_letter, is_word_byte, is_word, is_number, value_behind, IsQuoted, IsAddress, IsStretch, IsOfForm, IsNext}
 use Rattle.pv_tree.specs.Stretches.{stretch, sign_of, colon_of, quoted_of, goes_on, number_of, address_len, address_digits, word_or_address_of, stretch_of}
-use Rattle.pv_tree.proofs.Bytes.{letter-word_byte, area-letter, front_in, front-at_least, front-passes, Front, front-begins}
-use Rattle.pv_tree.proofs.Stretching.{at_space, at_letter, at_digit, word-is, word-letter, word-within, address-within, Addressed, address-is, address-taken, word-taken, word_at, address-narrow, AddressFound, address-found, digits-within, number-digit, digits-number, joined-number, behind_digits, number-within, number-taken, Numbered, number-found, some-is, none-is, inner_len, quoted-taken, QuotedFound, quoted-found, quoted-is}
+use Rattle.pv_tree.proofs.Bytes.{letter-word_byte, area-letter, front_in, front-at_least, front-passes}
+use Rattle.pv_tree.proofs.Stretching.{at_space, at_letter, at_digit, word-is, word-letter, word-within, address-within, Addressed, address-is, address-taken, word-taken, word_at, address-narrow, AddressFound, address-found, digits-within, number-digit, digits-number, joined-number, behind_digits, number-within, number-taken, Numbered, number-found, some-is, none-is, quoted-taken, QuotedFound, quoted-found, quoted-is}
 
 -- white space is of the form
 abbrev pub FormOf : Option Kind → List ℕ → Type 0
@@ -89,18 +88,18 @@ letter-found b rest s on e =
     let n = front_in is_word_byte b rest (letter-word_byte b on) in
     elim (cases_lt (address_len text) (prefix_len is_word_byte text)) [
       | inl lt ↦ subst (Found text) (some-is (word_at text) s (sym (word-taken text lt) ∙ e)) (record {
-          stretch = (word-is b rest on, refl);
-          form = tt;
-          fits = prefix_len-le-length is_word_byte text;
-          some = omega (arith, n)
-        })
+        stretch = (word-is b rest on, refl);
+        form = tt;
+        fits = prefix_len-le-length is_word_byte text;
+        some = omega (arith, n);
+      })
       | inr ge ↦ (let a : Addressed text = address-is text (omega (arith, n)) in
           let f : AddressFound text s = address-found text s (sym (address-taken text ge) ∙ e) in
           subst (Found text) (sym f.is) (record {
             stretch = a.address;
             form = (a.address, subst (λ (ds : List ℕ). value_behind 0 ds < 2 ^ 64) (sym a.digits) f.low);
             fits = a.within;
-            some = omega (arith, n)
+            some = omega (arith, n);
           }))
     ]
 
@@ -112,7 +111,7 @@ digit-found b rest s on e =
     let pass = front-passes is_ascii_digit text in
     let spelled : take (prefix_len is_ascii_digit text) text ≡ b ∷ take (prefix_len is_ascii_digit rest) rest = ap (λ (m : ℕ). take m text) n in
     let number : is_number (take (prefix_len is_ascii_digit text) text) ≡ true =
-      subst (λ (t : List ℕ). is_number t ≡ true) (sym spelled) (digits-number b (take (prefix_len is_ascii_digit rest) rest) (subst (λ (t : List ℕ). list_all is_ascii_digit t ≡ true) spelled pass)) in
+    subst (λ (t : List ℕ). is_number t ≡ true) (sym spelled) (digits-number b (take (prefix_len is_ascii_digit rest) rest) (subst (λ (t : List ℕ). list_all is_ascii_digit t ≡ true) spelled pass)) in
     subst (Found text) (sym f.is) (record { stretch = number; form = (pass, f.low); fits = prefix_len-le-length is_ascii_digit text; some = omega (arith, n) })
 
 quote-found : (rest : List ℕ) (s : Stretch) → quoted_of rest ≡ Some s → Found (34 ∷ rest) s
@@ -126,9 +125,9 @@ colon-found [] = record { stretch = refl; form = tt; fits = omega arith; some = 
 colon-found (c ∷ rest) =
     elim (cases_eq c 61) [
       | inl is ↦ subst (Found (58 ∷ c ∷ rest)) (sym (ap (λ (v : Bool). cond v (stretch (Some k.Assign) 2) (stretch (Some k.Colon) 1)) (eq-eqb c 61 is)))
-        (record { stretch = ap (λ (x : ℕ). 58 ∷ x ∷ []) is; form = tt; fits = omega arith; some = omega arith })
+          (record { stretch = ap (λ (x : ℕ). 58 ∷ x ∷ []) is; form = tt; fits = omega arith; some = omega arith })
       | inr ne ↦ subst (Found (58 ∷ c ∷ rest)) (sym (ap (λ (v : Bool). cond v (stretch (Some k.Assign) 2) (stretch (Some k.Colon) 1)) (ne_eqb c 61 ne)))
-        (record { stretch = refl; form = tt; fits = omega arith; some = omega arith })
+          (record { stretch = refl; form = tt; fits = omega arith; some = omega arith })
     ]
 
 abbrev signed : Option Kind → Option Stretch
@@ -160,9 +159,9 @@ other_found b rest s space letter digit e =
         | inl is ↦ (let there : Some (colon_of rest) ≡ Some s = subst (λ (c : ℕ). stretch_of (c ∷ rest) ≡ Some s) is e in
             subst (λ (c : ℕ). Found (c ∷ rest) s) (sym is) (subst (Found (58 ∷ rest)) (some-is (colon_of rest) s there) (colon-found rest)))
         | inr other ↦ sign-found b rest s
-          (sym (ap (λ (v : Bool). cond v (Some (colon_of rest)) (signed (sign_of b))) (ne_eqb b 58 other))
-          ∙ sym (ap (λ (v : Bool). cond v (quoted_of rest) (cond (b == 58) (Some (colon_of rest)) (signed (sign_of b)))) (ne_eqb b 34 ne))
-          ∙ past)
+            (sym (ap (λ (v : Bool). cond v (Some (colon_of rest)) (signed (sign_of b))) (ne_eqb b 58 other))
+            ∙ sym (ap (λ (v : Bool). cond v (quoted_of rest) (cond (b == 58) (Some (colon_of rest)) (signed (sign_of b)))) (ne_eqb b 34 ne))
+            ∙ past)
       ]
     ]
 
@@ -199,7 +198,7 @@ next-is text s e =
     record {
       stretch = f.stretch;
       longest = λ other more left is st. (let short = within other more left s st (ap stretch_of (sym is ∙ whole) ∙ e) in omega (arith, len, short));
-      address = λ a. address-kind (take s.len text) (drop s.len text) s a (ap stretch_of whole ∙ e) len
+      address = λ a. address-kind (take s.len text) (drop s.len text) s a (ap stretch_of whole ∙ e) len;
     }
 
 -- ---- the next stretch is found
@@ -228,13 +227,13 @@ word-found word b bs rest next =
     let letter : is_letter b ≡ true = word-letter b bs next.stretch.0 in
     let least : length bytes ≤ n = word-within bytes rest next.stretch.0 in
     let most : n ≤ length bytes =
-      front-short (Some (k.Word word)) (Some (k.Word (word_class (take n text)))) bytes rest n next (prefix_len-le-length is_word_byte text) (word-is b (bs ++ rest) letter, refl) in
+    front-short (Some (k.Word word)) (Some (k.Word (word_class (take n text)))) bytes rest n next (prefix_len-le-length is_word_byte text) (word-is b (bs ++ rest) letter, refl) in
     let same : n ≡ length bytes = omega (arith, least, most) in
     let front : take n text ≡ bytes = ap (λ (m : ℕ). take m text) same ∙ take-append_seam bytes rest in
     elim (cases_lt (address_len text) n) [
       | inl lt ↦ at_letter b (bs ++ rest) letter ∙ word-taken text lt ∙ ap Some (
-            ap (λ (w : Word). stretch (Some (k.Word w)) n) (ap word_class front ∙ next.stretch.1)
-            ∙ ap (λ (m : ℕ). stretch (Some (k.Word word)) m) same)
+          ap (λ (w : Word). stretch (Some (k.Word w)) n) (ap word_class front ∙ next.stretch.1)
+          ∙ ap (λ (m : ℕ). stretch (Some (k.Word word)) m) same)
       | inr ge ↦ (let a : Addressed text = address-is text (omega (arith, ge, least)) in
           let short : address_len text ≤ length bytes = front-short (Some (k.Word word)) (Some k.Address) bytes rest (address_len text) next a.within a.address in
           let whole : address_len text ≡ length bytes = omega (arith, short, ge, least) in
@@ -292,8 +291,8 @@ number-next d ds rest next form =
     let step : n ≡ suc (prefix_len is_ascii_digit (ds ++ rest)) = front_in is_ascii_digit d (ds ++ rest) digit in
     let spelled : take n text ≡ d ∷ take (prefix_len is_ascii_digit (ds ++ rest)) (ds ++ rest) = ap (λ (m : ℕ). take m text) step in
     let number : is_number (take n text) ≡ true =
-      subst (λ (t : List ℕ). is_number t ≡ true) (sym spelled)
-      (digits-number d (take (prefix_len is_ascii_digit (ds ++ rest)) (ds ++ rest)) (subst (λ (t : List ℕ). list_all is_ascii_digit t ≡ true) spelled (front-passes is_ascii_digit text))) in
+    subst (λ (t : List ℕ). is_number t ≡ true) (sym spelled)
+    (digits-number d (take (prefix_len is_ascii_digit (ds ++ rest)) (ds ++ rest)) (subst (λ (t : List ℕ). list_all is_ascii_digit t ≡ true) spelled (front-passes is_ascii_digit text))) in
     let most : n ≤ length bytes = front-short (Some k.Number) (Some k.Number) bytes rest n next (prefix_len-le-length is_ascii_digit text) number in
     let same : n ≡ length bytes = omega (arith, least, most) in
     let front : take n text ≡ bytes = ap (λ (m : ℕ). take m text) same ∙ take-append_seam bytes rest in

@@ -84,13 +84,13 @@ assigned_found text name sign tokens value found kinds read e = option_map_found
     let both = both_true (is_word name.kind) (is_assign sign.kind) kinds in
     let end = semicolon_from value.rest rest ends in
     subst (FoundOne text (name ∷ sign ∷ tokens)) same record {
-        front = name ∷ sign ∷ (h.front ++ (end.token ∷ []));
-        split = ap (λ ts. name ∷ sign ∷ ts) (h.split ∙ ap (λ ts. h.front ++ ts) end.split ∙ sym (append_assoc h.front (end.token ∷ []) rest));
-        some = omega arith;
-        spelled = (name, sign, h.front, end.token, refl, is_word_from name.kind both.0, refl, record { kind = is_assign_from sign.kind both.1; place = refl }, h.spelled, end.is);
-        formed = h.formed;
-        fits = omega (arith, h.depth, h.fits)
-      })
+      front = name ∷ sign ∷ (h.front ++ (end.token ∷ []));
+      split = ap (λ ts. name ∷ sign ∷ ts) (h.split ∙ ap (λ ts. h.front ++ ts) end.split ∙ sym (append_assoc h.front (end.token ∷ []) rest));
+      some = omega arith;
+      spelled = (name, sign, h.front, end.token, refl, is_word_from name.kind both.0, refl, record { kind = is_assign_from sign.kind both.1; place = refl }, h.spelled, end.is);
+      formed = h.formed;
+      fits = omega (arith, h.depth, h.fits);
+    })
 
 pub assignment_found : (text : List ℕ) (tokens : List Token) (found : FoundStmt) → assignment_in text tokens ≡ Some found → FoundOne text tokens found
 assignment_found text [] found e = absurd (none_some e)
@@ -166,17 +166,18 @@ statements_found text zero (token ∷ tokens) found e =
     elim (chosen (is_word token.kind) _ _ _ e) [ inl w ↦ absurd (none_some w.1) | inr w ↦ subst (FoundAll text (token ∷ tokens)) (some_same _ _ w.1) (no_statement text (token ∷ tokens)) ]
 statements_found text (suc n) (token ∷ tokens) found e =
     elim (chosen (is_word token.kind) _ _ _ e) [
-        inl w ↦ option_and_then_some _ _ _ w.1 (λ first read more. option_map_found (with_stmt first.stmt) (statements_in text n first.rest) found more (λ others rest_read same.
-            let one = assignment_found text (token ∷ tokens) first read in
-            let all = statements_found text n first.rest others rest_read in
-            subst (FoundAll text (token ∷ tokens)) same record {
-                front = one.front ++ all.front;
-                split = one.split ∙ ap (λ ts. one.front ++ ts) all.split ∙ sym (append_assoc one.front all.front others.rest);
-                spelled = (one.front, all.front, refl, one.spelled, all.spelled);
-                formed = (one.formed, all.formed);
-                fits = (one.fits, all.fits)
-              }))
-      | inr w ↦ subst (FoundAll text (token ∷ tokens)) (some_same _ _ w.1) (no_statement text (token ∷ tokens)) ]
+      | inl w ↦ option_and_then_some _ _ _ w.1 (λ first read more. option_map_found (with_stmt first.stmt) (statements_in text n first.rest) found more (λ others rest_read same.
+          let one = assignment_found text (token ∷ tokens) first read in
+          let all = statements_found text n first.rest others rest_read in
+          subst (FoundAll text (token ∷ tokens)) same record {
+            front = one.front ++ all.front;
+            split = one.split ∙ ap (λ ts. one.front ++ ts) all.split ∙ sym (append_assoc one.front all.front others.rest);
+            spelled = (one.front, all.front, refl, one.spelled, all.spelled);
+            formed = (one.formed, all.formed);
+            fits = (one.fits, all.fits);
+          }))
+      | inr w ↦ subst (FoundAll text (token ∷ tokens)) (some_same _ _ w.1) (no_statement text (token ∷ tokens))
+    ]
 
 -- where the loop over statements stands
 abbrev pub with_stmts : List StmtShape → FoundStmts → FoundStmts
@@ -205,10 +206,10 @@ stands_after text tokens stmts rest stmt after begins read zero bound same = abs
 stands_after text tokens stmts rest stmt after begins read (suc n) bound same =
     let one = assignment_found text rest (found_stmt stmt after) read in
     record {
-        n = n;
-        bound = omega (arith, one.some, ap length one.split, length-append one.front after);
-        same = same ∙ ap (option_map (with_stmts stmts)) (statements-step text n rest (found_stmt stmt after) begins read) ∙ with_more stmts stmt (statements_in text n after)
-      }
+      n = n;
+      bound = omega (arith, one.some, ap length one.split, length-append one.front after);
+      same = same ∙ ap (option_map (with_stmts stmts)) (statements-step text n rest (found_stmt stmt after) begins read) ∙ with_more stmts stmt (statements_in text n after);
+    }
 
 pub stands_next : (text : List ℕ) (tokens : List Token) (stmts : List StmtShape) (rest : List Token) (stmt : StmtShape) (after : List Token) → begins_statement rest ≡ true
     → assignment_in text rest ≡ Some (found_stmt stmt after) → Stands text tokens stmts rest → Stands text tokens (stmts ++ (stmt ∷ [])) after

@@ -1,21 +1,18 @@
 -- The stretch that is found at the front of a text is the longest one, and where none is found none of the form begins.
-use Rattle.std.proofs.Common.{◌≡◌, ℕ, zero, suc, ◌+◌, ◌-◌, ◌^◌, ◌<◌, ◌≤◌, length, get_or, take, drop, nat_lt, nat_le, Bool, true, false, cond, not, ◌⊎◌, inl, inr, List, [], ◌∷◌, ◌++◌, Option, Some, None, refl, ap, sym, ◌∙◌, subst, arith, one-add, append_assoc, length-append, length-drop, length-take}
-use Rattle.std.specs.Prelude.{◌&&◌, ◌||◌, ◌==◌, slice_index, option_map, ⊤}
+use Rattle.std.proofs.Common.{◌≡◌, ℕ, suc, ◌+◌, ◌^◌, ◌<◌, ◌≤◌, length, take, drop, nat_lt, Bool, true, false, cond, not, inl, inr, List, [], ◌∷◌, ◌++◌, Some, None, refl, ap, sym, ◌∙◌, subst, arith, append_assoc, length-append, length-drop}
+use Rattle.std.specs.Prelude.{◌&&◌, ◌==◌, slice_index, option_map}
 use Rattle.std.specs.List.{prefix_len, list_all}
 use Rattle.std.specs.Char.{is_ascii_digit}
 use Rattle.std.proofs.Math.Seq.{take-add, take-append_seam, drop-append_seam}
-use Rattle.std.proofs.lemmas.List.{take-append-drop}
-use Rattle.std.proofs.lemmas.List.Folds.{length-prefix_len, list_all-append}
 use Rattle.std.proofs.lemmas.List.Sums.{prefix_len-le-length}
-use Rattle.std.proofs.lemmas.Bool.{both_ways, true≢false, false≢true, eqb-true, eq-eqb, ne_eqb, leb-true, le-leb, lt-leb, ltb-true, lt-ltb, cases_Bool, cases_eq, cases_lt, or_cases, and_parts, and_from, not-true, and_left, and_right}
-use Rattle.pv_tree.specs.declared.words.Word.{Word}
+use Rattle.std.proofs.lemmas.Bool.{both_ways, false≢true, eqb-true, eq-eqb, ne_eqb, le-leb, lt-leb, ltb-true, lt-ltb, cases_Bool, cases_eq, and_parts, and_from, not-true, and_right}
 use Rattle.pv_tree.specs.declared.lex.Kind.{Kind}
 use Rattle.pv_tree.specs.declared.lex.Kind.TheVariants as k
 use Rattle.pv_tree.specs.declared.lex.Stretch.{Stretch}
 use Rattle.pv_tree.specs.Words.{word_class}
-use Rattle.pv_tree.specs.Tokens.{is_space, is_letter, is_word_byte, is_area, is_width, is_blank, is_quotable, is_word, is_number, value_behind, IsQuoted, IsAddress, IsStretch, IsOfForm, IsNext}
+use Rattle.pv_tree.specs.Tokens.{is_space, is_letter, is_word_byte, is_area, is_width, is_blank, is_quotable, is_word, is_number, value_behind, IsQuoted, IsAddress}
 use Rattle.pv_tree.specs.Stretches.{stretch, sign_of, colon_of, quoted_of, goes_on, fits_64_bits, number_of, address_len, address_digits, address_of, word_or_address_of, stretch_of}
-use Rattle.pv_tree.proofs.Bytes.{letter-no_space, digit-no_space, digit-no_letter, digit-no_blank, digit-no_joint, letter-word_byte, area-letter, front_in, front_out, front-at_least, front-exact, front-passes, Front, front-begins}
+use Rattle.pv_tree.proofs.Bytes.{letter-no_space, digit-no_space, digit-no_letter, digit-no_blank, digit-no_joint, letter-word_byte, front_in, front_out, front-at_least, front-exact, front-passes, front-begins}
 
 -- ---- the stretch by the first byte
 
@@ -116,10 +113,10 @@ tail-is a w rest ea ew et =
         of_width = ew;
         blank = front-passes is_blank rest;
         first = f.passes;
-        decimal = f.pass
+        decimal = f.pass;
       };
       within = omega (arith, len, prefix_len-le-length is_blank rest, prefix_len-le-length is_ascii_digit behind, length-drop blanks rest);
-      digits = sym f.spelled
+      digits = sym f.spelled;
     }
 
 no_address : (text : List ℕ) → (is_area (slice_index text 0) && (is_width (slice_index text 1) && has_tail (drop 2 text))) ≡ false → address_len text ≡ 0
@@ -168,7 +165,7 @@ address-found text s e =
       | inl on ↦ (let same = ap (λ (v : Bool). cond v (Some (stretch (Some k.Address) (address_len text))) None) on in
           record {
             is = some-is s (stretch (Some k.Address) (address_len text)) (sym e ∙ same);
-            low = ltb-true (value_behind 0 (address_digits text)) (2 ^ 64) on
+            low = ltb-true (value_behind 0 (address_digits text)) (2 ^ 64) on;
           })
       | inr off ↦ (let same = ap (λ (v : Bool). cond v (Some (stretch (Some k.Address) (address_len text))) None) off in
           absurd (none-is s (sym same ∙ e)))
@@ -226,7 +223,7 @@ number-within (d ∷ c ∷ others) rest e plain =
     elim (cases_eq c 95) [
       | inl is ↦ (let number : is_number others ≡ true = sym (ap (λ (v : Bool). cond v (is_number others) (is_number (c ∷ others))) (eq-eqb c 95 is)) ∙ parts.1 in
           let there : goes_on (behind_digits (d ∷ c ∷ (others ++ rest))) ≡ true =
-            subst (λ (b : ℕ). goes_on (behind_digits (d ∷ b ∷ (others ++ rest))) ≡ true) (sym is) (joint-goes_on d others rest parts.0 number) in
+          subst (λ (b : ℕ). goes_on (behind_digits (d ∷ b ∷ (others ++ rest))) ≡ true) (sym is) (joint-goes_on d others rest parts.0 number) in
           absurd (both_ways (goes_on (behind_digits (d ∷ c ∷ (others ++ rest)))) plain there))
       | inr ne ↦ (let number : is_number (c ∷ others) ≡ true = sym (ap (λ (v : Bool). cond v (is_number others) (is_number (c ∷ others))) (ne_eqb c 95 ne)) ∙ parts.1 in
           let later = number-within (c ∷ others) rest number (sym (ap goes_on (behind-step d (c ∷ (others ++ rest)) parts.0)) ∙ plain) in
@@ -253,7 +250,7 @@ number-found text s e =
           record {
             is = some-is s (stretch (Some k.Number) (prefix_len is_ascii_digit text)) (sym e ∙ same);
             plain = not-true (goes_on (behind_digits text)) parts.0;
-            low = ltb-true (value_behind 0 (take (prefix_len is_ascii_digit text) text)) (2 ^ 64) parts.1
+            low = ltb-true (value_behind 0 (take (prefix_len is_ascii_digit text) text)) (2 ^ 64) parts.1;
           })
       | inr off ↦ (let same = ap (λ (v : Bool). cond v (Some (stretch (Some k.Number) (prefix_len is_ascii_digit text))) None) off in
           absurd (none-is s (sym same ∙ e)))
@@ -289,7 +286,7 @@ quoted-found rest s e =
       | inl on ↦ (let same = ap (λ (v : Bool). cond v (Some (stretch (Some k.Quoted) (inner_len rest + 2))) None) on in
           record {
             is = some-is s (stretch (Some k.Quoted) (inner_len rest + 2)) (sym e ∙ same);
-            closed = eqb-true (slice_index rest (inner_len rest)) 34 on
+            closed = eqb-true (slice_index rest (inner_len rest)) 34 on;
           })
       | inr off ↦ (let same = ap (λ (v : Bool). cond v (Some (stretch (Some k.Quoted) (inner_len rest + 2))) None) off in
           absurd (none-is s (sym same ∙ e)))
@@ -301,28 +298,25 @@ quote-behind [] e = absurd (false≢true (ap (λ (n : ℕ). n == 34) e))
 quote-behind (b ∷ rest) e =
     elim (cases_Bool (is_quotable b)) [
       | inl on ↦ (let n = front_in is_quotable b rest on in
-          let later = quote-behind rest (sym (ap (slice_index (b ∷ rest)) n) ∙ e) in
-          (
+          let later = quote-behind rest (sym (ap (slice_index (b ∷ rest)) n) ∙ e) in (
             subst (λ (m : ℕ). take (suc m) (b ∷ rest) ≡ take m (b ∷ rest) ++ 34 ∷ []) (sym n) (ap (λ (t : List ℕ). b ∷ t) later.0),
-            omega (arith, n, later.1)
+            omega (arith, n, later.1),
           ))
       | inr off ↦ (let n = front_out is_quotable b rest off in
-          let here : b ≡ 34 = sym (ap (slice_index (b ∷ rest)) n) ∙ e in
-          (
+          let here : b ≡ 34 = sym (ap (slice_index (b ∷ rest)) n) ∙ e in (
             subst (λ (m : ℕ). take (suc m) (b ∷ rest) ≡ take m (b ∷ rest) ++ 34 ∷ []) (sym n) (ap (λ (c : ℕ). c ∷ []) here),
-            omega (arith, n)
+            omega (arith, n),
           ))
     ]
 
 pub quoted-is : (rest : List ℕ) → slice_index rest (inner_len rest) ≡ 34 → IsQuoted (take (inner_len rest + 2) (34 ∷ rest)) × (inner_len rest + 2 ≤ length (34 ∷ rest))
 quoted-is rest e =
     let q = quote-behind rest e in
-    let n : inner_len rest + 2 ≡ suc (suc (inner_len rest)) = omega arith in
-    (
+    let n : inner_len rest + 2 ≡ suc (suc (inner_len rest)) = omega arith in (
       record {
         inner = take (inner_len rest) rest;
         spelled = ap (λ (m : ℕ). take m (34 ∷ rest)) n ∙ ap (λ (t : List ℕ). 34 ∷ t) q.0;
-        quotable = front-passes is_quotable rest
+        quotable = front-passes is_quotable rest;
       },
-      omega (arith, q.1)
+      omega (arith, q.1),
     )

@@ -1,6 +1,5 @@
 -- The meaning of a word in a table of keywords, from a place of the table on.
-use Rattle.std.proofs.Common.{◌≡◌, ℕ, zero, suc, ◌+◌, ◌<◌, length, get_or, drop, map, Bool, true, false, cond, List, [], ◌∷◌, Option, Some, None, refl, ap, arith}
-use Rattle.pv_tree.specs.declared.words.Word.{Word}
+use Rattle.std.proofs.Common.{◌≡◌, ℕ, zero, suc, ◌<◌, length, get_or, drop, map, Bool, true, false, cond, List, [], ◌∷◌, Some, ap, arith}
 use Rattle.pv_tree.specs.declared.words.Keyword.{Keyword}
 use Rattle.pv_tree.specs.Words.{is_same, meaning}
 use Rattle.pv_tree.specs.Stretches.{entry_of}

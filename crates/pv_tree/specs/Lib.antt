@@ -5,6 +5,7 @@ pub mod Declarations
 pub mod Reading
 pub mod Readers
 pub mod Scope
+pub mod Form
 pub mod Tokens
 pub mod Stretches
 pub mod Words

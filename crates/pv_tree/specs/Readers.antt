@@ -1,5 +1,5 @@
 -- Readers of lists of tokens: what stands at the front of the tokens, and the tokens behind it, or nothing where nothing
--- of the kind stands there.
+-- of the kind stands there. Private contracts say that the code computes these; no public contract cites them.
 use Rattle.std.specs.Prelude.{◌≡◌, ℕ, ℤ, zero, suc, pos, ◌+◌, max, nat_lt, Bool, true, false, ◌&&◌, length, List, [], ◌∷◌, ◌++◌, Option, Some, None, Result, Ok, Err, if◌then◌else◌}
 use Rattle.std.specs.Option.{option_map, option_and_then}
 use Rattle.pv_word.specs.declared.types.Ty.TheVariants.{Bool as BoolType}
@@ -117,11 +117,11 @@ pub record ExprReaders : Type 0 where
 -- the readers of one level more than these
 abbrev pub one_more : List ℕ → ℕ → ExprReaders → ExprReaders
 one_more text room below = record {
-    factor = factor_in text below.factor below.disjunction;
-    conjunction = λ tokens. option_and_then (λ first. chain And below.factor (suc room) (suc room) first.expr first.levels first.rest) (factor_in text below.factor below.disjunction tokens);
-    disjunction = λ tokens. option_and_then (λ first. chain Or below.conjunction (suc room) (suc room) first.expr first.levels first.rest)
-        (option_and_then (λ first. chain And below.factor (suc room) (suc room) first.expr first.levels first.rest) (factor_in text below.factor below.disjunction tokens))
-  }
+  factor = factor_in text below.factor below.disjunction;
+  conjunction = λ tokens. option_and_then (λ first. chain And below.factor (suc room) (suc room) first.expr first.levels first.rest) (factor_in text below.factor below.disjunction tokens);
+  disjunction = λ tokens. option_and_then (λ first. chain Or below.conjunction (suc room) (suc room) first.expr first.levels first.rest)
+      (option_and_then (λ first. chain And below.factor (suc room) (suc room) first.expr first.levels first.rest) (factor_in text below.factor below.disjunction tokens));
+}
 
 -- the reader of an operator's right operand, which stands a level down
 abbrev pub operand_in : BinaryOp → ExprReaders → List Token → Option FoundExpr
@@ -359,7 +359,7 @@ block_in text [] = None
 block_in text (token ∷ tokens) =
     if is_opening token.kind
     then option_and_then (λ name. option_and_then (λ vars. option_and_then (closed token.place name.name vars.vars) (body_in text (behind_begin vars.rest)))
-        (variables_in text most_vars stage.Outside name.rest)) (name_in text tokens)
+    (variables_in text most_vars stage.Outside name.rest)) (name_in text tokens)
     else None
 
 -- the name that all the tokens are

@@ -37,7 +37,7 @@ pub data SpellsName (text : List ℕ) (name : Name) (tokens : List Token) : Type
   by_quotes : (token : Token) → tokens ≡ token ∷ [] → token.kind ≡ kind.Quoted → name ≡ quoted_name (text_of text token) → SpellsName text name tokens
   by_number : (token : Token) → tokens ≡ token ∷ [] → token.kind ≡ kind.Word word.Numbered → name ≡ plain_name (text_of text token) → SpellsName text name tokens
   by_two : (token number : Token) → tokens ≡ token ∷ number ∷ [] → token.kind ≡ kind.Word word.Numbering → number.kind ≡ kind.Number
-    → name ≡ plain_name (text_of text token ++ text_of text number) → SpellsName text name tokens
+      → name ≡ plain_name (text_of text token ++ text_of text number) → SpellsName text name tokens
 
 -- BEGIN, which may be missing
 abbrev pub IsBegin : List Token → Type 0

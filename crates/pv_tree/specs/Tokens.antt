@@ -1,9 +1,7 @@
 -- Tokens: a text is cut into stretches without gaps, each the longest token or white space that begins at its place.
-use Rattle.std.specs.Prelude.{◌≡◌, ℕ, ◌+◌, ◌-◌, ◌*◌, ◌^◌, ◌<◌, ◌≤◌, Bool, true, false, IsTrue, ◌&&◌, ◌||◌, not, ◌==◌, if◌then◌else◌, List, [], ◌∷◌, ◌++◌, length, codes, Option, Some, None, ⊤}
+use Rattle.std.specs.Prelude.{◌≡◌, ℕ, ◌+◌, ◌-◌, ◌*◌, ◌^◌, ◌<◌, ◌≤◌, Bool, false, IsTrue, ◌&&◌, ◌||◌, not, ◌==◌, if◌then◌else◌, List, [], ◌∷◌, ◌++◌, length, codes, Option, Some, None, ⊤}
 use Rattle.std.specs.List.{list_all}
 use Rattle.std.specs.Char.{is_ascii_alphabetic, is_ascii_alphanumeric, is_ascii_digit}
-use Rattle.pv_tree.specs.declared.place.Place.{Place}
-use Rattle.pv_tree.specs.declared.words.Word.{Word}
 use Rattle.pv_tree.specs.declared.lex.Token.{Token}
 use Rattle.pv_tree.specs.declared.lex.Kind.{Kind}
 use Rattle.pv_tree.specs.declared.lex.Kind.TheVariants as k

@@ -15,7 +15,9 @@ mod tree;
 mod words;
 
 pub use fault::ReadFault;
-pub use laws::{text_determines_tokens, text_determines_tree};
+pub use laws::{
+    readings_are_of_bool, shape_decides_names, text_determines_tokens, text_determines_tree,
+};
 pub use name::Name;
 pub use parse::{read_block, read_expression, read_name};
 pub use place::Place;

@@ -3,8 +3,8 @@ ghost use Rattle.std.specs.Prelude.{◌≡◌, ◌≤◌, IfOk, IfErr, vec_len};
 ghost use Rattle.pv_tree.specs.declared.fault.ReadFault.TheVariants.{NotOfForm};
 ghost use Rattle.pv_tree.specs.declared.name.Name.{Name};
 ghost use Rattle.pv_tree.specs.Shape.{ExprShape, BlockShape, expr_shape, block_shape};
-ghost use Rattle.pv_tree.specs.Reading.{TokensReadBlock, ReadsBlock, ReadsExpression, ReadsName};
-ghost use Rattle.pv_tree.specs.Readers.{Gives, is_ended, expression_in, whole_name_in};
+ghost use Rattle.pv_tree.specs.Reading.{ReadsBlock, ReadsExpression, ReadsName};
+ghost use Rattle.pv_tree.specs.Readers.{Gives, is_ended, whole_block_in, expression_in, whole_name_in};
 
 mod block;
 mod declarations;
@@ -42,7 +42,11 @@ pub fn read_block(alloc: Global, file: u32, text: &[u8]) -> Result<Block, ReadFa
         return Err(ReadFault::NotOfForm);
     }
     let tokens = tokens(alloc, file, text)?;
-    whole_block(alloc, text, tokens.as_slice())
+    let all = tokens.as_slice();
+    if has_header_line(text, all) {
+        return Err(ReadFault::NotOfForm);
+    }
+    whole_block(alloc, text, all)
 }
 
 /// Reads an expression, as that of a pattern. `file` is the number that its places have.
@@ -76,12 +80,8 @@ pub fn read_name(alloc: Global, text: &[u8]) -> Result<Name, ReadFault>
 /// Reads the block that all the tokens are.
 fn whole_block(alloc: Global, text: &[u8], tokens: &[Token]) -> Result<Block, ReadFault>
     ensures few { IfOk result (λ block. vec_len block.interface.vars ≤ MAX_VARS) }
-    ensures found { IfOk result (λ block. TokensReadBlock text.now tokens.now (block_shape block)) }
-    ensures refused { IfErr result (λ fault. fault ≡ NotOfForm → (block : BlockShape) → TokensReadBlock text.now tokens.now block → ⊥) }
+    ensures reads { Gives (λ block. block_shape block) result (whole_block_in text.now tokens.now) }
 {
-    if has_header_line(text, tokens) {
-        return Err(ReadFault::NotOfForm);
-    }
     let (block, rest) = block(alloc, text, tokens)?;
     if !is_ended(rest) {
         return Err(ReadFault::NotOfForm);

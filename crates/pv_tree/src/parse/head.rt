@@ -2,8 +2,8 @@
 ghost use Rattle.std.specs.Prelude.{◌≡◌, ◌-◌, ◌↔◌, IsTrue, take, drop};
 ghost use Rattle.pv_tree.specs.Reading.{EndsHead, BeginsLine, IsHeaderAt, HasHeaderLine};
 
-use super::statements::is_word;
 use super::front::{next, text_of};
+use super::statements::is_word;
 use crate::lex::{Kind, Token};
 use crate::words::{Word, is_header};
 

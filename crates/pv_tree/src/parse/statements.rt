@@ -5,8 +5,8 @@ ghost use Rattle.pv_tree.specs.Shape.{stmt_shape};
 ghost use Rattle.pv_tree.specs.Readers.{Gives, is_word, is_assign, behind_semicolon, target, target_in, begins_statement, found_stmt, found_stmts, assignment_in, statements_in};
 
 use super::MAX_NESTING;
-use super::front::next;
 use super::expressions::{disjunction, operand};
+use super::front::next;
 use crate::fault::ReadFault;
 use crate::lex::{Kind, Token};
 use crate::place::Place;

@@ -1,4 +1,4 @@
-use Rattle.std.proofs.Common.{◌<◌, length, arith}
+use Rattle.std.proofs.Common.{arith}
 use Rattle.pv_tree.proofs.Stretching.{short-fits}
 use Rattle.pv_tree.proofs.lex.is_narrow_address.Goals as goal
 

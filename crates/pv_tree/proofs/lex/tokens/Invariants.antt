@@ -6,7 +6,7 @@ abbrev pub invariant-loop-at : goal.invariant-loop-at
 invariant-loop-at l = record {
   within : l.at ≤ length l.text;
   small : length l.text ≤ 4194304;
-  cuts : Cuts l.file l.text l.at l.tokens.items
+  cuts : Cuts l.file l.text l.at l.tokens.items;
 }
 
 abbrev pub decreases-loop-at : goal.decreases-loop-at

@@ -1,4 +1,4 @@
-use Rattle.std.proofs.Common.{◌≡◌, ◌<◌, length, sym, ◌∙◌, arith, add-one}
+use Rattle.std.proofs.Common.{◌<◌, length, sym, ◌∙◌, arith, add-one}
 use Rattle.pv_tree.proofs.WordLemmas.{meaning-here, meaning-later}
 use Rattle.pv_tree.proofs.words.meaning_of.Goals as goal
 
