@@ -1,5 +1,5 @@
 -- What comes of pushing a list of clauses into a store, one after the other.
-use Rattle.std.specs.Prelude.{◌≡◌, ℕ, List, [], ◌∷◌, ◌++◌, Option, Some, None, Result, OnOk, IfErr}
+use Rattle.std.specs.Prelude.{◌≡◌, ℕ, List, [], ◌∷◌, ◌++◌, Option, Some, None, Result, Ok, Err}
 use Rattle.pv_cnf.specs.declared.clauses.PushFault.{PushFault}
 use Rattle.pv_cnf.specs.declared.clauses.PushFault.TheVariants.{VariableOutOfRange, Doubled, Empty, Full, NoMemory}
 
@@ -20,18 +20,21 @@ IsRefusal overflow all Empty = ⊥
 IsRefusal overflow all (Full need) = overflow all ≡ Some need
 IsRefusal overflow all NoMemory = Unit {0}
 
+-- the clauses stand behind those that were there, and each fits
+pub record ArePushed (overflow : Overflow) (old clauses new : List (List ℕ)) : Type 0 where
+  pub stand : new ≡ old ++ clauses
+  pub fit : AllFit overflow old clauses
+
 -- one of the clauses is refused: those before it fit, and stand behind those that were there
 pub record StopsAt (overflow : Overflow) (old clauses new : List (List ℕ)) (fault : PushFault) : Type 0 where
   pub before : List (List ℕ)
   pub refused : List ℕ
   pub rest : List (List ℕ)
   pub split : clauses ≡ before ++ refused ∷ rest
-  pub fit : AllFit overflow old before
-  pub stand : new ≡ old ++ before
+  pub pushed : ArePushed overflow old before new
   pub refusal : IsRefusal overflow (new ++ refused ∷ []) fault
 
--- all clauses stand behind those that were there, or one is refused
-pub record Pushes (overflow : Overflow) (old clauses new : List (List ℕ)) (result : Result (Unit {0}) PushFault) : Type 0 where
-  pub ok : OnOk result (new ≡ old ++ clauses)
-  pub fit : OnOk result (AllFit overflow old clauses)
-  pub err : IfErr result (λ fault. StopsAt overflow old clauses new fault)
+-- what a call gives that is to push these clauses
+abbrev pub Pushes : Overflow → List (List ℕ) → List (List ℕ) → List (List ℕ) → Result (Unit {0}) PushFault → Type 0
+Pushes overflow old clauses new (Ok done) = ArePushed overflow old clauses new
+Pushes overflow old clauses new (Err fault) = StopsAt overflow old clauses new fault

@@ -6,7 +6,7 @@ ghost use Rattle.pv_gate.specs.Node.{Names, gate_count};
 ghost use Rattle.pv_cnf.specs.Clause.{AreClauses};
 ghost use Rattle.pv_frames.specs.Frames.{own_variables, literal_in, frame_clauses};
 ghost use Rattle.pv_frames.specs.Formulas.{written, step_clauses};
-ghost use Rattle.pv_frames.specs.Pushing.{AllFit, StopsAt, Pushes};
+ghost use Rattle.pv_frames.specs.Pushing.{ArePushed, StopsAt, Pushes};
 ghost use Rattle.pv_frames.specs.Short.{clauses_of};
 
 use crate::gate::{clauses, literal};
@@ -84,8 +84,8 @@ pub fn push_step<C: Clauses>(gates: &Gates, fail: i32, into: &mut C) -> Result<(
     requires takes { IsTrue (C.takes_clauses into.old) }
     requires variables { length gates.now.nodes ≤ C.variables into.old }
     requires room { length (C.clauses into.old) ≤ 1000000000 }
-    ensures ok { OnOk result (C.clauses into.new ≡ C.clauses into.old ++ step_clauses gates.now.nodes fail) }
-    ensures fit { OnOk result (AllFit (C.overflow into.old) (C.clauses into.old) (step_clauses gates.now.nodes fail)) }
+    ensures ok { OnOk result (ArePushed (C.overflow into.old) (C.clauses into.old)
+        (step_clauses gates.now.nodes fail) (C.clauses into.new)) }
 
     // The clauses before the one that is refused stand there, and the faults of a clause itself never come.
     ensures err { IfErr result (λ fault. StopsAt (C.overflow into.old) (C.clauses into.old)
