@@ -5,3 +5,4 @@ pub mod Written
 pub mod GateValues
 pub mod NodeValues
 pub mod StepValues
+pub mod FrameLists

@@ -59,8 +59,8 @@ fn push_gates<C: Clauses>(gates: &Gates, into: &mut C) -> Result<(), PushFault>
     ensures takes_kept { C.takes_clauses into.new ≡ C.takes_clauses into.old }
     ensures overflow_kept { (all : List (List ℕ)) → C.overflow into.new all ≡ C.overflow into.old all }
 {
-    for n in 1..gates.nodes() + 1 {
-        push_all(&clauses(n, gates.node(n)), into)?;
+    for k in 0..gates.nodes() {
+        push_all(&clauses(k + 1, gates.node(k + 1)), into)?;
     }
     Ok(())
 }
