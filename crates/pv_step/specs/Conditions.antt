@@ -7,8 +7,8 @@ use Rattle.pv_mean.specs.Values.{BoolLiterals, HasBoolLiterals}
 
 -- the block keeps the rules on names, and declares each name of the invariant
 pub record HasNames (block : Block) (invariant : Expr) : Type 0 where
-  pub block : KeepsNames block
-  pub invariant : IsDeclared (keys_of block.interface.vars.items) invariant
+  pub kept : KeepsNames block
+  pub declared : IsDeclared (keys_of block.interface.vars.items) invariant
 
 -- each literal of the block and of the invariant is a value of BOOL too
 pub record IsBoolean (block : Block) (invariant : Expr) : Type 0 where

@@ -26,7 +26,7 @@ pub(crate) fn expression(
     ensures longer { length gates.old.nodes ≤ length gates.new.nodes }
 {
     match expr {
-        Expr::Lit { value, .. } => Ok(constant(*value)),
+        Expr::Lit { value, .. } => Ok(constant(gates, *value)),
         Expr::Read(operand) => Ok(literals[number_of(scope, operand)]),
         Expr::Unary { op, arg, .. } => {
             let arg = expression(gates, scope, literals, arg)?;
@@ -99,9 +99,13 @@ fn number_of(scope: &Scope, operand: &Operand) -> usize
     scope.find(name).unwrap()
 }
 
-fn constant(value: i128) -> i32
-    ensures { result ≡ constant value }
+/// The literal of a value of BOOL.
+fn constant(gates: &Gates, value: i128) -> i32
+    ensures literal { result ≡ constant value }
+    ensures names { Names (length gates.now.nodes) result }
 {
+    // Node 1 is there.
+    let _count = gates.nodes();
     if value == 1 { TRUE } else { FALSE }
 }
 

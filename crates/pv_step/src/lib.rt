@@ -3,9 +3,9 @@
 #![tactic(auto)]
 
 mod build;
-mod circuit;
 pub mod laws;
+mod step;
 #[cfg(test)]
 mod tests;
 
-pub use circuit::{StepCircuit, circuit};
+pub use step::{StepCircuit, circuit};
