@@ -1,7 +1,7 @@
 -- A circuit only grows, and by gates alone.
 use Rattle.std.proofs.Common.{◌≡◌, ◌≤◌, ◌<◌, ◌+◌, ℕ, ℤ, pos, neg_ℤ, List, [], ◌∷◌, ◌++◌, length, refl, sym, ◌∙◌, ap, subst, arith, Option, Some, None, Result, Ok, Err, append-nil, append_assoc, length-append}
 use Rattle.std.specs.Result.{IsErrAnd}
-use Rattle.std.proofs.Common.{Bool, true, false, ◌||◌, cond, to_z, of_z, w32}
+use Rattle.std.proofs.Common.{suc, drop, get_or, drop-cons, Bool, true, false, ◌||◌, cond, to_z, of_z, w32}
 use Rattle.std.proofs.lemmas.Int.{to_z-of_z}
 use mir.Val.{SFits}
 use Rattle.std.specs.Ordering.{int_eq}
@@ -178,3 +178,11 @@ beyond_right old middle keys literals op l left r right made e f there is far =
     let Q : Netlist → Type 0 = λ m. IsBeyond m (expression_gate keys literals m.nodes r) in
     let R : Made → Type 0 = λ m. IsBeyond old m in
     subst R (sym is) (beyond_more old after_left b whole refl (grows_binary op b.nodes a.literal b.literal) (subst P f (subst Q at far)))
+
+-- where a statement goes beyond the limit, all of them do
+pub beyond_later : (keys : List (List ℕ)) (all : List Stmt) (i : ℕ) (s : Stmt) (w start : Wires) (before limit : ℕ) → i < length all → s ≡ get_or all i s → statement_gates keys (drop i all) w ≡ statement_gates keys all start → before ≡ limit → before < gate_count (assign_gate keys w s).nodes → limit < gate_count (statement_gates keys all start).nodes
+beyond_later keys all i s w start before limit lt is same same_limit far =
+    let split : drop i all ≡ s ∷ drop (suc i) all = drop-cons all i s lt ∙ ap (λ x. x ∷ drop (suc i) all) (sym is) in
+    let more = gate_count-grows (assign_gate keys w s).nodes (statement_gates keys (drop (suc i) all) (assign_gate keys w s)).nodes (grows_statements keys (drop (suc i) all) (assign_gate keys w s)) in
+    let whole : statement_gates keys (drop (suc i) all) (assign_gate keys w s) ≡ statement_gates keys all start = sym (ap (λ ss. statement_gates keys ss w) split) ∙ same in
+    omega (arith, more, ap (λ (v : Wires). gate_count v.nodes) whole)

@@ -96,7 +96,9 @@ fn inputs(alloc: Global, gates: &mut Gates, count: usize) -> Result<Vec<i32>, Ga
     let mut literals = or_no_memory(Vec::with_capacity(alloc, count))?;
     for _ in 0..count {
         let literal = gates.input()?;
-        or_no_memory(literals.push(literal))?;
+        if literals.push(literal).is_err() {
+            return Err(GateFault::NoMemory);
+        }
     }
     Ok(literals)
 }
@@ -109,8 +111,8 @@ fn kept(alloc: Global, cells: &[Cell], literals: &[i32]) -> Result<Vec<i32>, Gat
 {
     let mut found = Vec::new(alloc);
     for (number, cell) in cells.iter().enumerate() {
-        if !cell.role.is_input() {
-            or_no_memory(found.push(literals[number]))?;
+        if !cell.role.is_input() && found.push(literals[number]).is_err() {
+            return Err(GateFault::NoMemory);
         }
     }
     Ok(found)
@@ -124,8 +126,8 @@ fn taken(alloc: Global, cells: &[Cell], literals: &[i32]) -> Result<Vec<i32>, Ga
 {
     let mut found = Vec::new(alloc);
     for (number, cell) in cells.iter().enumerate() {
-        if cell.role.is_input() {
-            or_no_memory(found.push(literals[number]))?;
+        if cell.role.is_input() && found.push(literals[number]).is_err() {
+            return Err(GateFault::NoMemory);
         }
     }
     Ok(found)
