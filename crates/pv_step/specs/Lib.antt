@@ -1,0 +1,4 @@
+pub mod Conditions
+pub mod Circuits
+pub mod Bits
+pub mod Wiring

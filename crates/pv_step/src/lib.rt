@@ -1,0 +1,11 @@
+//! The step circuit of a block: the gates of one scan, with the literals of its beginning, its end
+//! and its outcome.
+#![tactic(auto)]
+
+mod build;
+pub mod laws;
+mod step;
+#[cfg(test)]
+mod tests;
+
+pub use step::{StepCircuit, circuit};

@@ -1,0 +1,134 @@
+//! The circuit of one scan of a block.
+ghost use Rattle.std.specs.Prelude.{◌≡◌, ◌<◌, ◌≤◌, ◌+◌, length, [], ◌∷◌, Ok, Err, MatchResult, IfOk, OnOk, OnErr};
+ghost use Rattle.pv_gate.specs.declared.fault.GateFault.TheVariants.{Limit, NoMemory};
+ghost use Rattle.pv_gate.specs.declared.netlist.Node.TheVariants.{True};
+ghost use Rattle.pv_gate.specs.Node.{gate_count};
+ghost use Rattle.pv_mean.specs.Cells.{cells_of};
+ghost use Rattle.pv_mean.specs.Frames.{image_of, input_of};
+ghost use Rattle.pv_step.specs.Circuits.{begin_nodes, begin_literals, circuit_of};
+ghost use Rattle.pv_step.specs.Conditions.{HasNames};
+
+use crate::build::{assign_all, complement, expression};
+use pv_gate::{GateFault, Gates, MAX_GATES, MAX_INPUTS, make};
+use pv_mean::{Cell, cells};
+use pv_tree::{Block, Body, Expr, scope_of};
+use std::alloc::Global;
+
+/// The gates of one scan of a block, and an invariant's literals at its end. Lists of literals are
+/// in the order of the block's cells.
+#[derive(Drop)]
+pub struct StepCircuit {
+    pub gates: Gates,
+    /// The kept cells at the scan's beginning: input nodes.
+    pub state_in: Vec<i32>,
+    /// The input cells: input nodes.
+    pub input: Vec<i32>,
+    /// The kept cells at the scan's end.
+    pub state_out: Vec<i32>,
+    /// True where the scan is done and the invariant holds at its end.
+    pub ok: i32,
+    /// True where the scan isn't done, or the invariant doesn't hold at its end.
+    pub fail: i32,
+}
+
+/// The step circuit of a block of BOOL variables and assignments, with an invariant over its
+/// variables. Node 1 is true, and node 2 + i is the input of cell i.
+///
+/// Limit where it has more than `limit` gates. The other error is want of memory.
+pub fn circuit(
+    alloc: Global,
+    block: &Block,
+    invariant: &Expr,
+    limit: u32,
+) -> Result<StepCircuit, GateFault>
+    requires gates { limit ≤ MAX_GATES }
+    requires cells { length (cells_of block.now) ≤ MAX_INPUTS }
+    requires names { HasNames block.now invariant.now }
+    ensures nodes { IfOk result (λ c. c.gates ≡ record { nodes = (circuit_of block.now invariant.now).nodes; limit = limit }) }
+    ensures state_in { IfOk result (λ c. c.state_in.items ≡ (circuit_of block.now invariant.now).state_in) }
+    ensures input { IfOk result (λ c. c.input.items ≡ (circuit_of block.now invariant.now).input) }
+    ensures state_out { IfOk result (λ c. c.state_out.items ≡ (circuit_of block.now invariant.now).state_out) }
+    ensures ok { IfOk result (λ c. c.ok ≡ (circuit_of block.now invariant.now).ok) }
+    ensures fail { IfOk result (λ c. c.fail ≡ (circuit_of block.now invariant.now).fail) }
+    ensures within { OnOk result (gate_count (circuit_of block.now invariant.now).nodes ≤ limit) }
+    ensures limit { result ≡ Err Limit → limit < gate_count (circuit_of block.now invariant.now).nodes }
+    ensures few { OnOk result (length (circuit_of block.now invariant.now).nodes ≤ 1 + length (cells_of block.now) + limit) }
+{
+    let scope = or_no_memory(scope_of(alloc, block))?;
+    let cells = or_no_memory(cells(alloc, block))?;
+    let mut gates = or_no_memory(make(alloc, limit))?;
+    let begin = inputs(alloc, &mut gates, cells.len())?;
+    let mut end = or_no_memory(Vec::from_slice(alloc, &begin))?;
+    let Body::Scl(statements) = &block.body;
+    assign_all(&mut gates, &scope, statements, &mut end)?;
+    // The scan takes one path: it is done, with neither trap nor loop bound, and so the gates of its
+    // outcome fold to the invariant's literal and its complement.
+    let ok = expression(&mut gates, &scope, &end, invariant)?;
+    let fail = complement(&gates, ok);
+    Ok(StepCircuit {
+        state_in: kept(alloc, &cells, &begin)?,
+        input: taken(alloc, &cells, &begin)?,
+        state_out: kept(alloc, &cells, &end)?,
+        gates,
+        ok,
+        fail,
+    })
+}
+
+/// What a call made whose one error is want of memory.
+fn or_no_memory<T, E: Drop>(made: Result<T, E>) -> Result<T, GateFault>
+    ensures { MatchResult made (λ value. result ≡ Ok value) (λ _. result ≡ Err NoMemory) }
+{
+    match made {
+        Ok(value) => Ok(value),
+        Err(_) => Err(GateFault::NoMemory),
+    }
+}
+
+/// An input node for each of the cells, with their literals.
+fn inputs(alloc: Global, gates: &mut Gates, count: usize) -> Result<Vec<i32>, GateFault>
+    requires empty { gates.old.nodes ≡ True ∷ [] }
+    requires count { count ≤ MAX_INPUTS }
+    ensures literals { IfOk result (λ literals. literals.items ≡ begin_literals count) }
+    ensures nodes { OnOk result (gates.new ≡ record gates.old { nodes = begin_nodes count }) }
+    ensures err { OnErr result (result ≡ Err NoMemory) }
+{
+    let mut literals = or_no_memory(Vec::with_capacity(alloc, count))?;
+    for _ in 0..count {
+        let literal = gates.input()?;
+        if literals.push(literal).is_err() {
+            return Err(GateFault::NoMemory);
+        }
+    }
+    Ok(literals)
+}
+
+/// The literals of the kept cells.
+fn kept(alloc: Global, cells: &[Cell], literals: &[i32]) -> Result<Vec<i32>, GateFault>
+    requires { length literals.now ≡ length cells.now }
+    ensures literals { IfOk result (λ found. found.items ≡ image_of cells.now literals.now) }
+    ensures err { OnErr result (result ≡ Err NoMemory) }
+{
+    let mut found = Vec::new(alloc);
+    for (number, cell) in cells.iter().enumerate() {
+        if !cell.role.is_input() && found.push(literals[number]).is_err() {
+            return Err(GateFault::NoMemory);
+        }
+    }
+    Ok(found)
+}
+
+/// The literals of the input cells.
+fn taken(alloc: Global, cells: &[Cell], literals: &[i32]) -> Result<Vec<i32>, GateFault>
+    requires { length literals.now ≡ length cells.now }
+    ensures literals { IfOk result (λ found. found.items ≡ input_of cells.now literals.now) }
+    ensures err { OnErr result (result ≡ Err NoMemory) }
+{
+    let mut found = Vec::new(alloc);
+    for (number, cell) in cells.iter().enumerate() {
+        if cell.role.is_input() && found.push(literals[number]).is_err() {
+            return Err(GateFault::NoMemory);
+        }
+    }
+    Ok(found)
+}
