@@ -25,8 +25,8 @@ Carries inputs frame = (i : ℕ) → i < length frame → slice_index_or frame i
 
 -- image and input are an image and an input of the block, and with them a scan begins at the values of the inputs
 pub record Begins (block : Block) (image : Image) (input : Input) (inputs : ℕ → Bool) : Type 0 where
-  pub image : AreValues (image_types (cells_of block)) image
-  pub input : AreValues (input_types (cells_of block)) input
+  pub is_image : AreValues (image_types (cells_of block)) image
+  pub is_input : AreValues (input_types (cells_of block)) input
   pub carried : Carries inputs (begin (cells_of block) image input)
 
 -- the nodes are in order, and each literal names one of them
