@@ -22,5 +22,5 @@ pub fn step_holds_by_node_values()
 pub fn step_refuted_where_nothing_fails()
     ensures { (nodes : List Node) (fail : ℤ) → IsNetlist nodes → Names (length nodes) fail
         → ((values : ℕ → Bool) → Holds values (step_clauses nodes fail) → ⊥)
-            ↔ ((inputs : ℕ → Bool) → value_of inputs nodes fail ≡ false) }
+        ↔ ((inputs : ℕ → Bool) → value_of inputs nodes fail ≡ false) }
 {}
