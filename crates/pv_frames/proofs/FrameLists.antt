@@ -1,13 +1,14 @@
 -- The clauses of a frame, node by node: they are clauses, and few.
-use Rattle.std.proofs.Common.{◌≡◌, ℕ, ℤ, pos, negsuc, ◌+◌, ◌*◌, ◌/◌, ◌<◌, ◌≤◌, zero, suc, Bool, true, false, cond, List, [], ◌∷◌, ◌++◌, length, take, drop, Some, Option, unwrap_or, slice_get, refl, sym, ◌∙◌, ap, arith, lit≤, lit<, length-append, append_assoc, append-nil}
+use Rattle.std.proofs.Common.{◌≡◌, ℕ, ℤ, pos, negsuc, ◌+◌, ◌*◌, ◌/◌, ◌<◌, ◌≤◌, zero, suc, Bool, true, false, cond, List, [], ◌∷◌, ◌++◌, length, take, drop, Some, Option, unwrap_or, slice_get, refl, sym, ◌∙◌, ap, subst, length-take-le, arith, lit≤, lit<, length-append, append_assoc, append-nil}
 use Rattle.std.specs.List.{flat_map, AllByRecursion}
 use Rattle.std.proofs.lemmas.Bool.{or_from, ne_eqb, le-ltb}
 use Rattle.std.proofs.lemmas.Grind.{flat_map-append}
+use Rattle.std.proofs.lemmas.Option.{slice_get_within}
 use Rattle.std.proofs.lemmas.List.Sums.{sum_by-append, sum_by-take-drop}
 use Rattle.pv_gate.specs.declared.netlist.Node.{Node}
 use Rattle.pv_gate.specs.declared.netlist.Node.TheVariants.{True, Input, And, Xor, Mux}
 use Rattle.pv_gate.specs.Node.{Names, is_gate, gate_count}
-use Rattle.pv_gate.specs.Netlist.{MayFollow}
+use Rattle.pv_gate.specs.Netlist.{IsNetlist, MayFollow}
 use Rattle.pv_gate.proofs.Building.{Names-more}
 use Rattle.pv_cnf.specs.Literal.{complement, is_outside}
 use Rattle.pv_cnf.specs.Clause.{has_outside, AreClauses}
@@ -131,6 +132,18 @@ node-valid v n before node from to few follows = written-all v (node_clauses own
     by (Xor a b) h = xor-inside v _ _ _ gate (operand a h.0) (operand b h.1)
     by (Mux s a b) h = mux-inside v _ _ _ _ gate (operand s h.0) (operand a h.1.0) (operand b h.1.1)
 
+-- the clauses of all nodes, where those of each are
+pub frame-valid : (v n : ℕ) (nodes : List Node) → ((k : ℕ) (node : Node) → slice_get nodes k ≡ Some node → AreClauses v (flat_map written (node_clauses own_variables (n + k) node))) → AreClauses v (flat_map written (frame_clauses own_variables n nodes))
+frame-valid v n [] each = tt
+frame-valid v n (x ∷ nodes) each =
+    let here : n + 0 ≡ n = omega arith in
+    subst (AreClauses v) (sym (flat_map-append written (node_clauses own_variables n x) (frame_clauses own_variables (suc n) nodes)))
+    (clauses-both v (flat_map written (node_clauses own_variables n x)) (flat_map written (frame_clauses own_variables (suc n) nodes))
+    (subst (λ (m : ℕ). AreClauses v (flat_map written (node_clauses own_variables m x))) here (each 0 x refl))
+    (frame-valid v (suc n) nodes (λ k node at.
+      let there : n + suc k ≡ suc n + k = omega arith in
+      subst (λ (m : ℕ). AreClauses v (flat_map written (node_clauses own_variables m node))) there (each (suc k) node at))))
+
 -- ---- they are few
 
 one-written : (lits : List ℕ) → length (written lits) ≤ 1
@@ -173,3 +186,21 @@ step-is nodes fail =
     let l = literal_in own_variables fail in
     ap (λ (cs : List (List ℕ)). (2 ∷ []) ∷ flat_map written (cs ++ (l ∷ []) ∷ [])) (append-nil (frame_clauses own_variables 1 nodes))
     ∙ ap (λ (cs : List (List ℕ)). (2 ∷ []) ∷ cs) (flat_map-append written (frame_clauses own_variables 1 nodes) ((l ∷ []) ∷ []))
+
+unit-valid : (v lit : ℕ) → is_outside v lit ≡ false → AreClauses v ((lit ∷ []) ∷ [])
+unit-valid v lit h = written-valid v (lit ∷ []) (or_from _ _ h refl) (lit< tt)
+
+-- it is a formula over one variable for each node
+pub step-valid : (nodes : List Node) (fail : ℤ) → IsNetlist nodes → Names (length nodes) fail → AreClauses (length nodes) (step_clauses nodes fail)
+step-valid nodes fail net names =
+    let v = length nodes in
+    let some = slice_get_within nodes 0 True net.first in
+    subst (AreClauses v) (sym (step-is nodes fail))
+    (clauses-both v ((2 ∷ []) ∷ []) (flat_map written (frame_clauses own_variables 1 nodes) ++ (literal_in own_variables fail ∷ []) ∷ [])
+    (unit-valid v 2 (inside-variable v 2 (lit≤ tt) some))
+    (clauses-both v (flat_map written (frame_clauses own_variables 1 nodes)) ((literal_in own_variables fail ∷ []) ∷ [])
+    (frame-valid v 1 nodes (λ k node at.
+      let below = slice_get_within nodes k node at in
+      let taken = length-take-le k nodes (omega arith) in
+      node-valid v (1 + k) (take k nodes) node (omega arith) (omega arith) (omega arith) (net.each k node at)))
+    (unit-valid v (literal_in own_variables fail) (inside-literal v fail names))))
