@@ -70,6 +70,8 @@ fn push_gates<C: Clauses>(gates: &Gates, into: &mut C) -> Result<(), PushFault>
 pub fn variables(gates: &Gates) -> u32
     ensures count { result ≡ length gates.now.nodes }
     ensures few { result < 2 ^ 31 }
+    // For callers that know the limit, what `push_step` asks of the gates.
+    ensures within { gate_count gates.now.nodes ≤ gates.now.limit }
 {
     gates.nodes()
 }
