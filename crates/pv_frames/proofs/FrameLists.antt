@@ -141,8 +141,8 @@ frame-valid v n (x ∷ nodes) each =
     (clauses-both v (flat_map written (node_clauses own_variables n x)) (flat_map written (frame_clauses own_variables (suc n) nodes))
     (subst (λ (m : ℕ). AreClauses v (flat_map written (node_clauses own_variables m x))) here (each 0 x refl))
     (frame-valid v (suc n) nodes (λ k node at.
-      let there : n + suc k ≡ suc n + k = omega arith in
-      subst (λ (m : ℕ). AreClauses v (flat_map written (node_clauses own_variables m node))) there (each (suc k) node at))))
+    let there : n + suc k ≡ suc n + k = omega arith in
+    subst (λ (m : ℕ). AreClauses v (flat_map written (node_clauses own_variables m node))) there (each (suc k) node at))))
 
 -- ---- they are few
 
@@ -200,7 +200,7 @@ step-valid nodes fail net names =
     (unit-valid v 2 (inside-variable v 2 (lit≤ tt) some))
     (clauses-both v (flat_map written (frame_clauses own_variables 1 nodes)) ((literal_in own_variables fail ∷ []) ∷ [])
     (frame-valid v 1 nodes (λ k node at.
-      let below = slice_get_within nodes k node at in
-      let taken = length-take-le k nodes (omega arith) in
-      node-valid v (1 + k) (take k nodes) node (omega arith) (omega arith) (omega arith) (net.each k node at)))
+    let below = slice_get_within nodes k node at in
+    let taken = length-take-le k nodes (omega arith) in
+    node-valid v (1 + k) (take k nodes) node (omega arith) (omega arith) (omega arith) (net.each k node at)))
     (unit-valid v (literal_in own_variables fail) (inside-literal v fail names))))
