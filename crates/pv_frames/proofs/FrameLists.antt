@@ -1,18 +1,19 @@
 -- The clauses of a frame, node by node: they are clauses, and few.
-use Rattle.std.proofs.Common.{◌≡◌, ℕ, ℤ, pos, negsuc, unsigned_abs, ◌+◌, ◌*◌, ◌/◌, ◌^◌, ◌<◌, ◌≤◌, zero, suc, Bool, true, false, cond, ◌||◌, List, [], ◌∷◌, ◌++◌, length, take, drop, Some, Option, unwrap_or, slice_get, refl, sym, ◌∙◌, ap, subst, arith, lit≤, lit<, length-append, append_assoc, append-nil, length-take-le}
+use Rattle.std.proofs.Common.{◌≡◌, ℕ, ℤ, pos, negsuc, ◌+◌, ◌*◌, ◌/◌, ◌<◌, ◌≤◌, zero, suc, Bool, true, false, cond, List, [], ◌∷◌, ◌++◌, length, take, drop, Some, Option, unwrap_or, slice_get, refl, sym, ◌∙◌, ap, subst, length-take-le, arith, lit≤, lit<, length-append, append_assoc, append-nil}
 use Rattle.std.specs.List.{flat_map, AllByRecursion}
 use Rattle.std.proofs.lemmas.Bool.{or_from, ne_eqb, le-ltb}
 use Rattle.std.proofs.lemmas.Grind.{flat_map-append}
+use Rattle.std.proofs.lemmas.Option.{slice_get_within}
 use Rattle.std.proofs.lemmas.List.Sums.{sum_by-append, sum_by-take-drop}
 use Rattle.pv_gate.specs.declared.netlist.Node.{Node}
 use Rattle.pv_gate.specs.declared.netlist.Node.TheVariants.{True, Input, And, Xor, Mux}
 use Rattle.pv_gate.specs.Node.{Names, is_gate, gate_count}
-use Rattle.pv_gate.specs.Netlist.{MayFollow}
+use Rattle.pv_gate.specs.Netlist.{IsNetlist, MayFollow}
 use Rattle.pv_gate.proofs.Building.{Names-more}
 use Rattle.pv_cnf.specs.Literal.{complement, is_outside}
 use Rattle.pv_cnf.specs.Clause.{has_outside, AreClauses}
-use Rattle.pv_frames.specs.Frames.{Frame, HasLiterals, own_variables, literal_in, and_clauses, xor_clauses, mux_clauses, node_clauses, frame_clauses}
-use Rattle.pv_frames.specs.Formulas.{has_complements, once, written}
+use Rattle.pv_frames.specs.Frames.{Frame, own_variables, literal_in, and_clauses, xor_clauses, mux_clauses, node_clauses, frame_clauses}
+use Rattle.pv_frames.specs.Formulas.{has_complements, once, written, step_clauses}
 use Rattle.pv_frames.proofs.Lists.{clauses-both}
 use Rattle.pv_frames.proofs.Literals.{outside-complement}
 use Rattle.pv_frames.proofs.Written.{written-valid}
@@ -84,24 +85,34 @@ flipped v lit h = outside-complement v lit ∙ h
 and-inside : (v g a b : ℕ) → is_outside v g ≡ false → is_outside v a ≡ false → is_outside v b ≡ false → AllByRecursion (AreInside v) (and_clauses g a b)
 and-inside v g a b p q r = (
   two-inside v (complement g) a (flipped v g p) q,
-  (two-inside v (complement g) b (flipped v g p) r,
-    (three-inside v g (complement a) (complement b) p (flipped v a q) (flipped v b r), tt)),
+  (
+    two-inside v (complement g) b (flipped v g p) r,
+    (three-inside v g (complement a) (complement b) p (flipped v a q) (flipped v b r), tt),
+  ),
 )
 
 xor-inside : (v g a b : ℕ) → is_outside v g ≡ false → is_outside v a ≡ false → is_outside v b ≡ false → AllByRecursion (AreInside v) (xor_clauses g a b)
 xor-inside v g a b p q r = (
   three-inside v (complement g) a b (flipped v g p) q r,
-  (three-inside v (complement g) (complement a) (complement b) (flipped v g p) (flipped v a q) (flipped v b r),
-    (three-inside v g (complement a) b p (flipped v a q) r,
-      (three-inside v g a (complement b) p q (flipped v b r), tt))),
+  (
+    three-inside v (complement g) (complement a) (complement b) (flipped v g p) (flipped v a q) (flipped v b r),
+    (
+      three-inside v g (complement a) b p (flipped v a q) r,
+      (three-inside v g a (complement b) p q (flipped v b r), tt),
+    ),
+  ),
 )
 
 mux-inside : (v g s a b : ℕ) → is_outside v g ≡ false → is_outside v s ≡ false → is_outside v a ≡ false → is_outside v b ≡ false → AllByRecursion (AreInside v) (mux_clauses g s a b)
 mux-inside v g s a b p o q r = (
   three-inside v (complement g) (complement s) a (flipped v g p) (flipped v s o) q,
-  (three-inside v g (complement s) (complement a) p (flipped v s o) (flipped v a q),
-    (three-inside v (complement g) s b (flipped v g p) o r,
-      (three-inside v g s (complement b) p o (flipped v b r), tt))),
+  (
+    three-inside v g (complement s) (complement a) p (flipped v s o) (flipped v a q),
+    (
+      three-inside v (complement g) s b (flipped v g p) o r,
+      (three-inside v g s (complement b) p o (flipped v b r), tt),
+    ),
+  ),
 )
 
 -- a node's clauses are clauses
@@ -110,8 +121,10 @@ node-valid v n before node from to few follows = written-all v (node_clauses own
   where
     gate : is_outside v (own_variables n) ≡ false
     gate = inside-variable v (2 * n) (omega arith) (omega arith)
+
     operand : (l : ℤ) → Names (length before) l → is_outside v (literal_in own_variables l) ≡ false
     operand l h = inside-literal v l (Names-more (length before) v l few h)
+
     by : (node : Node) → MayFollow before node → AllByRecursion (AreInside v) (node_clauses own_variables n node)
     by True h = tt
     by (Input m) h = tt
@@ -119,13 +132,17 @@ node-valid v n before node from to few follows = written-all v (node_clauses own
     by (Xor a b) h = xor-inside v _ _ _ gate (operand a h.0) (operand b h.1)
     by (Mux s a b) h = mux-inside v _ _ _ _ gate (operand s h.0) (operand a h.1.0) (operand b h.1.1)
 
--- operands that name earlier nodes have literals
-pub has-literals : (before : List Node) (node : Node) → length before < 2 ^ 31 → MayFollow before node → HasLiterals node
-has-literals before True few follows = tt
-has-literals before (Input m) few follows = tt
-has-literals before (And a b) few follows = (omega (arith, follows.0.to_last), omega (arith, follows.1.to_last))
-has-literals before (Xor a b) few follows = (omega (arith, follows.0.to_last), omega (arith, follows.1.to_last))
-has-literals before (Mux s a b) few follows = (omega (arith, follows.0.to_last), omega (arith, follows.1.0.to_last), omega (arith, follows.1.1.to_last))
+-- the clauses of all nodes, where those of each are
+pub frame-valid : (v n : ℕ) (nodes : List Node) → ((k : ℕ) (node : Node) → slice_get nodes k ≡ Some node → AreClauses v (flat_map written (node_clauses own_variables (n + k) node))) → AreClauses v (flat_map written (frame_clauses own_variables n nodes))
+frame-valid v n [] each = tt
+frame-valid v n (x ∷ nodes) each =
+    let here : n + 0 ≡ n = omega arith in
+    subst (AreClauses v) (sym (flat_map-append written (node_clauses own_variables n x) (frame_clauses own_variables (suc n) nodes)))
+    (clauses-both v (flat_map written (node_clauses own_variables n x)) (flat_map written (frame_clauses own_variables (suc n) nodes))
+    (subst (λ (m : ℕ). AreClauses v (flat_map written (node_clauses own_variables m x))) here (each 0 x refl))
+    (frame-valid v (suc n) nodes (λ k node at.
+    let there : n + suc k ≡ suc n + k = omega arith in
+    subst (λ (m : ℕ). AreClauses v (flat_map written (node_clauses own_variables m node))) there (each (suc k) node at))))
 
 -- ---- they are few
 
@@ -156,9 +173,34 @@ frame-few frame n (x ∷ nodes) =
     omega (arith, length-append (node_clauses frame n x) (frame_clauses frame (suc n) nodes))
 
 -- at most four for each gate
-pub written-few : (frame : Frame) (n : ℕ) (nodes : List Node) (k : ℕ) → length (flat_map written (frame_clauses frame n (take k nodes))) ≤ 4 * gate_count nodes
-written-few frame n nodes k =
-    let some = frame-few frame n (take k nodes) in
-    let less = length-written (frame_clauses frame n (take k nodes)) in
-    let split = sum_by-take-drop (λ (y : Node). cond (is_gate y) 1 0) nodes k in
-    omega arith
+pub written-few : (frame : Frame) (n : ℕ) (nodes : List Node) → length (flat_map written (frame_clauses frame n nodes)) ≤ 4 * gate_count nodes
+written-few frame n nodes = let some = frame-few frame n nodes in let less = length-written (frame_clauses frame n nodes) in omega arith
+
+pub gates-taken : (nodes : List Node) (k : ℕ) → gate_count (take k nodes) ≤ gate_count nodes
+gates-taken nodes k = let split = sum_by-take-drop (λ (y : Node). cond (is_gate y) 1 0) nodes k in omega arith
+
+-- ---- the whole list
+
+pub step-is : (nodes : List Node) (fail : ℤ) → step_clauses nodes fail ≡ (2 ∷ []) ∷ (flat_map written (frame_clauses own_variables 1 nodes) ++ (literal_in own_variables fail ∷ []) ∷ [])
+step-is nodes fail =
+    let l = literal_in own_variables fail in
+    ap (λ (cs : List (List ℕ)). (2 ∷ []) ∷ flat_map written (cs ++ (l ∷ []) ∷ [])) (append-nil (frame_clauses own_variables 1 nodes))
+    ∙ ap (λ (cs : List (List ℕ)). (2 ∷ []) ∷ cs) (flat_map-append written (frame_clauses own_variables 1 nodes) ((l ∷ []) ∷ []))
+
+unit-valid : (v lit : ℕ) → is_outside v lit ≡ false → AreClauses v ((lit ∷ []) ∷ [])
+unit-valid v lit h = written-valid v (lit ∷ []) (or_from _ _ h refl) (lit< tt)
+
+-- it is a formula over one variable for each node
+pub step-valid : (nodes : List Node) (fail : ℤ) → IsNetlist nodes → Names (length nodes) fail → AreClauses (length nodes) (step_clauses nodes fail)
+step-valid nodes fail net names =
+    let v = length nodes in
+    let some = slice_get_within nodes 0 True net.first in
+    subst (AreClauses v) (sym (step-is nodes fail))
+    (clauses-both v ((2 ∷ []) ∷ []) (flat_map written (frame_clauses own_variables 1 nodes) ++ (literal_in own_variables fail ∷ []) ∷ [])
+    (unit-valid v 2 (inside-variable v 2 (lit≤ tt) some))
+    (clauses-both v (flat_map written (frame_clauses own_variables 1 nodes)) ((literal_in own_variables fail ∷ []) ∷ [])
+    (frame-valid v 1 nodes (λ k node at.
+    let below = slice_get_within nodes k node at in
+    let taken = length-take-le k nodes (omega arith) in
+    node-valid v (1 + k) (take k nodes) node (omega arith) (omega arith) (omega arith) (net.each k node at)))
+    (unit-valid v (literal_in own_variables fail) (inside-literal v fail names))))

@@ -1,7 +1,7 @@
 -- Literals of a formula: complements, and their values.
-use Rattle.std.proofs.Common.{◌≡◌, ℕ, ◌+◌, ◌-◌, ◌*◌, ◌/◌, ◌%◌, ◌<◌, ◌≤◌, Bool, true, false, not, cond, eqb, ◌||◌, refl, sym, ◌∙◌, ap, arith, inl, inr, nat_lt}
-use Rattle.std.proofs.lemmas.Bool.{cases_eq, cases_Bool, eq-eqb, ne_eqb, eqb-true, eqb-false}
-use Rattle.pv_cnf.specs.Literal.{variable_of, is_negated, complement, literal_value, is_outside}
+use Rattle.std.proofs.Common.{◌≡◌, ℕ, ◌/◌, ◌%◌, Bool, true, false, not, cond, eqb, ◌||◌, refl, sym, ◌∙◌, ap, arith, inl, inr, nat_lt}
+use Rattle.std.proofs.lemmas.Bool.{cases_eq, eq-eqb, ne_eqb, eqb-false}
+use Rattle.pv_cnf.specs.Literal.{variable_of, complement, literal_value, is_outside}
 
 pub variable-complement : (lit : ℕ) → variable_of (complement lit) ≡ variable_of lit
 variable-complement lit = omega arith
@@ -34,6 +34,6 @@ value-complement values lit = elim (cases_eq (lit % 2) 1) [
 -- a literal of the same variable is the literal or its complement
 pub apart : (lit other : ℕ) → eqb other lit ≡ false → eqb other (complement lit) ≡ false → eqb (variable_of lit) (variable_of other) ≡ false
 apart lit other same opposite = ne_eqb (lit / 2) (other / 2) (λ e.
-  let ne : other ≡ lit → ⊥ = eqb-false other lit same in
-  let opp : other ≡ complement lit → ⊥ = eqb-false other (complement lit) opposite in
-  elim (cases_eq (other % 2) (lit % 2)) [ inl p ↦ ne (omega arith) | inr p ↦ opp (omega arith) ])
+    let ne : other ≡ lit → ⊥ = eqb-false other lit same in
+    let opp : other ≡ complement lit → ⊥ = eqb-false other (complement lit) opposite in
+    elim (cases_eq (other % 2) (lit % 2)) [ inl p ↦ ne (omega arith) | inr p ↦ opp (omega arith) ])

@@ -1,22 +1,22 @@
 -- Values of a formula's variables, and the values of a circuit's nodes.
-use Rattle.std.proofs.Common.{◌≡◌, ℕ, ℤ, pos, negsuc, ◌+◌, ◌-◌, ◌*◌, ◌<◌, ◌≤◌, zero, suc, Bool, true, false, not, cond, eqb, ◌||◌, ◌&&◌, List, [], ◌∷◌, ◌++◌, length, take, get_or, Some, Option, unwrap_or, slice_get, refl, sym, ◌∙◌, ap, subst, arith, length-append, length-take-le, add-one}
+use Rattle.std.proofs.Common.{◌≡◌, ℕ, ℤ, pos, negsuc, ◌+◌, ◌*◌, ◌<◌, ◌≤◌, zero, suc, Bool, true, false, not, cond, ◌&&◌, List, [], ◌∷◌, length, take, get_or, Some, Option, unwrap_or, slice_get, refl, sym, ◌∙◌, ap, subst, arith}
 use Rattle.std.specs.Bool.{beq}
-use Rattle.std.specs.List.{list_all, flat_map}
+use Rattle.std.specs.List.{list_all}
 use Rattle.std.proofs.lemmas.Bool.{and_parts, and_from, true≢false}
 use Rattle.std.proofs.lemmas.List.Folds.{list_all-append}
 use Rattle.std.proofs.lemmas.List.Sums.{sum_by-append}
 use Rattle.pv_gate.specs.declared.netlist.Node.{Node}
 use Rattle.pv_gate.specs.declared.netlist.Node.TheVariants.{True, Input, And, Xor, Mux}
 use Rattle.pv_gate.specs.Node.{Names, is_gate, is_input, input_count}
-use Rattle.pv_gate.specs.Netlist.{IsNetlist, MayFollow}
+use Rattle.pv_gate.specs.Netlist.{MayFollow}
 use Rattle.pv_gate.specs.Value as gate
 use Rattle.pv_gate.specs.Value.{node_value, exclusive_or}
 use Rattle.pv_gate.proofs.Building.{Names-more}
-use Rattle.pv_cnf.specs.Literal.{complement, literal_value}
+use Rattle.pv_cnf.specs.Literal.{literal_value}
 use Rattle.pv_cnf.specs.Clause.{clause_value}
 use Rattle.pv_frames.specs.Frames.{own_variables, literal_in, node_clauses, frame_clauses}
 use Rattle.pv_frames.proofs.Literals.{value-plain, value-complement}
-use Rattle.pv_frames.proofs.GateValues.{and-means, xor-means, mux-means, beq-same, same-beq}
+use Rattle.pv_frames.proofs.GateValues.{and-means, xor-means, mux-means}
 
 -- the values of `count` variables, from variable n on
 abbrev pub column : (ℕ → Bool) → ℕ → ℕ → List Bool
@@ -89,7 +89,7 @@ pub nodes-only : (values : ℕ → Bool) (n : ℕ) (nodes : List Node) → list_
 nodes-only values n [] h k node at = absurd (cc)
 nodes-only values n (x ∷ nodes) h k node at =
     let parts = and_parts (list_all (clause_value values) (node_clauses own_variables n x)) (list_all (clause_value values) (frame_clauses own_variables (suc n) nodes))
-        (sym (list_all-append (clause_value values) (node_clauses own_variables n x) (frame_clauses own_variables (suc n) nodes)) ∙ h) in
+    (sym (list_all-append (clause_value values) (node_clauses own_variables n x) (frame_clauses own_variables (suc n) nodes)) ∙ h) in
     place k at (nodes-only values (suc n) nodes parts.1) parts.0
   where
     place : (k : ℕ) → slice_get (x ∷ nodes) k ≡ Some node → ((k : ℕ) (node : Node) → slice_get nodes k ≡ Some node → list_all (clause_value values) (node_clauses own_variables (suc n + k) node) ≡ true) → list_all (clause_value values) (node_clauses own_variables n x) ≡ true → list_all (clause_value values) (node_clauses own_variables (n + k) node) ≡ true
@@ -110,8 +110,8 @@ nodes-hold values n (x ∷ nodes) each =
     ∙ and_from (list_all (clause_value values) (node_clauses own_variables n x)) (list_all (clause_value values) (frame_clauses own_variables (suc n) nodes))
     (subst (λ (m : ℕ). list_all (clause_value values) (node_clauses own_variables m x) ≡ true) e (each 0 x refl))
     (nodes-hold values (suc n) nodes (λ k node at.
-      let f : n + suc k ≡ suc n + k = omega arith in
-      subst (λ (m : ℕ). list_all (clause_value values) (node_clauses own_variables m node) ≡ true) f (each (suc k) node at)))
+    let f : n + suc k ≡ suc n + k = omega arith in
+    subst (λ (m : ℕ). list_all (clause_value values) (node_clauses own_variables m node) ≡ true) f (each (suc k) node at)))
 
 -- ---- the values of the inputs
 

@@ -1,9 +1,9 @@
 -- Clauses pushed one after the other.
-use Rattle.std.proofs.Common.{◌≡◌, ◌↔◌, ℕ, ◌<◌, length, arith, refl, ◌++◌, List, [], ◌∷◌, sym, ◌∙◌, ap, subst, append_assoc, append-nil, true, false, Option, Some, None, Result, Ok, Err, OnOk, OnErr}
+use Rattle.std.proofs.Common.{◌≡◌, ◌↔◌, ℕ, length, arith, refl, ◌++◌, List, [], ◌∷◌, sym, ◌∙◌, ap, subst, append_assoc, append-nil, true, false, Some, None, Result, Ok, Err, OnOk, OnErr, IfErr}
 use Rattle.std.proofs.lemmas.Bool.{true≢false}
 use Rattle.pv_cnf.specs.declared.clauses.PushFault.{PushFault}
 use Rattle.pv_cnf.specs.declared.clauses.PushFault.TheVariants.{VariableOutOfRange, Doubled, Empty, Full, NoMemory}
-use Rattle.pv_cnf.specs.Clause.{has_outside, has_double, IsClause, AreClauses}
+use Rattle.pv_cnf.specs.Clause.{has_outside, has_double, IsClause}
 use Rattle.pv_frames.specs.Pushing.{Overflow, AllFit, IsRefusal, ArePushed, StopsAt, Pushes}
 
 fit-same : (f g : Overflow) (there clauses : List (List ℕ)) → ((all : List (List ℕ)) → f all ≡ g all) → AllFit f there clauses → AllFit g there clauses
@@ -64,3 +64,19 @@ pushes_one f n old new lits (Err fault) good ok err outside doubled empty full f
   pushed = record { stand = err ∙ sym (append-nil old); fit = tt };
   refusal = subst (λ (t : List (List ℕ)). IsRefusal f (t ++ lits ∷ []) fault) (sym err) (good_refused f n old lits fault (Err fault) refl good outside doubled empty full);
 }
+
+-- ---- what a call gives whose last call this is
+
+pub pushes_behind : (f g : Overflow) (old mid new front part all : List (List ℕ)) (r : Result (Unit {0}) PushFault) → all ≡ front ++ part → ((all : List (List ℕ)) → g all ≡ f all) → ArePushed f old front mid → Pushes g mid part new r → Pushes f old all new r
+pushes_behind f g old mid new front part all (Ok done) is same h p = subst (λ (t : List (List ℕ)). ArePushed f old t new) (sym is) (pushed_more f g old mid new front part same h p)
+pushes_behind f g old mid new front part all (Err fault) is same h p =
+    subst (λ (t : List (List ℕ)). StopsAt f old t new fault) (sym (is ∙ ap (λ (t : List (List ℕ)). front ++ t) (sym (append-nil part))))
+    (stops_within f g old mid new front part [] fault same h p)
+
+pub pushes-ok : (f : Overflow) (old clauses new : List (List ℕ)) (r : Result (Unit {0}) PushFault) → Pushes f old clauses new r → OnOk r (ArePushed f old clauses new)
+pushes-ok f old clauses new (Ok done) p = p
+pushes-ok f old clauses new (Err fault) p = tt
+
+pub pushes-err : (f : Overflow) (old clauses new : List (List ℕ)) (r : Result (Unit {0}) PushFault) → Pushes f old clauses new r → IfErr r (λ fault. StopsAt f old clauses new fault)
+pushes-err f old clauses new (Ok done) p = tt
+pushes-err f old clauses new (Err fault) p = p

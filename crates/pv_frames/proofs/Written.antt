@@ -1,10 +1,10 @@
 -- Clauses as they are written: they are clauses, and mean the same.
-use Rattle.std.proofs.Common.{◌≡◌, ℕ, ◌+◌, ◌<◌, ◌≤◌, zero, suc, Bool, true, false, not, cond, eqb, ◌||◌, ◌&&◌, List, [], ◌∷◌, ◌++◌, length, refl, sym, ◌∙◌, ap, subst, arith, inl, inr}
+use Rattle.std.proofs.Common.{◌≡◌, ℕ, ◌<◌, Bool, true, false, not, cond, eqb, ◌||◌, ◌&&◌, List, [], ◌∷◌, length, refl, sym, ◌∙◌, ap, arith}
 use Rattle.std.specs.List.{list_any, list_all, filter, flat_map}
-use Rattle.std.proofs.lemmas.Bool.{cases_Bool, or_parts, or_from, or_left, or_right, true≢false, eqb-true, eqb-false, eq-eqb}
+use Rattle.std.proofs.lemmas.Bool.{or_parts, or_from, or_left, or_right, true≢false, eqb-true}
 use Rattle.std.proofs.lemmas.List.Folds.{list_all-append}
 use Rattle.pv_cnf.specs.Literal.{variable_of, complement, literal_value, is_outside}
-use Rattle.pv_cnf.specs.Clause.{has_outside, has_variable, has_double, IsClause, AreClauses, clause_value}
+use Rattle.pv_cnf.specs.Clause.{has_outside, has_variable, has_double, AreClauses, clause_value}
 use Rattle.pv_frames.specs.Formulas.{has_complements, once, written}
 use Rattle.pv_frames.proofs.Literals.{value-complement, apart}
 
@@ -102,6 +102,7 @@ complements-true values (x ∷ xs) h = by (list_any (λ (o : ℕ). eqb o (comple
     pair : (b : Bool) → literal_value values x ≡ b → list_any (λ (o : ℕ). eqb o (complement x)) xs ≡ true → clause_value values (x ∷ xs) ≡ true
     pair true e found = or_left (literal_value values x) _ e
     pair false e found = or_right (literal_value values x) _ (any-other (literal_value values) (complement x) xs (value-complement values x ∙ ap not e) found)
+
     by : (b : Bool) → list_any (λ (o : ℕ). eqb o (complement x)) xs ≡ b → (b || has_complements xs) ≡ true → (has_complements xs ≡ true → clause_value values xs ≡ true) → clause_value values (x ∷ xs) ≡ true
     by true e h rest = pair (literal_value values x) refl e
     by false e h rest = or_right (literal_value values x) _ (rest h)

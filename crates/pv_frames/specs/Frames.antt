@@ -1,5 +1,5 @@
 -- Frames: a circuit's gates as clauses. A frame gives each node of the circuit a literal of the formula.
-use Rattle.std.specs.Prelude.{ℕ, suc, ◌*◌, ◌<◌, ◌^◌, unsigned_abs, ℤ, pos, negsuc, List, [], ◌∷◌, ◌++◌}
+use Rattle.std.specs.Prelude.{ℕ, suc, ◌*◌, ℤ, pos, negsuc, List, [], ◌∷◌, ◌++◌}
 use Rattle.pv_gate.specs.declared.netlist.Node.{Node}
 use Rattle.pv_gate.specs.declared.netlist.Node.TheVariants.{True, Input, And, Xor, Mux}
 use Rattle.pv_cnf.specs.Literal.{complement}
@@ -16,14 +16,6 @@ literal_in frame (negsuc n) = complement (frame (suc n))
 -- each node has the variable of its number
 abbrev pub own_variables : Frame
 own_variables n = 2 * n
-
--- a node's operands have literals in 32 bits
-abbrev pub HasLiterals : Node → Type 0
-HasLiterals True = Unit {0}
-HasLiterals (Input m) = Unit {0}
-HasLiterals (And a b) = (unsigned_abs a < 2 ^ 31) × (unsigned_abs b < 2 ^ 31)
-HasLiterals (Xor a b) = (unsigned_abs a < 2 ^ 31) × (unsigned_abs b < 2 ^ 31)
-HasLiterals (Mux s a b) = (unsigned_abs s < 2 ^ 31) × (unsigned_abs a < 2 ^ 31) × (unsigned_abs b < 2 ^ 31)
 
 -- ---- the clauses by which g is what a gate makes of its operands
 

@@ -3,9 +3,9 @@
 ghost use Rattle.std.specs.Prelude.{◌≡◌, ◌<◌, ◌≤◌, ◌^◌, unsigned_abs, length};
 ghost use Rattle.std.specs.List.{flat_map};
 ghost use Rattle.pv_gate.specs.Netlist.{MayFollow};
-ghost use Rattle.pv_frames.specs.Frames.{literal_in, own_variables, HasLiterals, and_clauses, xor_clauses, mux_clauses, node_clauses};
+ghost use Rattle.pv_frames.specs.Frames.{literal_in, own_variables, and_clauses, xor_clauses, mux_clauses, node_clauses};
 ghost use Rattle.pv_frames.specs.Formulas.{written};
-ghost use Rattle.pv_frames.specs.Short.{clauses_of};
+ghost use Rattle.pv_frames.specs.Short.{clauses_of, HasLiterals};
 
 use crate::short::{Short, three, two};
 use pv_cnf::flip;

@@ -1,6 +1,6 @@
 //! The clauses of a query's formula, pushed into a store.
 
-ghost use Rattle.std.specs.Prelude.{◌≡◌, ◌+◌, ◌-◌, ◌*◌, ◌^◌, ◌<◌, ◌≤◌, ℕ, List, [], ◌∷◌, ◌++◌, length, IsTrue, OnOk, IfErr};
+ghost use Rattle.std.specs.Prelude.{◌≡◌, ◌≢◌, ◌+◌, ◌-◌, ◌*◌, ◌^◌, ◌<◌, ◌≤◌, ℕ, List, [], ◌∷◌, ◌++◌, length, IsTrue, OnOk, IfErr};
 ghost use Rattle.std.specs.List.{flat_map};
 ghost use Rattle.pv_gate.specs.Node.{Names, gate_count};
 ghost use Rattle.pv_cnf.specs.Clause.{AreClauses};
@@ -55,6 +55,7 @@ fn push_gates<C: Clauses>(gates: &Gates, into: &mut C) -> Result<(), PushFault>
     requires room { length (C.clauses into.old) + 4 * gate_count gates.now.nodes + 4 < 2 ^ 32 }
     ensures pushes { Pushes (C.overflow into.old) (C.clauses into.old)
         (flat_map written (frame_clauses own_variables 1 gates.now.nodes)) (C.clauses into.new) result }
+    ensures few { length gates.now.nodes < 2 ^ 31 }
     ensures variables_kept { C.variables into.new ≡ C.variables into.old }
     ensures takes_kept { C.takes_clauses into.new ≡ C.takes_clauses into.old }
     ensures overflow_kept { (all : List (List ℕ)) → C.overflow into.new all ≡ C.overflow into.old all }
@@ -69,6 +70,8 @@ fn push_gates<C: Clauses>(gates: &Gates, into: &mut C) -> Result<(), PushFault>
 pub fn variables(gates: &Gates) -> u32
     ensures count { result ≡ length gates.now.nodes }
     ensures few { result < 2 ^ 31 }
+    // For callers that know the limit, what `push_step` asks of the gates.
+    ensures within { gate_count gates.now.nodes ≤ gates.now.limit }
 {
     gates.nodes()
 }
@@ -76,8 +79,9 @@ pub fn variables(gates: &Gates) -> u32
 /// Pushes the clauses of the step query at k = 0: from any state one scan, in which the literal `fail`
 /// of the circuit is true.
 ///
-/// `Full` comes where a clause doesn't fit into the store, with the need of the first such clause;
-/// after it, and after want of memory, the clauses before the one that was refused stand there.
+/// The circuit has at most 10,000,000 gates, and the store at most 1,000,000,000 clauses. `Full` comes
+/// where a clause doesn't fit into the store, with the need of the first such clause; after it, and
+/// after want of memory, the clauses before the one that was refused stand there.
 pub fn push_step<C: Clauses>(gates: &Gates, fail: i32, into: &mut C) -> Result<(), PushFault>
     requires fail { Names (length gates.now.nodes) fail }
     requires few_gates { gate_count gates.now.nodes ≤ 10000000 }
@@ -87,9 +91,14 @@ pub fn push_step<C: Clauses>(gates: &Gates, fail: i32, into: &mut C) -> Result<(
     ensures ok { OnOk result (ArePushed (C.overflow into.old) (C.clauses into.old)
         (step_clauses gates.now.nodes fail) (C.clauses into.new)) }
 
-    // The clauses before the one that is refused stand there, and the faults of a clause itself never come.
+    // The clauses before the one that is refused stand there, and each of them fits.
     ensures err { IfErr result (λ fault. StopsAt (C.overflow into.old) (C.clauses into.old)
         (step_clauses gates.now.nodes fail) (C.clauses into.new) fault) }
+
+    // The faults of a clause itself never come.
+    ensures in_range { result ≢ Err PushFault.VariableOutOfRange }
+    ensures distinct { result ≢ Err PushFault.Doubled }
+    ensures nonempty { result ≢ Err PushFault.Empty }
 
     ensures variables_kept { C.variables into.new ≡ C.variables into.old }
     ensures takes_kept { C.takes_clauses into.new ≡ C.takes_clauses into.old }

@@ -1,4 +1,4 @@
-use Rattle.std.proofs.Common.{◌≡◌, ◌<◌, ◌≤◌, ◌+◌, List, ℕ, suc, take, drop, length, get_or, sym, ◌∙◌, ap, subst, arith, length-append, length-take-le, Err}
+use Rattle.std.proofs.Common.{List, ℕ, suc, take, drop, length, get_or, sym, ◌∙◌, ap, subst, arith, length-append, length-take-le}
 use Rattle.std.specs.List.{flat_map}
 use Rattle.std.proofs.lemmas.Result.{err_from_is_err_and}
 use Rattle.pv_cnf.specs.Clause.{AreClauses}
@@ -17,11 +17,15 @@ push_short-requires-clause-valid g c =
 pub push_short-requires-clause-room : goal.push_short-requires-clause-room
 push_short-requires-clause-room g c =
     let front = take c.loop-clause.clause-index c.args.clauses.now in
-    omega (arith, c.requires.room, c.loop-clause-test.true,
+    omega (
+      arith,
+      c.requires.room,
+      c.loop-clause-test.true,
       ap (λ (t : List (List ℕ)). length t) c.loop-clause.invariant.pushed.stand,
       length-append (g.C.Clauses.clauses c.args.into.now) (flat_map clauses_of front),
       length-shorts front,
-      length-take-le c.loop-clause.clause-index c.args.clauses.now (omega arith))
+      length-take-le c.loop-clause.clause-index c.args.clauses.now (omega arith),
+    )
 
 pub returns-in_err-push_short-clause-pushes : goal.returns-in_err-push_short-clause-pushes
 returns-in_err-push_short-clause-pushes g c =

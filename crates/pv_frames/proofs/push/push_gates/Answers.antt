@@ -1,14 +1,12 @@
-use Rattle.std.proofs.Common.{◌≡◌, ◌<◌, ◌≤◌, ◌+◌, ◌-◌, List, ℕ, suc, take, drop, length, Some, slice_get, sym, ◌∙◌, ap, subst, arith, length-append, length-take-le}
+use Rattle.std.proofs.Common.{◌≡◌, ◌+◌, ◌-◌, List, ℕ, suc, take, drop, length, Some, slice_get, sym, ◌∙◌, ap, subst, arith, length-append, length-take-le}
 use Rattle.std.specs.List.{flat_map}
 use Rattle.std.proofs.lemmas.Result.{err_from_is_err_and}
-use Rattle.pv_gate.specs.declared.netlist.Node.{Node}
-use Rattle.pv_gate.specs.Netlist.{MayFollow}
 use Rattle.pv_cnf.specs.Clause.{AreClauses}
 use Rattle.pv_frames.specs.Frames.{own_variables, node_clauses, frame_clauses}
 use Rattle.pv_frames.specs.Formulas.{written}
 use Rattle.pv_frames.specs.Pushing.{ArePushed, StopsAt}
 use Rattle.pv_frames.specs.Short.{clauses_of}
-use Rattle.pv_frames.proofs.FrameLists.{written-few, node-valid, written-more, written-around}
+use Rattle.pv_frames.proofs.FrameLists.{written-few, gates-taken, node-valid, written-more, written-around}
 use Rattle.pv_frames.proofs.Pushed.{pushed_more, stops_within}
 use Rattle.pv_frames.proofs.push.push_gates.Goals as goal
 
@@ -23,10 +21,14 @@ push_all-requires-clause-valid g c =
 
 pub push_all-requires-clause-room : goal.push_all-requires-clause-room
 push_all-requires-clause-room g c =
-    omega (arith, c.requires.room,
+    omega (
+      arith,
+      c.requires.room,
       ap (λ (t : List (List ℕ)). length t) c.loop-k.invariant.pushed.stand,
       length-append (g.C.Clauses.clauses c.args.into.now) (flat_map written (frame_clauses own_variables 1 (take c.loop-k.k c.args.gates.now.nodes))),
-      written-few own_variables 1 c.args.gates.now.nodes c.loop-k.k)
+      written-few own_variables 1 (take c.loop-k.k c.args.gates.now.nodes),
+      gates-taken c.args.gates.now.nodes c.loop-k.k,
+    )
 
 pub returns-in_err-push_all-clause-pushes : goal.returns-in_err-push_all-clause-pushes
 returns-in_err-push_all-clause-pushes g c =

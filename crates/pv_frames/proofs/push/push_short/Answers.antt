@@ -1,8 +1,8 @@
-use Rattle.std.proofs.Common.{◌≡◌, ℕ, List, sym, subst, [], ◌∷◌}
+use Rattle.std.proofs.Common.{sym, subst, [], ◌∷◌}
 use Rattle.pv_frames.specs.Pushing.{Pushes}
 use Rattle.pv_frames.specs.Short.{clauses_of}
 use Rattle.pv_frames.specs.declared.short.Short.{Short}
-use Rattle.pv_cnf.specs.Clause.{AreClauses, IsClause}
+use Rattle.pv_cnf.specs.Clause.{AreClauses}
 use Rattle.pv_frames.proofs.Pushed.{pushes_one}
 use Rattle.pv_frames.proofs.push.push_short.Goals as goal
 
