@@ -1,5 +1,5 @@
 //! The check of a certificate.
-ghost use Rattle.std.specs.Prelude.{◌≡◌, ◌↔◌, ◌≤◌, length, IfOk, OnOk, IfErr, IsTrue, Result, Err};
+ghost use Rattle.std.specs.Prelude.{◌≡◌, ◌↔◌, ◌<◌, ◌≤◌, ◌^◌, length, IfOk, OnOk, IfErr, IsTrue, Result, Err};
 ghost use Rattle.pv_gate.specs.Node.{Names, gate_count};
 ghost use Rattle.pv_frames.specs.Formulas.{step_clauses};
 ghost use Rattle.pv_mean.specs.Cells.{cells_of};
@@ -162,6 +162,7 @@ fn step_formula(alloc: Global, block: &Block, invariant: &Expr) -> Result<Formul
     requires names { HasNames block.now invariant.now }
     requires cells { length (cells_of block.now) ≤ MAX_INPUTS }
     ensures formula { IfOk result (λ formula. formula ≡ step_formula block.now invariant.now) }
+    ensures small { IfOk result (λ formula. formula.variables < 2 ^ 31) }
     ensures few { OnOk result (HasFewGates block.now invariant.now) }
     ensures none { IfErr result (λ fault. HasNoFormula block.now invariant.now fault) }
 {
@@ -177,6 +178,7 @@ fn formula_of(alloc: Global, step: &StepCircuit) -> Result<Formula, RecheckFault
     requires fail { Names (length step.now.gates.nodes) step.now.fail }
     requires gates { gate_count step.now.gates.nodes ≤ MAX_STEP_GATES }
     ensures formula { IfOk result (λ formula. formula ≡ record { variables = length step.now.gates.nodes; clauses = step_clauses step.now.gates.nodes step.now.fail }) }
+    ensures small { IfOk result (λ formula. formula.variables < 2 ^ 31) }
     ensures err { IfErr result (λ fault. fault ≡ RecheckFault.NoMemory) }
 {
     let Ok(mut formula) = Formula::make(alloc, variables(&step.gates)) else {
