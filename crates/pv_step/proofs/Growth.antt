@@ -20,7 +20,7 @@ use Rattle.pv_gate.specs.declared.netlist.Node.TheVariants.{And}
 use Rattle.pv_gate.specs.Node.{is_gate, gate_count, true_literal, false_literal}
 use Rattle.pv_gate.specs.Netlist.{Netlist, Extends}
 use Rattle.pv_gate.specs.Build.{Made, IsBeyond, present, complemented, share, shared_at, number_of, lower, higher, and_gate, or_gate}
-use Rattle.pv_step.specs.Circuits.{Literals, Wires, with_made, unary_gate, binary_gate, expression_gate, assign_gate, statement_gates, done_literal, trap_literal, over_literal, fail_gate, ok_gate}
+use Rattle.pv_step.specs.Circuits.{Literals, Wires, with_made, unary_gate, binary_gate, expression_gate, assign_gate, statement_gates, scan_gate}
 use Rattle.pv_step.specs.Wiring.{Gives}
 
 -- new has the nodes of old, and maybe gates after them
@@ -186,3 +186,11 @@ beyond_later keys all i s w start before limit lt is same same_limit far =
     let more = gate_count-grows (assign_gate keys w s).nodes (statement_gates keys (drop (suc i) all) (assign_gate keys w s)).nodes (grows_statements keys (drop (suc i) all) (assign_gate keys w s)) in
     let whole : statement_gates keys (drop (suc i) all) (assign_gate keys w s) ≡ statement_gates keys all start = sym (ap (λ ss. statement_gates keys ss w) split) ∙ same in
     omega (arith, more, ap (λ (v : Wires). gate_count v.nodes) whole)
+
+-- where the statements go beyond the limit, the scan does
+pub beyond_scan : (keys : List (List ℕ)) (ss all : List Stmt) (w : Wires) (invariant : Expr) (limit : ℕ) → ss ≡ all → limit < gate_count (statement_gates keys ss w).nodes → limit < gate_count (scan_gate keys all w invariant).nodes
+beyond_scan keys ss all w invariant limit same far =
+    let end = statement_gates keys all w in
+    let P : List Stmt → Type 0 = λ xs. limit < gate_count (statement_gates keys xs w).nodes in
+    let at : limit < gate_count end.nodes = subst P same far in
+    omega (arith, gate_count-grows end.nodes (scan_gate keys all w invariant).nodes (grows_expression keys end.literals end.nodes invariant))

@@ -1,2 +1,3 @@
 pub mod Growth
 pub mod Beginning
+pub mod Outcome
