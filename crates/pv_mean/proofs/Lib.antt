@@ -2,4 +2,5 @@ pub mod Numbers
 pub mod Lists
 pub mod FrameLaws
 pub mod RangeLaws
+pub mod TypeLaws
 pub mod RunLaws

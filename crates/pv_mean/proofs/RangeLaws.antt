@@ -16,17 +16,22 @@ use Rattle.pv_tree.specs.Scope.{key_of}
 use Rattle.pv_mean.specs.declared.cell.Cell.{Cell}
 use Rattle.pv_mean.specs.Cells.{has_key, is_input}
 use Rattle.pv_mean.specs.Frames.{Image, Input, Frame, first, others, begin}
-use Rattle.pv_mean.specs.Values.{Value, number, with_number, unary, binary, value_at, value, AllInBool, BoolLiterals, HasBoolLiterals}
+use Rattle.pv_mean.specs.Values.{Value, number, with_number, unary, binary, value_at, value}
+use Rattle.pv_mean.specs.Boolean.{BoolLiterals, HasBoolLiterals}
 use Rattle.pv_mean.specs.Statements.{Ending, normal, go_on, with_value_at, store, run_list}
+
+-- the values are values of BOOL
+abbrev pub AllInBool : List ℤ → Type 0
+AllInBool values = AllByRecursion (InRange BoolType) values
 
 zero_in_bool : InRange BoolType (pos 0)
 zero_in_bool = record { from = omega (arith, ints); to = omega (arith, ints) }
 
-first_in_bool : (frame : Frame) → AllInBool frame → InRange BoolType (first frame)
+pub first_in_bool : (frame : Frame) → AllInBool frame → InRange BoolType (first frame)
 first_in_bool [] all = zero_in_bool
 first_in_bool (v ∷ vs) all = all.0
 
-others_in_bool : (frame : Frame) → AllInBool frame → AllInBool (others frame)
+pub others_in_bool : (frame : Frame) → AllInBool frame → AllInBool (others frame)
 others_in_bool [] all = tt
 others_in_bool (v ∷ vs) all = all.1
 
@@ -50,10 +55,10 @@ with_value_at_in_bool (c ∷ cs) frame key v all one = lead (has_key key c) (wit
 abbrev InBool : Value → Type 0
 InBool (number v) = InRange BoolType v
 
-unary_in_bool : (op : UnaryOp) (v : ℤ) → InRange BoolType (unary op v)
+unary_in_bool : (op : UnaryOp) (v : ℤ) → InRange BoolType (unary BoolType op v)
 unary_in_bool Not v = wrap-in_range 1 false _ (omega arith)
 
-binary_in_bool : (op : BinaryOp) (a b : ℤ) → InRange BoolType (binary op a b)
+binary_in_bool : (op : BinaryOp) (a b : ℤ) → InRange BoolType (binary BoolType op a b)
 binary_in_bool And a b = wrap-in_range 1 false _ (omega arith)
 binary_in_bool Or a b = wrap-in_range 1 false _ (omega arith)
 
@@ -62,11 +67,11 @@ value_in_bool cells frame (Lit ty v place) lits all = lits
 value_in_bool cells frame (Read operand) lits all = value_at_in_bool cells frame (key_of operand) all
 value_in_bool cells frame (Unary' op place p arg) lits all = lead (value cells frame arg)
   where
-    lead : (v : Value) → InBool (with_number v (λ a. number (unary op a)))
+    lead : (v : Value) → InBool (with_number v (λ a. number (unary BoolType op a)))
     lead (number a) = unary_in_bool op a
 value_in_bool cells frame (Binary' op place p left q right) lits all = lead (value cells frame left) (value cells frame right)
   where
-    lead : (v w : Value) → InBool (with_number v (λ a. with_number w (λ b. number (binary op a b))))
+    lead : (v w : Value) → InBool (with_number v (λ a. with_number w (λ b. number (binary BoolType op a b))))
     lead (number a) (number b) = binary_in_bool op a b
 value_in_bool cells frame (Paren' place p inner) lits all = value_in_bool cells frame inner lits all
 

@@ -1,14 +1,13 @@
 -- Runs one after the other.
-use Rattle.std.proofs.Common.{◌≡◌, ◌++◌, List, [], ◌∷◌, refl, ap}
+use Rattle.std.proofs.Common.{◌≡◌, ◌++◌, List, [], ◌∷◌, Option, refl, ap}
 use Rattle.pv_tree.specs.declared.tree.Block.{Block}
 use Rattle.pv_mean.specs.Frames.{Image, Input}
-use Rattle.pv_mean.specs.Statements.{Ending, normal}
-use Rattle.pv_mean.specs.Scans.{scan}
-use Rattle.pv_mean.specs.Runs.{after, run_from, image_after, end_image}
+use Rattle.pv_mean.specs.Scans.{Scan, ScanEnd, done, scan}
+use Rattle.pv_mean.specs.Runs.{after, run_from, run_on, with_image, end_image}
 
-pub run_from-append : (block : Block) (image : Image) (inputs more : List Input) → run_from block image (inputs ++ more) ≡ run_from block image inputs ++ run_from block (end_image block image inputs) more
+pub run_from-append : (block : Block) (image : Image) (inputs more : List Input) → run_from block image (inputs ++ more) ≡ run_from block image inputs ++ run_on block (end_image block image inputs) more
 run_from-append block image [] more = refl
-run_from-append block image (i ∷ inputs) more = ap (λ l. scan block image i ∷ l) (lead (scan block image i).ending (λ next. run_from-append block next inputs more))
+run_from-append block image (i ∷ inputs) more = ap (λ l. scan block image i ∷ l) (lead (scan block image i).end (λ next. run_from-append block next inputs more))
   where
-    lead : (e : Ending) → ((next : Image) → run_from block next (inputs ++ more) ≡ run_from block next inputs ++ run_from block (end_image block next inputs) more) → after block e (λ next. run_from block next (inputs ++ more)) ≡ after block e (λ next. run_from block next inputs) ++ run_from block (end_image block (image_after block image e) inputs) more
-    lead (normal frame) same = same _
+    lead : (e : ScanEnd) → ((next : Image) → run_from block next (inputs ++ more) ≡ run_from block next inputs ++ run_on block (end_image block next inputs) more) → after block e (λ next. run_from block next (inputs ++ more)) ≡ after block e (λ next. run_from block next inputs) ++ run_on block (with_image block e (λ next. end_image block next inputs)) more
+    lead (done frame) same = same _

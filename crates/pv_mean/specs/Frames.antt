@@ -1,6 +1,7 @@
 -- Images, inputs and frames. An image has the values of the kept cells, an input those of the input cells, and a frame, which
 -- a scan works on, those of all cells, each in the order of the table.
 use Rattle.std.specs.Prelude.{List, [], ◌∷◌, map, filter, length, not, ℕ, ℤ, pos, if◌then◌else◌}
+use Rattle.pv_word.specs.declared.types.Ty.{Ty}
 use Rattle.pv_mean.specs.declared.cell.Cell.{Cell}
 use Rattle.pv_mean.specs.Cells.{is_input}
 
@@ -28,6 +29,16 @@ image_len cells = length (filter (λ c. not (is_input c.role)) cells)
 
 abbrev pub input_len : List Cell → ℕ
 input_len cells = length (filter (λ c. is_input c.role) cells)
+
+-- the types of a frame's values, of an image's and of an input's
+abbrev pub frame_types : List Cell → List Ty
+frame_types cells = map (λ c. c.ty) cells
+
+abbrev pub image_types : List Cell → List Ty
+image_types cells = map (λ c. c.ty) (filter (λ c. not (is_input c.role)) cells)
+
+abbrev pub input_types : List Cell → List Ty
+input_types cells = map (λ c. c.ty) (filter (λ c. is_input c.role) cells)
 
 -- the image before the first scan
 abbrev pub start_image : List Cell → Image

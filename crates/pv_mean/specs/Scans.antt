@@ -4,17 +4,25 @@ use Rattle.pv_tree.specs.declared.tree.Block.{Block}
 use Rattle.pv_tree.specs.Scope.{statements_of}
 use Rattle.pv_mean.specs.Cells.{cells_of}
 use Rattle.pv_mean.specs.Frames.{Frame, Image, Input, begin, image_of}
-use Rattle.pv_mean.specs.Statements.{Ending, run_list}
+use Rattle.pv_mean.specs.Statements.{Ending, normal, run_list}
 
--- the frame at its beginning, and how its statements ended. It is done where they ended normally
+-- how a scan ends: done, with the frame at its end; a trap and the loop bound are further cases
+pub data ScanEnd : Type 0 where
+  done : Frame → ScanEnd
+
+-- it is done where its statements ended normally
+abbrev pub end_of : Ending → ScanEnd
+end_of (normal frame) = done frame
+
+-- the frame at its beginning, and its end
 pub record Scan : Type 0 where
   pub beginning : Frame
-  pub ending : Ending
+  pub end : ScanEnd
 
 abbrev pub scan : Block → Image → Input → Scan
 scan block image input = record {
   beginning = begin (cells_of block) image input;
-  ending = run_list (cells_of block) (statements_of block.body) (begin (cells_of block) image input);
+  end = end_of (run_list (cells_of block) (statements_of block.body) (begin (cells_of block) image input));
 }
 
 -- the image that a scan leaves for the next one

@@ -1,23 +1,50 @@
 //! Laws of the definitions, each the contract of a function that does nothing.
-ghost use Rattle.std.specs.Prelude.{◌≡◌, ◌≢◌, ◌++◌, length, ℕ, ℤ, List};
-ghost use Rattle.std.specs.List.{AllByRecursion};
+ghost use Rattle.std.specs.Prelude.{◌≡◌, ◌≢◌, ◌++◌, length, pos, ℕ, ℤ, List, Contains, map};
 ghost use Rattle.pv_word.specs.declared.types.Ty.TheVariants.{Bool};
-ghost use Rattle.pv_word.specs.Types.{InRange};
+ghost use Rattle.pv_word.specs.Types.{AreValues};
+ghost use Rattle.pv_tree.specs.declared.place.Place.{Place};
+ghost use Rattle.pv_tree.specs.declared.tree.UnaryOp.TheVariants.{Not};
+ghost use Rattle.pv_tree.specs.declared.tree.BinaryOp.TheVariants.{And, Or};
+ghost use Rattle.pv_tree.specs.declared.tree.Operand.{Operand};
+ghost use Rattle.pv_tree.specs.declared.tree.Expr.{Expr};
+ghost use Rattle.pv_tree.specs.declared.tree.Stmt.TheVariants.{Assign};
 ghost use Rattle.pv_tree.specs.declared.tree.Block.{Block};
-ghost use Rattle.pv_tree.specs.Scope.{statements_of};
+ghost use Rattle.pv_tree.specs.Scope.{key_of, statements_of};
 ghost use Rattle.pv_mean.specs.declared.cell.Cell.{Cell};
-ghost use Rattle.pv_mean.specs.Cells.{cells_of};
-ghost use Rattle.pv_mean.specs.Frames.{Image, Input, Frame, image_len, input_len, start_image, begin, image_of, input_of};
-ghost use Rattle.pv_mean.specs.Values.{value_at, AllInBool, HasBoolLiterals};
-ghost use Rattle.pv_mean.specs.Statements.{normal, run_list, IsUntouched};
-ghost use Rattle.pv_mean.specs.Scans.{scan, next_image};
-ghost use Rattle.pv_mean.specs.Runs.{run_from, end_image};
+ghost use Rattle.pv_mean.specs.Cells.{cells_of, key_of_path};
+ghost use Rattle.pv_mean.specs.Frames.{Image, Input, Frame, image_len, input_len, frame_types, image_types, input_types, start_image, begin, image_of, input_of};
+ghost use Rattle.pv_mean.specs.Values.{number, unary, binary, value, value_at};
+ghost use Rattle.pv_mean.specs.Boolean.{IsBoolean};
+ghost use Rattle.pv_mean.specs.Statements.{normal, run_one, IsUntouched};
+ghost use Rattle.pv_mean.specs.Scans.{done, scan, next_image};
+ghost use Rattle.pv_mean.specs.Runs.{run_from, run_on, end_image};
+
+/// On values of BOOL the operators are those of the truth tables: 1 is true, 0 is false.
+pub fn operators_follow_the_truth_tables()
+    ensures not_false { unary Bool Not (pos 0) ≡ pos 1 }
+    ensures not_true { unary Bool Not (pos 1) ≡ pos 0 }
+    ensures and_false_false { binary Bool And (pos 0) (pos 0) ≡ pos 0 }
+    ensures and_false_true { binary Bool And (pos 0) (pos 1) ≡ pos 0 }
+    ensures and_true_false { binary Bool And (pos 1) (pos 0) ≡ pos 0 }
+    ensures and_true_true { binary Bool And (pos 1) (pos 1) ≡ pos 1 }
+    ensures or_false_false { binary Bool Or (pos 0) (pos 0) ≡ pos 0 }
+    ensures or_false_true { binary Bool Or (pos 0) (pos 1) ≡ pos 1 }
+    ensures or_true_false { binary Bool Or (pos 1) (pos 0) ≡ pos 1 }
+    ensures or_true_true { binary Bool Or (pos 1) (pos 1) ≡ pos 1 }
+{}
+
+/// Behind an assignment the target has the value that the expression had before it.
+pub fn assigned_cells_have_the_value()
+    ensures { (cells : List Cell) (frame ended : Frame) (target : Operand) (place : Place) (e : Expr) (v : ℤ)
+        → length frame ≡ length cells → Contains (map key_of_path cells) (key_of target) → value cells frame e ≡ number v
+        → run_one cells frame (Assign target place e) ≡ normal ended → value_at cells ended (key_of target) ≡ v }
+{}
 
 /// A run over some inputs and more is the run over them, followed by the run over the others from the
 /// image that it leaves.
 pub fn runs_follow()
     ensures { (block : Block) (image : Image) (inputs more : List Input)
-        → run_from block image (inputs ++ more) ≡ run_from block image inputs ++ run_from block (end_image block image inputs) more }
+        → run_from block image (inputs ++ more) ≡ run_from block image inputs ++ run_on block (end_image block image inputs) more }
 {}
 
 /// The image that a frame leaves is as long as the start image.
@@ -25,24 +52,32 @@ pub fn images_keep_their_length()
     ensures { (block : Block) (frame : Frame) → length (next_image block frame) ≡ length (start_image (cells_of block)) }
 {}
 
-/// A scan from values of BOOL ends in values of BOOL.
-pub fn scans_keep_the_range()
-    ensures { (block : Block) (image : Image) (input : Input) (frame : Frame)
-        → AllByRecursion HasBoolLiterals (statements_of block.body) → AllInBool image → AllInBool input
-        → (scan block image input).ending ≡ normal frame → AllInBool frame }
+/// A start image has values of the cells' types, and a scan from such an image with such an input ends in such a frame
+/// and image.
+pub fn scans_keep_the_types()
+    ensures start { (block : Block) → IsBoolean block → AreValues (image_types (cells_of block)) (start_image (cells_of block)) }
+    ensures frame { (block : Block) (image : Image) (input : Input) (frame : Frame) → IsBoolean block
+        → AreValues (image_types (cells_of block)) image → AreValues (input_types (cells_of block)) input
+        → (scan block image input).end ≡ done frame → AreValues (frame_types (cells_of block)) frame }
+    ensures image { (block : Block) (image : Image) (input : Input) (frame : Frame) → IsBoolean block
+        → AreValues (image_types (cells_of block)) image → AreValues (input_types (cells_of block)) input
+        → (scan block image input).end ≡ done frame → AreValues (image_types (cells_of block)) (next_image block frame) }
 {}
 
-/// A cell that no assignment targets keeps its value over the statements.
+/// A cell that no assignment targets has at a scan's end the value that it had at its beginning.
 pub fn untouched_cells_keep_their_value()
-    ensures { (cells : List Cell) (block : Block) (frame ended : Frame) (key : List ℕ)
-        → IsUntouched key (statements_of block.body) → run_list cells (statements_of block.body) frame ≡ normal ended
-        → value_at cells ended key ≡ value_at cells frame key }
+    ensures { (block : Block) (image : Image) (input : Input) (frame : Frame) (key : List ℕ)
+        → IsUntouched key (statements_of block.body) → (scan block image input).end ≡ done frame
+        → value_at (cells_of block) frame key ≡ value_at (cells_of block) (begin (cells_of block) image input) key }
 {}
 
-/// At a scan's beginning the input cells have the input's values, and the kept cells those of the image.
+/// At a scan's beginning the input cells have the input's values, and the kept cells those of the image: after a scan
+/// that is done the values of its end.
 pub fn scans_begin_with_image_and_input()
     ensures input { (cells : List Cell) (image : Image) (input : Input)
         → length input ≡ input_len cells → input_of cells (begin cells image input) ≡ input }
     ensures image { (cells : List Cell) (image : Image) (input : Input)
         → length image ≡ image_len cells → image_of cells (begin cells image input) ≡ image }
+    ensures carried { (block : Block) (frame : Frame) (input : Input)
+        → image_of (cells_of block) (begin (cells_of block) (next_image block frame) input) ≡ image_of (cells_of block) frame }
 {}

@@ -1,13 +1,13 @@
 -- What the bits of a circuit stand for: values of BOOL.
 use Rattle.std.specs.Prelude.{◌≡◌, ◌<◌, ◌≤◌, List, length, map, ℕ, ℤ, pos, Bool, true, false, slice_index_or, All}
+use Rattle.pv_word.specs.Types.{AreValues}
 use Rattle.pv_tree.specs.declared.tree.Block.{Block}
 use Rattle.pv_gate.specs.declared.netlist.Node.{Node}
 use Rattle.pv_gate.specs.Node.{Names}
 use Rattle.pv_gate.specs.Value.{value_of}
 use Rattle.pv_gate.specs.Netlist.{IsNetlist}
 use Rattle.pv_mean.specs.Cells.{cells_of}
-use Rattle.pv_mean.specs.Frames.{Image, Input, Frame, image_len, input_len, begin}
-use Rattle.pv_mean.specs.Values.{AllInBool}
+use Rattle.pv_mean.specs.Frames.{Image, Input, Frame, image_types, input_types, begin}
 use Rattle.pv_step.specs.Circuits.{Circuit, Literals}
 
 -- the value of BOOL that a bit stands for
@@ -23,12 +23,10 @@ numbers_of inputs nodes literals = map (λ l. number_of_bit (value_of inputs nod
 abbrev pub Carries : (ℕ → Bool) → Frame → Type 0
 Carries inputs frame = (i : ℕ) → i < length frame → slice_index_or frame i (pos 0) ≡ number_of_bit (inputs i)
 
--- image and input are an image and an input of the block in range, and with them a scan begins at the values of the inputs
+-- image and input are an image and an input of the block, and with them a scan begins at the values of the inputs
 pub record Begins (block : Block) (image : Image) (input : Input) (inputs : ℕ → Bool) : Type 0 where
-  pub image_fits : length image ≡ image_len (cells_of block)
-  pub input_fits : length input ≡ input_len (cells_of block)
-  pub image_in_range : AllInBool image
-  pub input_in_range : AllInBool input
+  pub image : AreValues (image_types (cells_of block)) image
+  pub input : AreValues (input_types (cells_of block)) input
   pub carried : Carries inputs (begin (cells_of block) image input)
 
 -- the nodes are in order, and each literal names one of them

@@ -1,6 +1,6 @@
 -- The elementary types of S7-300/400 blocks: how wide each is, which are signed, and the words of the contracts over them.
 -- Widths and ranges are those of the manual S7-SCL for S7-300/S7-400, "Elementary Data Types".
-use Rattle.std.specs.Prelude.{◌≡◌, ℕ, ◌+◌, ◌-◌, ◌*◌, ◌/◌, ◌<◌, ◌^◌, ℤ, pos, Bool as Truth, true, false, bit_and, bit_or, bit_xor}
+use Rattle.std.specs.Prelude.{◌≡◌, ℕ, ◌+◌, ◌-◌, ◌*◌, ◌/◌, ◌<◌, ◌^◌, ℤ, pos, List, [], ◌∷◌, ⊤, Bool as Truth, true, false, bit_and, bit_or, bit_xor}
 use Rattle.pv_word.specs.declared.types.Ty.{Ty}
 use Rattle.pv_word.specs.declared.types.Ty.TheVariants.{Bool, Byte, Word, Dword, Int, Dint, Time}
 use Rattle.pv_word.specs.Range.{least_at, greatest_at, IsInRange}
@@ -37,6 +37,13 @@ greatest_of ty = greatest_at (width_of ty) (is_signed_of ty)
 -- v is a value of the type
 abbrev pub InRange : Ty → ℤ → Type 0
 InRange ty v = IsInRange (width_of ty) (is_signed_of ty) v
+
+-- one value of each type, in order
+abbrev pub AreValues : List Ty → List ℤ → Type 0
+AreValues [] [] = ⊤
+AreValues [] (v ∷ vs) = ⊥
+AreValues (ty ∷ tys) [] = ⊥
+AreValues (ty ∷ tys) (v ∷ vs) = InRange ty v × AreValues tys vs
 
 -- r is the value of the type that is congruent to n
 abbrev pub IsWrapOf : Ty → ℤ → ℤ → Type 0

@@ -1,4 +1,5 @@
-use Rattle.pv_mean.proofs.FrameLaws.{input_of-begin, image_of-begin}
+use Rattle.pv_mean.specs.Cells.{cells_of}
+use Rattle.pv_mean.proofs.FrameLaws.{input_of-begin, image_of-begin, image_of-carried}
 use Rattle.pv_mean.proofs.laws.scans_begin_with_image_and_input.Goals as goal
 
 pub returns-clause-input : goal.returns-clause-input
@@ -6,3 +7,6 @@ returns-clause-input c = input_of-begin
 
 pub returns-clause-image : goal.returns-clause-image
 returns-clause-image c = image_of-begin
+
+pub returns-clause-carried : goal.returns-clause-carried
+returns-clause-carried c = λ block frame input. image_of-carried (cells_of block) frame input

@@ -1,0 +1,6 @@
+//! Machines, which a program's scans are steps of, and k-induction on them.
+//!
+//! The definitions stand in `specs/`; the functions here are laws of them.
+#![tactic(auto)]
+
+pub mod laws;

@@ -1,0 +1,5 @@
+use Rattle.pv_mean.proofs.FrameLaws.{value_at-assigned}
+use Rattle.pv_mean.proofs.laws.assigned_cells_have_the_value.Goals as goal
+
+pub returns : goal.returns
+returns c = value_at-assigned
