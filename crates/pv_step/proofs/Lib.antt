@@ -1,3 +1,4 @@
 pub mod Growth
 pub mod Beginning
 pub mod Outcome
+pub mod Meaning
