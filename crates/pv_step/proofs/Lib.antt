@@ -2,3 +2,4 @@ pub mod Growth
 pub mod Beginning
 pub mod Outcome
 pub mod Meaning
+pub mod Evaluation

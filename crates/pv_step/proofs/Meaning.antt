@@ -47,19 +47,19 @@ use Rattle.pv_step.proofs.Beginning.{begin_nodes-more, length-begin_nodes, lengt
 
 -- ---- operators on bits
 
-not_bit : (a : Bool) → not_of BoolType (number_of_bit a) ≡ number_of_bit (not a)
+pub not_bit : (a : Bool) → not_of BoolType (number_of_bit a) ≡ number_of_bit (not a)
 unfolding wrap_at pattern_at
 not_bit true = refl
 not_bit false = refl
 
-and_bit : (a b : Bool) → and_of BoolType (number_of_bit a) (number_of_bit b) ≡ number_of_bit (a && b)
+pub and_bit : (a b : Bool) → and_of BoolType (number_of_bit a) (number_of_bit b) ≡ number_of_bit (a && b)
 unfolding wrap_at pattern_at
 and_bit true true = refl
 and_bit true false = refl
 and_bit false true = refl
 and_bit false false = refl
 
-or_bit : (a b : Bool) → or_of BoolType (number_of_bit a) (number_of_bit b) ≡ number_of_bit (not (not a && not b))
+pub or_bit : (a b : Bool) → or_of BoolType (number_of_bit a) (number_of_bit b) ≡ number_of_bit (not (not a && not b))
 unfolding wrap_at pattern_at
 or_bit true true = refl
 or_bit true false = refl
@@ -111,7 +111,7 @@ pub record IsNamed (made : Made) : Type 0 where
   pub netlist : IsNetlist made.nodes
   pub names : Names (length made.nodes) made.literal
 
-value-grows : (inputs : ℕ → Bool) (a b : List Node) (l : ℤ) → Grows a b → Names (length a) l → value_of inputs b l ≡ value_of inputs a l
+pub value-grows : (inputs : ℕ → Bool) (a b : List Node) (l : ℤ) → Grows a b → Names (length a) l → value_of inputs b l ≡ value_of inputs a l
 value-grows inputs a b l more names = ap (λ ns. value_of inputs ns l) more.is ∙ value_of-append inputs a more.added l names
 
 pub named-grows : (a b : List Node) (literals : Literals) → Grows a b → AreNamed a literals → AreNamed b literals
@@ -128,14 +128,14 @@ stand-grows inputs a b literals frame more named stand = record {
 same_key : (key : List ℕ) → bytes_eq key key ≡ true
 same_key key = (bytes_eq-Decides key key).1 refl
 
-position_within : (keys : List (List ℕ)) (key : List ℕ) → Contains keys key → position_or_len (bytes_eq key) keys < length keys
+pub position_within : (keys : List (List ℕ)) (key : List ℕ) → Contains keys key → position_or_len (bytes_eq key) keys < length keys
 position_within keys key there =
     elim (cases_lt (position_or_len (bytes_eq key) keys) (length keys)) [
       | inl lt ↦ lt
       | inr ge ↦ absurd (false≢true (sym (fails_before_first (bytes_eq key) keys there.0 key (omega (arith, there.1))) ∙ (ap (bytes_eq key) there.2 ∙ same_key key)))
     ]
 
-number_is : (cells : List Cell) (keys : List (List ℕ)) (operand : Operand) → map key_of_path cells ≡ keys → Contains keys (key_of operand) → IsNumber cells (key_of operand) (number_of keys operand)
+pub number_is : (cells : List Cell) (keys : List (List ℕ)) (operand : Operand) → map key_of_path cells ≡ keys → Contains keys (key_of operand) → IsNumber cells (key_of operand) (number_of keys operand)
 number_is cells keys operand same there =
     let key = key_of operand in
     let P : List (List ℕ) → Type 0 = λ ks. Contains ks key in

@@ -1,4 +1,4 @@
-use Rattle.pv_step.proofs.Meaning.{stand-grows}
+use Rattle.pv_step.proofs.Evaluation.{ran}
 use Rattle.pv_step.proofs.laws.circuits_are_netlists.Goals as goal
 
 pub returns : goal.returns
