@@ -16,7 +16,7 @@ use Rattle.pv_gate.specs.Node.{Names, is_gate, is_input, gate_count, input_count
 use Rattle.pv_gate.specs.Netlist.{Netlist}
 use Rattle.pv_gate.specs.Build.{input_gate}
 use Rattle.pv_mean.specs.declared.cell.Cell.{Cell}
-use Rattle.pv_mean.specs.Cells.{cell_of, cells_of, is_input as takes_input}
+use Rattle.pv_mean.specs.Cells.{key_of_path, cell_of, cells_of, is_input as takes_input}
 use Rattle.pv_mean.specs.Frames.{first, others, image_of, input_of}
 use Rattle.pv_step.specs.Circuits.{begin_nodes, begin_literals}
 
@@ -136,3 +136,8 @@ names-begin n = λ k d lt.
 -- a block has as many keys as cells
 pub keys_count : (block : Block) → length (keys_of block.interface.vars.items) ≡ length (cells_of block)
 keys_count block = length-map block.interface.vars.items (λ (v : Var). v.name.key) ∙ sym (length-map block.interface.vars.items cell_of)
+
+-- the cells have the keys of the variables
+pub keys_same : (vars : List Var) → map key_of_path (map cell_of vars) ≡ map (λ v. v.name.key) vars
+keys_same [] = refl
+keys_same (v ∷ vs) = ap (λ k. k ∷ map key_of_path (map cell_of vs)) (sym v.word) ∙ ap (λ ks. v.name.key ∷ ks) (keys_same vs)

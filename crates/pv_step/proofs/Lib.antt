@@ -3,3 +3,5 @@ pub mod Beginning
 pub mod Outcome
 pub mod Meaning
 pub mod Evaluation
+pub mod CellLists
+pub mod ScanLaws
