@@ -1,6 +1,7 @@
 -- A text has one line of each number.
 use Rattle.std.proofs.Common.{◌≡◌, ◌≢◌, ℕ, zero, suc, Bool, true, false, not, List, [], ◌∷◌, ◌++◌, refl, ap, sym, subst, ◌∙◌, Option, Some, None, Bor}
 use Rattle.std.specs.Prelude.{◌↔◌, IsTrue, IfSome, IfNone, codes}
+use Rattle.std.proofs.lemmas.Bool.{false≢true}
 use Rattle.pv_cert.specs.CertificateText.{NoFeed}
 use Rattle.pv_cert.proofs.Texts.{cut-one, all-behind}
 use Rattle.pv_recheck.specs.Form.{IsLine, BeginsWith, HasOtherVerdict, HasReductions}
@@ -46,8 +47,8 @@ second_none text head rest None plain e f = λ n line h. no_line (suc n) rest li
 second_none text head rest (Some cut) plain e f = tt
 
 pub not_same : (b : Bool) (P Q : Type 0) → P → IsTrue b ↔ Q → IsTrue (not b) ↔ (P × (Q → ⊥))
-not_same true P Q p e = ((λ h. absurd h), (λ k. absurd (k.1 (e.0 tt))))
-not_same false P Q p e = ((λ h. (p, λ q. absurd (e.1 q))), (λ k. tt))
+not_same true P Q p e = ((λ h. absurd cc), (λ k. absurd (k.1 (e.0 refl))))
+not_same false P Q p e = ((λ h. (p, λ q. false≢true (e.1 q))), (λ k. refl))
 
 pub other_verdict : (bytes line : List ℕ) (b : Bool) → IsLine 2 bytes line → IsTrue b ↔ (BeginsWith (codes "verdict ") line × (line ≢ codes "verdict satisfied 0")) → IsTrue b ↔ HasOtherVerdict bytes
 other_verdict bytes line b at e = (
@@ -60,3 +61,9 @@ reductions bytes line b at e = (
   (λ h. (line, at, e.0 h)),
   (λ k. e.1 (subst (λ (l : List ℕ). BeginsWith (codes "chain ") l) (same_line 4 bytes k.0 line k.1 at) k.2)),
 )
+
+pub no_other_verdict : (bytes : List ℕ) → ((n : ℕ) (line : List ℕ) → IsLine (suc (suc n)) bytes line → ⊥) → IsTrue false ↔ HasOtherVerdict bytes
+no_other_verdict bytes none = ((λ h. absurd cc), (λ k. absurd (none 0 k.0 k.1)))
+
+pub no_reductions : (bytes : List ℕ) → ((line : List ℕ) → IsLine 4 bytes line → ⊥) → IsTrue false ↔ HasReductions bytes
+no_reductions bytes none = ((λ h. absurd cc), (λ k. absurd (none k.0 k.1)))

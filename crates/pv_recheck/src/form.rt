@@ -33,7 +33,10 @@ fn is_same(text: &[u8], other: &[u8]) -> bool
 fn begins_with(text: &[u8], prefix: &[u8]) -> bool
     ensures { IsTrue result ↔ BeginsWith prefix.now text.now }
 {
-    text.starts_with(prefix)
+    match text.strip_prefix(prefix) {
+        Some(_) => true,
+        None => false,
+    }
 }
 
 fn is_other_verdict(line: &[u8]) -> bool

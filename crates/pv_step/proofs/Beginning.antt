@@ -3,16 +3,20 @@ use Rattle.std.proofs.Common.{◌≡◌, ◌+◌, ◌<◌, ◌≤◌, ℕ, zero,
 use Rattle.std.proofs.lemmas.Int.{to_z-of_z}
 use mir.Val.{SFits}
 use Rattle.std.specs.List.{range_with_len, count_by}
-use Rattle.std.proofs.lemmas.List.{length_push}
+use Rattle.std.specs.Prelude.{All}
+use Rattle.std.proofs.lemmas.List.{length_push, length-map}
+use Rattle.pv_tree.specs.declared.tree.Var.{Var}
+use Rattle.pv_tree.specs.declared.tree.Block.{Block}
+use Rattle.pv_tree.specs.Scope.{keys_of}
 use Rattle.std.proofs.lemmas.List.Sums.{sum_by_push}
-use Rattle.std.proofs.lemmas.List.FromFn.{map-range_with_len_more, length-map-range_with_len}
+use Rattle.std.proofs.lemmas.List.FromFn.{map-range_with_len_more, length-map-range_with_len, get_or-map-range_with_len}
 use Rattle.pv_gate.specs.declared.netlist.Node.{Node}
 use Rattle.pv_gate.specs.declared.netlist.Node.TheVariants.{True, Input}
-use Rattle.pv_gate.specs.Node.{is_gate, is_input, gate_count, input_count}
+use Rattle.pv_gate.specs.Node.{Names, is_gate, is_input, gate_count, input_count}
 use Rattle.pv_gate.specs.Netlist.{Netlist}
 use Rattle.pv_gate.specs.Build.{input_gate}
 use Rattle.pv_mean.specs.declared.cell.Cell.{Cell}
-use Rattle.pv_mean.specs.Cells.{is_input as takes_input}
+use Rattle.pv_mean.specs.Cells.{key_of_path, cell_of, cells_of, is_input as takes_input}
 use Rattle.pv_mean.specs.Frames.{first, others, image_of, input_of}
 use Rattle.pv_step.specs.Circuits.{begin_nodes, begin_literals}
 
@@ -119,3 +123,21 @@ input_passed cells literals n cell found grown taken lt len is role kept so_far 
     let later = input_of (drop (n + 1) cells) (drop (n + 1) literals) in
     let l = get_or literals n (pos 0) in
     passed_over _ found grown _ later so_far (input_at cells literals n cell lt len is ∙ ap (λ b. cond b (l ∷ later) later) (sym role ∙ kept)) grown_is
+
+-- ---- what the beginning keeps
+
+pub names-begin : (n : ℕ) → All (Names (length (begin_nodes n))) (begin_literals n)
+names-begin n = λ k d lt.
+    let below : k < n = omega (arith, length-begin_literals n) in
+    let at : get_or (begin_literals n) k d ≡ pos (2 + k) = get_or-map-range_with_len (λ i. pos (2 + i)) 0 n k k d below (omega arith) in
+    let P : ℤ → Type 0 = λ l. Names (length (begin_nodes n)) l in
+    subst P (sym at) (record { from_one = omega arith; to_last = omega (arith, length-begin_nodes n) })
+
+-- a block has as many keys as cells
+pub keys_count : (block : Block) → length (keys_of block.interface.vars.items) ≡ length (cells_of block)
+keys_count block = length-map block.interface.vars.items (λ (v : Var). v.name.key) ∙ sym (length-map block.interface.vars.items cell_of)
+
+-- the cells have the keys of the variables
+pub keys_same : (vars : List Var) → map key_of_path (map cell_of vars) ≡ map (λ v. v.name.key) vars
+keys_same [] = refl
+keys_same (v ∷ vs) = ap (λ k. k ∷ map key_of_path (map cell_of vs)) (sym v.word) ∙ ap (λ ks. v.name.key ∷ ks) (keys_same vs)

@@ -17,10 +17,10 @@ use Rattle.pv_gate.specs.declared.fault.GateFault.{GateFault}
 use Rattle.pv_gate.specs.declared.fault.GateFault.TheVariants.{Limit}
 use Rattle.pv_gate.specs.declared.netlist.Node.{Node}
 use Rattle.pv_gate.specs.declared.netlist.Node.TheVariants.{And}
-use Rattle.pv_gate.specs.Node.{is_gate, gate_count, true_literal, false_literal}
-use Rattle.pv_gate.specs.Netlist.{Netlist, Extends}
+use Rattle.pv_gate.specs.Node.{is_gate, is_input, gate_count, input_count, true_literal, false_literal}
+use Rattle.pv_gate.specs.Netlist.{Netlist}
 use Rattle.pv_gate.specs.Build.{Made, IsBeyond, present, complemented, share, shared_at, number_of, lower, higher, and_gate, or_gate}
-use Rattle.pv_step.specs.Circuits.{Literals, Wires, with_made, unary_gate, binary_gate, expression_gate, assign_gate, statement_gates, done_literal, trap_literal, over_literal, fail_gate, ok_gate}
+use Rattle.pv_step.specs.Circuits.{Literals, Wires, with_made, unary_gate, binary_gate, expression_gate, assign_gate, statement_gates, scan_gate}
 use Rattle.pv_step.specs.Wiring.{Gives}
 
 -- new has the nodes of old, and maybe gates after them
@@ -28,18 +28,23 @@ pub record Grows (old new : List Node) : Type 0 where
   pub added : List Node
   pub is : new ≡ old ++ added
   pub gates : gate_count added ≡ length added
+  pub inputs : input_count added ≡ 0
 
 pub grows_itself : (nodes : List Node) → Grows nodes nodes
-grows_itself nodes = record { added = []; is = sym (append-nil nodes); gates = refl }
+grows_itself nodes = record { added = []; is = sym (append-nil nodes); gates = refl; inputs = refl }
 
 gate_count-append : (xs ys : List Node) → gate_count (xs ++ ys) ≡ gate_count xs + gate_count ys
 gate_count-append xs ys = sum_by-append (λ x. cond (is_gate x) 1 0) xs ys
+
+input_count-append : (xs ys : List Node) → input_count (xs ++ ys) ≡ input_count xs + input_count ys
+input_count-append xs ys = sum_by-append (λ x. cond (is_input x) 1 0) xs ys
 
 pub grows_twice : (a b c : List Node) → Grows a b → Grows b c → Grows a c
 grows_twice a b c p q = record {
   added = p.added ++ q.added;
   is = q.is ∙ (ap (λ xs. xs ++ q.added) p.is ∙ append_assoc a p.added q.added);
   gates = omega (arith, p.gates, q.gates, gate_count-append p.added q.added, length-append p.added q.added);
+  inputs = omega (arith, p.inputs, q.inputs, input_count-append p.added q.added);
 }
 
 pub gate_count-grows : (a b : List Node) → Grows a b → gate_count a ≤ gate_count b
@@ -52,8 +57,8 @@ length-grows a b p = omega (arith, ap (λ (xs : List Node). length xs) p.is, len
 pub others-grows : (a b : List Node) → Grows a b → length b + gate_count a ≡ length a + gate_count b
 others-grows a b p = omega (arith, ap (λ (xs : List Node). length xs) p.is, length-append a p.added, ap gate_count p.is, gate_count-append a p.added, p.gates)
 
-pub extends-grows : (a b : List Node) → Grows a b → Extends a b
-extends-grows a b p = record { added = p.added; is = p.is }
+pub input_count-grows : (a b : List Node) → Grows a b → input_count b ≡ input_count a
+input_count-grows a b p = omega (arith, ap input_count p.is, input_count-append a p.added, p.inputs)
 
 -- ---- by each thing that is made
 
@@ -66,7 +71,7 @@ grown_itself nodes literal = record { grows = grows_itself nodes }
 
 grown_shared : (nodes : List Node) (x y : ℤ) (o : Option ℕ) → IsGrown nodes (shared_at nodes (And x y) o)
 grown_shared nodes x y (Some n) = grown_itself nodes (pos n)
-grown_shared nodes x y None = record { grows = record { added = And x y ∷ []; is = refl; gates = refl } }
+grown_shared nodes x y None = record { grows = record { added = And x y ∷ []; is = refl; gates = refl; inputs = refl } }
 
 grown_share : (nodes : List Node) (x y : ℤ) → IsGrown nodes (share nodes (And x y))
 unfolding share
@@ -186,3 +191,11 @@ beyond_later keys all i s w start before limit lt is same same_limit far =
     let more = gate_count-grows (assign_gate keys w s).nodes (statement_gates keys (drop (suc i) all) (assign_gate keys w s)).nodes (grows_statements keys (drop (suc i) all) (assign_gate keys w s)) in
     let whole : statement_gates keys (drop (suc i) all) (assign_gate keys w s) ≡ statement_gates keys all start = sym (ap (λ ss. statement_gates keys ss w) split) ∙ same in
     omega (arith, more, ap (λ (v : Wires). gate_count v.nodes) whole)
+
+-- where the statements go beyond the limit, the scan does
+pub beyond_scan : (keys : List (List ℕ)) (ss all : List Stmt) (w : Wires) (invariant : Expr) (limit : ℕ) → ss ≡ all → limit < gate_count (statement_gates keys ss w).nodes → limit < gate_count (scan_gate keys all w invariant).nodes
+beyond_scan keys ss all w invariant limit same far =
+    let end = statement_gates keys all w in
+    let P : List Stmt → Type 0 = λ xs. limit < gate_count (statement_gates keys xs w).nodes in
+    let at : limit < gate_count end.nodes = subst P same far in
+    omega (arith, gate_count-grows end.nodes (scan_gate keys all w invariant).nodes (grows_expression keys end.literals end.nodes invariant))

@@ -80,6 +80,10 @@ abbrev pub statement_gates : List (List ℕ) → List Stmt → Wires → Wires
 statement_gates keys [] w = w
 statement_gates keys (s ∷ ss) w = statement_gates keys ss (assign_gate keys w s)
 
+-- the invariant's literal after the statements
+abbrev pub scan_gate : List (List ℕ) → List Stmt → Wires → Expr → Made
+scan_gate keys ss w invariant = expression_gate keys (statement_gates keys ss w).literals (statement_gates keys ss w).nodes invariant
+
 -- ---- the scan
 
 -- whether the scan is done, ends in a trap or goes over a loop's bound. It takes one path, and is always done
@@ -120,7 +124,7 @@ end_wires block = statement_gates (keys_of block.interface.vars.items) (statemen
 
 -- the invariant's literal, on the cells' end values
 abbrev pub invariant_gate : Block → Expr → Made
-invariant_gate block invariant = expression_gate (keys_of block.interface.vars.items) (end_wires block).literals (end_wires block).nodes invariant
+invariant_gate block invariant = scan_gate (keys_of block.interface.vars.items) (statements_of block.body) (begin_wires block) invariant
 
 abbrev pub outcome : Block → Made → Made → Circuit
 outcome block fail ok = record {

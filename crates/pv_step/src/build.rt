@@ -1,18 +1,46 @@
 //! The gates of expressions and statements.
 ghost use Rattle.std.specs.Prelude.{◌≡◌, ◌<◌, ◌≤◌, ◌+◌, neg_ℤ, length, pos, slice_index_or, Contains, IfOk, OnOk, All};
-ghost use Rattle.pv_tree.specs.Scope.{key_of, IsDeclared, IsDeclaredIn};
+ghost use Rattle.pv_tree.specs.Scope.{key_of, statements_of, IsDeclared, IsDeclaredIn};
 ghost use Rattle.pv_gate.specs.declared.fault.GateFault.TheVariants.{Limit};
 ghost use Rattle.pv_gate.specs.Node.{Names, gate_count};
 ghost use Rattle.pv_gate.specs.Build.{or_gate};
-ghost use Rattle.pv_step.specs.Circuits.{number_of, constant, unary_gate, binary_gate, expression_gate, assign_gate, statement_gates};
+ghost use Rattle.pv_step.specs.Circuits.{number_of, constant, unary_gate, binary_gate, expression_gate, assign_gate, statement_gates, scan_gate};
 ghost use Rattle.pv_step.specs.Wiring.{Gives};
 
 use pv_gate::{FALSE, GateFault, Gates, TRUE};
-use pv_tree::{BinaryOp, Expr, Operand, Root, Scope, Stmt, UnaryOp};
+use pv_tree::{BinaryOp, Block, Body, Expr, Operand, Root, Scope, Stmt, UnaryOp};
+
+/// The invariant's literal at the end of a scan from these literals of the scope's variables, which
+/// then are those at its end. Limit where it needs more gates than the limit allows.
+pub(crate) fn scan(
+    gates: &mut Gates,
+    scope: &Scope,
+    block: &Block,
+    invariant: &Expr,
+    literals: &mut [i32],
+) -> Result<i32, GateFault>
+    requires declared { All (IsDeclaredIn scope.now) (statements_of block.now.body) }
+    requires invariant { IsDeclared scope.now invariant.now }
+    requires cells { length literals.old ≡ length scope.now }
+    requires literals { All (Names (length gates.old.nodes)) literals.old }
+    ensures made { Gives gates.old gates.new (scan_gate scope.now (statements_of block.now.body) (record { nodes = gates.old.nodes; literals = literals.old }) invariant.now) result }
+    ensures end { OnOk result (literals.new ≡ (statement_gates scope.now (statements_of block.now.body) (record { nodes = gates.old.nodes; literals = literals.old })).literals) }
+    ensures names { IfOk result (λ literal. Names (length gates.new.nodes) literal) }
+{
+    assign_all(gates, scope, statements_of(block), literals)?;
+    expression(gates, scope, literals, invariant)
+}
+
+fn statements_of(block: &Block) -> &[Stmt]
+    ensures { result.now ≡ statements_of block.now.body }
+{
+    let Body::Scl(statements) = &block.body;
+    statements
+}
 
 /// The literal of an expression over the literals of the scope's variables. Operands are made from
 /// left to right. Limit where it needs more gates than the limit allows.
-pub(crate) fn expression(
+fn expression(
     gates: &mut Gates,
     scope: &Scope,
     literals: &[i32],
@@ -47,7 +75,7 @@ pub(crate) fn expression(
 }
 
 /// Makes the gates of the statements in order: each target's literal becomes that of its value.
-pub(crate) fn assign_all(
+fn assign_all(
     gates: &mut Gates,
     scope: &Scope,
     statements: &[Stmt],

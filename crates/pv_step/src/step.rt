@@ -1,17 +1,19 @@
 //! The circuit of one scan of a block.
-ghost use Rattle.std.specs.Prelude.{◌≡◌, ◌<◌, ◌≤◌, ◌+◌, length, [], ◌∷◌, Ok, Err, MatchResult, IfOk, OnOk, OnErr};
+ghost use Rattle.std.specs.Prelude.{◌≡◌, ◌<◌, ◌≤◌, ◌+◌, length, neg_ℤ, [], ◌∷◌, Ok, Err, IfOk, OnOk, OnErr};
+ghost use Rattle.pv_tree.specs.Scope.{keys_of};
 ghost use Rattle.pv_gate.specs.declared.fault.GateFault.TheVariants.{Limit, NoMemory};
 ghost use Rattle.pv_gate.specs.declared.netlist.Node.TheVariants.{True};
-ghost use Rattle.pv_gate.specs.Node.{gate_count};
+ghost use Rattle.pv_gate.specs.Node.{Names, gate_count};
 ghost use Rattle.pv_mean.specs.Cells.{cells_of};
 ghost use Rattle.pv_mean.specs.Frames.{image_of, input_of};
 ghost use Rattle.pv_step.specs.Circuits.{begin_nodes, begin_literals, circuit_of};
 ghost use Rattle.pv_step.specs.Conditions.{HasNames};
+ghost use Rattle.pv_step.specs.Made.{IsStepCircuit};
 
-use crate::build::{assign_all, complement, expression};
+use crate::build::{complement, scan};
 use pv_gate::{GateFault, Gates, MAX_GATES, MAX_INPUTS, make};
 use pv_mean::{Cell, cells};
-use pv_tree::{Block, Body, Expr, scope_of};
+use pv_tree::{Block, Expr, Scope, scope_of};
 use std::alloc::Global;
 
 /// The gates of one scan of a block, and an invariant's literals at its end. Lists of literals are
@@ -44,31 +46,70 @@ pub fn circuit(
     requires gates { limit ≤ MAX_GATES }
     requires cells { length (cells_of block.now) ≤ MAX_INPUTS }
     requires names { HasNames block.now invariant.now }
-    ensures nodes { IfOk result (λ c. c.gates ≡ record { nodes = (circuit_of block.now invariant.now).nodes; limit = limit }) }
-    ensures state_in { IfOk result (λ c. c.state_in.items ≡ (circuit_of block.now invariant.now).state_in) }
-    ensures input { IfOk result (λ c. c.input.items ≡ (circuit_of block.now invariant.now).input) }
-    ensures state_out { IfOk result (λ c. c.state_out.items ≡ (circuit_of block.now invariant.now).state_out) }
-    ensures ok { IfOk result (λ c. c.ok ≡ (circuit_of block.now invariant.now).ok) }
-    ensures fail { IfOk result (λ c. c.fail ≡ (circuit_of block.now invariant.now).fail) }
+    ensures made { IfOk result (λ c. IsStepCircuit (circuit_of block.now invariant.now) limit c) }
     ensures within { OnOk result (gate_count (circuit_of block.now invariant.now).nodes ≤ limit) }
     ensures limit { result ≡ Err Limit → limit < gate_count (circuit_of block.now invariant.now).nodes }
     ensures few { OnOk result (length (circuit_of block.now invariant.now).nodes ≤ 1 + length (cells_of block.now) + limit) }
 {
     let scope = or_no_memory(scope_of(alloc, block))?;
     let cells = or_no_memory(cells(alloc, block))?;
-    let mut gates = or_no_memory(make(alloc, limit))?;
+    let gates = or_no_memory(make(alloc, limit))?;
+    build(alloc, &scope, &cells, block, invariant, gates)
+}
+
+/// The circuit of a block with these names and cells, on node 1 alone.
+fn build(
+    alloc: Global,
+    scope: &Scope,
+    cells: &[Cell],
+    block: &Block,
+    invariant: &Expr,
+    mut gates: Gates,
+) -> Result<StepCircuit, GateFault>
+    requires scope { scope.now ≡ keys_of block.now.interface.vars.items }
+    requires cells { cells.now ≡ cells_of block.now }
+    requires few { length cells.now ≤ MAX_INPUTS }
+    requires empty { gates.nodes ≡ True ∷ [] }
+    requires names { HasNames block.now invariant.now }
+    ensures made { IfOk result (λ c. IsStepCircuit (circuit_of block.now invariant.now) gates.limit c) }
+    ensures within { OnOk result (gate_count (circuit_of block.now invariant.now).nodes ≤ gates.limit) }
+    ensures limit { result ≡ Err Limit → gates.limit < gate_count (circuit_of block.now invariant.now).nodes }
+{
     let begin = inputs(alloc, &mut gates, cells.len())?;
     let mut end = or_no_memory(Vec::from_slice(alloc, &begin))?;
-    let Body::Scl(statements) = &block.body;
-    assign_all(&mut gates, &scope, statements, &mut end)?;
-    // The scan takes one path: it is done, with neither trap nor loop bound, and so the gates of its
-    // outcome fold to the invariant's literal and its complement.
-    let ok = expression(&mut gates, &scope, &end, invariant)?;
+    let ok = scan(&mut gates, scope, block, invariant, &mut end)?;
+    judged(alloc, cells, gates, &begin, &end, ok)
+}
+
+/// The circuit of these nodes, with the invariant's literal at the end of the scan.
+///
+/// The scan takes one path: it is done, with neither trap nor loop bound, and so the gates of its
+/// outcome fold to the invariant's literal and its complement.
+fn judged(
+    alloc: Global,
+    cells: &[Cell],
+    gates: Gates,
+    begin: &[i32],
+    end: &[i32],
+    ok: i32,
+) -> Result<StepCircuit, GateFault>
+    requires begin { length begin.now ≡ length cells.now }
+    requires end { length end.now ≡ length cells.now }
+    requires ok { Names (length gates.nodes) ok }
+    ensures gates { IfOk result (λ c. c.gates ≡ gates) }
+    ensures state_in { IfOk result (λ c. c.state_in.items ≡ image_of cells.now begin.now) }
+    ensures input { IfOk result (λ c. c.input.items ≡ input_of cells.now begin.now) }
+    ensures state_out { IfOk result (λ c. c.state_out.items ≡ image_of cells.now end.now) }
+    ensures ok { IfOk result (λ c. c.ok ≡ ok) }
+    ensures fail { IfOk result (λ c. c.fail ≡ neg_ℤ ok) }
+    ensures within { gate_count gates.nodes ≤ gates.limit }
+    ensures err { OnErr result (result ≡ Err NoMemory) }
+{
     let fail = complement(&gates, ok);
     Ok(StepCircuit {
-        state_in: kept(alloc, &cells, &begin)?,
-        input: taken(alloc, &cells, &begin)?,
-        state_out: kept(alloc, &cells, &end)?,
+        state_in: kept(alloc, cells, begin)?,
+        input: taken(alloc, cells, begin)?,
+        state_out: kept(alloc, cells, end)?,
         gates,
         ok,
         fail,
@@ -77,7 +118,8 @@ pub fn circuit(
 
 /// What a call made whose one error is want of memory.
 fn or_no_memory<T, E: Drop>(made: Result<T, E>) -> Result<T, GateFault>
-    ensures { MatchResult made (λ value. result ≡ Ok value) (λ _. result ≡ Err NoMemory) }
+    ensures made { IfOk result (λ value. made ≡ Ok value) }
+    ensures err { OnErr result (result ≡ Err NoMemory) }
 {
     match made {
         Ok(value) => Ok(value),
