@@ -1,7 +1,9 @@
 -- What the steps of a check find decides the answer, and the answer is one.
-use Rattle.std.proofs.Common.{◌≡◌, ℕ, ◌+◌, List, [], ◌∷◌, refl, ap, sym, subst, ◌∙◌, arith, inl, inr, Result, Ok, Err, length}
+use Rattle.std.proofs.Common.{◌≡◌, ℕ, ◌+◌, List, [], ◌∷◌, refl, ap, sym, subst, ◌∙◌, arith, inl, inr, Result, Ok, Err, length, ℤ}
 use Rattle.pv_tree.specs.declared.tree.Expr.{Expr}
 use Rattle.pv_tree.specs.declared.tree.Block.{Block}
+use Rattle.pv_gate.specs.declared.netlist.Node.{Node}
+use Rattle.pv_gate.specs.Node.{Names}
 use Rattle.pv_cert.specs.declared.proof.Proof.{Proof}
 use Rattle.pv_cert.specs.declared.certificate.Certificate.{Certificate}
 use Rattle.pv_cert.specs.declared.certificate.Claim.TheVariants.{Satisfied}
@@ -41,3 +43,7 @@ answers_by_proofs block invariant bytes c (Err Unbuilt) built t j = absurd j
 answers_by_proofs block invariant bytes c (Err TooManyGates) built t j = (built, j.0, (c, t, j.1))
 answers_by_proofs block invariant bytes c (Err (Fault at kind)) built t j = fault_by block invariant bytes c at kind built t j
 answers_by_proofs block invariant bytes c (Err NoMemory) built t j = tt
+
+-- a literal that names a node
+pub names_at : (nodes others : List Node) (fail other : ℤ) → nodes ≡ others → fail ≡ other → Names (length others) other → Names (length nodes) fail
+names_at nodes others fail other e f h = subst (λ (ns : List Node). Names (length ns) fail) (sym e) (subst (λ (l : ℤ). Names (length others) l) (sym f) h)

@@ -15,9 +15,9 @@ use crate::form::is_unbuilt;
 use pv_cert::{CertFault, Certificate, Proof, Query, read};
 use pv_cnf::{ClauseView, Formula};
 use pv_frames::{push_step, variables};
-use pv_gate::{GateFault, Gates, MAX_INPUTS};
+use pv_gate::{GateFault, MAX_INPUTS};
 use pv_log::{Checker, Log, Verdict};
-use pv_step::circuit;
+use pv_step::{StepCircuit, circuit};
 use pv_tree::{Block, Expr};
 use std::alloc::Global;
 
@@ -167,24 +167,24 @@ fn step_formula(alloc: Global, block: &Block, invariant: &Expr) -> Result<Formul
     ensures none { IfErr result (λ fault. HasNoFormula block.now invariant.now fault) }
 {
     match circuit(alloc, block, invariant, MAX_STEP_GATES) {
-        Ok(step) => formula_of(alloc, &step.gates, step.fail),
+        Ok(step) => formula_of(alloc, &step),
         Err(GateFault::Limit) => Err(RecheckFault::TooManyGates),
         Err(GateFault::NoMemory) => Err(RecheckFault::NoMemory),
     }
 }
 
-/// The clauses of step(0) of a circuit with these gates, in which `fail` is true.
-fn formula_of(alloc: Global, gates: &Gates, fail: i32) -> Result<Formula, RecheckFault>
-    requires fail { Names (length gates.now.nodes) fail }
-    requires gates { gate_count gates.now.nodes ≤ MAX_STEP_GATES }
-    ensures formula { IfOk result (λ formula. formula ≡ record { variables = length gates.now.nodes; clauses = step_clauses gates.now.nodes fail }) }
+/// The clauses of step(0) of a circuit.
+fn formula_of(alloc: Global, step: &StepCircuit) -> Result<Formula, RecheckFault>
+    requires fail { Names (length step.now.gates.nodes) step.now.fail }
+    requires gates { gate_count step.now.gates.nodes ≤ MAX_STEP_GATES }
+    ensures formula { IfOk result (λ formula. formula ≡ record { variables = length step.now.gates.nodes; clauses = step_clauses step.now.gates.nodes step.now.fail }) }
     ensures small { IfOk result (λ formula. formula.variables < 2 ^ 31) }
     ensures err { IfErr result (λ fault. fault ≡ RecheckFault.NoMemory) }
 {
-    let Ok(mut formula) = Formula::make(alloc, variables(gates)) else {
+    let Ok(mut formula) = Formula::make(alloc, variables(&step.gates)) else {
         return Err(RecheckFault::NoMemory);
     };
-    match push_step(gates, fail, &mut formula) {
+    match push_step(&step.gates, step.fail, &mut formula) {
         Ok(()) => Ok(formula),
         Err(_) => Err(RecheckFault::NoMemory),
     }
