@@ -11,6 +11,7 @@ use Rattle.pv_tree.specs.declared.tree.Stmt.{Stmt}
 use Rattle.pv_tree.specs.Scope.{keys_of, statements_of, IsDeclaredIn}
 use Rattle.pv_gate.specs.declared.netlist.Node.{Node}
 use Rattle.pv_gate.specs.Node.{Names, input_count}
+use Rattle.pv_gate.specs.Netlist.{Netlist}
 use Rattle.pv_gate.specs.Value.{value_of}
 use Rattle.pv_gate.specs.Build.{Made, present}
 use Rattle.pv_gate.proofs.Building.{Names-neg, Names-more, value_of-neg}
@@ -28,14 +29,11 @@ use Rattle.pv_step.specs.Conditions.{HasNames, IsOverBool}
 use Rattle.pv_step.specs.Bits.{number_of_bit, numbers_of, Carries, Begins, IsCircuit}
 use Rattle.pv_step.proofs.Growth.{Grows, length-grows, input_count-grows, grows_statements, grows_expression}
 use Rattle.pv_step.proofs.Beginning.{length-begin_literals, length-begin_nodes, input_count-begin, keys_count, keys_same}
-use Rattle.pv_step.proofs.Outcome.{circuit_is, grows_circuit, length-statements}
+use Rattle.pv_step.proofs.Outcome.{Scanned, circuit_is, grows_circuit, length-statements, kept_parts}
 use Rattle.pv_step.proofs.Meaning.{AreNamed, Stand, AreWires, IsNamed, named-grows, stand-grows, value-grows, named_expression, wires_statements}
 use Rattle.pv_step.proofs.Evaluation.{Ran, ran, value_expression, netlist_begin, named_begin, stand_begin, begin_bit}
 use Rattle.pv_step.proofs.CellLists.{image_of-map, input_of-map, begin_parts, image_values, input_values, image_length, input_length, image_all, input_all, parts_all}
 
--- the circuit with its outcome folded
-folded : Block → Expr → Circuit
-folded block invariant = outcome block (present (invariant_gate block invariant).nodes (neg_ℤ (invariant_gate block invariant).literal)) (invariant_gate block invariant)
 
 -- ---- frames of literals' values
 
@@ -61,7 +59,6 @@ begins_standing block invariant image input inputs is =
     (stand_begin inputs n (begin cells image input) (length-begin cells image input) is.carried)
 
 pub state_in_is : (block : Block) (invariant : Expr) (image : Image) (input : Input) (inputs : ℕ → Bool) → Begins block image input inputs → numbers_of inputs (circuit_of block invariant).nodes (circuit_of block invariant).state_in ≡ image
-unfolding folded
 state_in_is block invariant image input inputs is =
     let cells = cells_of block in
     let P : Circuit → Type 0 = λ c. numbers_of inputs c.nodes c.state_in ≡ image in
@@ -217,3 +214,18 @@ is_circuit block invariant is =
       same_state = length-image_of cells (end_wires block).literals ∙ sym (length-image_of cells (begin_literals n));
       all_inputs = subst Q (sym count) all;
     })
+
+-- a scan's parts are a circuit
+pub circuit_scanned : (block : Block) (invariant : Expr) (limit : ℕ) (cells : List Cell) (start finish : List ℤ) (gates : Netlist) (ok z : ℤ) → z ≡ ok → HasNames block invariant → Scanned block invariant limit cells start finish gates ok → IsCircuit (record { nodes = gates.nodes; state_in = image_of cells start; input = input_of cells start; state_out = image_of cells finish; ok = z; fail = neg_ℤ z })
+circuit_scanned block invariant limit cells start finish gates ok z same names scan =
+    let p = invariant_gate block invariant in
+    let P : Circuit → Type 0 = λ c. IsCircuit c in
+    let whole = subst P (circuit_is block invariant) (is_circuit block invariant names) in
+    let begins_at = scan.begin_is ∙ ap (λ (cs : List Cell). begin_literals (length cs)) scan.cells_are in
+    let Q : List Node → Type 0 = λ ns. IsCircuit (record { nodes = ns; state_in = image_of cells start; input = input_of cells start; state_out = image_of cells finish; ok = z; fail = neg_ℤ z }) in
+    subst Q (sym (ap (λ (g : Netlist). g.nodes) scan.gates_are))
+    (kept_parts p.nodes _ _ _ (image_of cells start) (input_of cells start) (image_of cells finish) _ _ z (neg_ℤ z) whole
+    (ap (λ cs. image_of cs start) scan.cells_are ∙ ap (image_of (cells_of block)) begins_at)
+    (ap (λ cs. input_of cs start) scan.cells_are ∙ ap (input_of (cells_of block)) begins_at)
+    (ap (λ cs. image_of cs finish) scan.cells_are ∙ ap (image_of (cells_of block)) scan.end_is)
+    (same ∙ scan.ok_is) (ap neg_ℤ (same ∙ scan.ok_is)))
