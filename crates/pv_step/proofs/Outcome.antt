@@ -14,9 +14,8 @@ use Rattle.pv_gate.specs.declared.fault.GateFault.{GateFault}
 use Rattle.pv_gate.specs.declared.fault.GateFault.TheVariants.{Limit}
 use Rattle.pv_gate.specs.declared.netlist.Node.{Node}
 use Rattle.pv_gate.specs.Netlist.{Netlist}
-use Rattle.pv_gate.specs.declared.netlist.Node.TheVariants.{And}
 use Rattle.pv_gate.specs.Node.{true_literal, false_literal, gate_count}
-use Rattle.pv_gate.specs.Build.{Made, present, complemented, share, lower, higher, and_gate, or_gate}
+use Rattle.pv_gate.specs.Build.{Made, present, complemented, and_gate, or_gate}
 use Rattle.pv_gate.proofs.Building.{int_eq-true}
 use Rattle.pv_mean.specs.declared.cell.Cell.{Cell}
 use Rattle.pv_mean.specs.Cells.{cells_of}
