@@ -1,10 +1,10 @@
 -- The nodes before a scan, one by one, and the literals of some of the cells.
-use Rattle.std.proofs.Common.{◌≡◌, ◌+◌, ◌<◌, ◌≤◌, ℕ, zero, suc, ℤ, pos, List, [], ◌∷◌, ◌++◌, length, map, refl, sym, ◌∙◌, ap, subst, arith, Bool, true, false, cond, drop, get_or, drop-cons, append_assoc, append-nil, not, to_z, of_z, w32}
+use Rattle.std.proofs.Common.{◌≡◌, ◌+◌, ◌<◌, ℕ, zero, suc, ℤ, pos, List, [], ◌∷◌, ◌++◌, length, map, refl, sym, ◌∙◌, ap, subst, arith, Bool, true, false, cond, drop, get_or, drop-cons, append_assoc, not, to_z, of_z, w32}
 use Rattle.std.proofs.lemmas.Int.{to_z-of_z}
 use mir.Val.{SFits}
-use Rattle.std.specs.List.{range_with_len, count_by}
+use Rattle.std.specs.List.{count_by}
 use Rattle.std.specs.Prelude.{All}
-use Rattle.std.proofs.lemmas.List.{length_push, length-map}
+use Rattle.std.proofs.lemmas.List.{length-map}
 use Rattle.pv_tree.specs.declared.tree.Var.{Var}
 use Rattle.pv_tree.specs.declared.tree.Block.{Block}
 use Rattle.pv_tree.specs.Scope.{keys_of}
@@ -17,7 +17,7 @@ use Rattle.pv_gate.specs.Netlist.{Netlist}
 use Rattle.pv_gate.specs.Build.{input_gate}
 use Rattle.pv_mean.specs.declared.cell.Cell.{Cell}
 use Rattle.pv_mean.specs.Cells.{key_of_path, cell_of, cells_of, is_input as takes_input}
-use Rattle.pv_mean.specs.Frames.{first, others, image_of, input_of}
+use Rattle.pv_mean.specs.Frames.{image_of, input_of}
 use Rattle.pv_step.specs.Circuits.{begin_nodes, begin_literals}
 
 pub begin_nodes-more : (n : ℕ) → begin_nodes (n + 1) ≡ begin_nodes n ++ Input n ∷ []

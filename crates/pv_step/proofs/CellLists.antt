@@ -1,5 +1,5 @@
 -- Images and inputs as lists of literals: what holds of all cells holds of some.
-use Rattle.std.proofs.Common.{◌≡◌, ◌++◌, ℕ, suc, ℤ, pos, List, [], ◌∷◌, length, map, Bool, true, false, not, cond, refl, sym, ◌∙◌, ap, subst, arith, get_or}
+use Rattle.std.proofs.Common.{◌≡◌, ◌++◌, suc, ℤ, List, [], ◌∷◌, length, map, Bool, true, false, not, cond, refl, sym, ◌∙◌, ap, subst, arith}
 use Rattle.std.specs.Prelude.{filter}
 use Rattle.std.specs.List.{AllByRecursion}
 use Rattle.std.specs.List.Sorted.{IsPermutation}

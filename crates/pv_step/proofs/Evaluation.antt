@@ -1,5 +1,5 @@
 -- The gates' values are those of expressions and statements.
-use Rattle.std.proofs.Common.{◌≡◌, ◌+◌, ◌<◌, ◌≤◌, ◌++◌, ℕ, zero, suc, ℤ, pos, negsuc, neg_ℤ, List, [], ◌∷◌, length, map, Bool, true, false, not, ◌&&◌, refl, sym, ◌∙◌, ap, subst, inl, inr, arith, get_or, set, take, Some}
+use Rattle.std.proofs.Common.{◌≡◌, ◌+◌, ◌<◌, ℕ, zero, suc, ℤ, pos, negsuc, List, [], ◌∷◌, length, map, Bool, refl, sym, ◌∙◌, ap, subst, inl, inr, arith, get_or, set, take, Some}
 use Rattle.std.specs.List.{slice_get, range_with_len, AllByRecursion}
 use Rattle.std.proofs.lemmas.Bool.{cases_eq}
 use Rattle.std.proofs.lemmas.Int.{ints}
@@ -7,7 +7,7 @@ use Rattle.std.proofs.lemmas.List.{length-set, get_or-set_same, get_or-set_other
 use Rattle.std.proofs.lemmas.List.FromFn.{get_or-map-range_with_len, length-map-range_with_len}
 use Rattle.std.proofs.lemmas.Option.{slice_get-get_or}
 use Rattle.pv_word.specs.declared.types.Ty.TheVariants.{Bool as BoolType}
-use Rattle.pv_word.specs.Types.{InRange, not_of, and_of, or_of}
+use Rattle.pv_word.specs.Types.{InRange, not_of}
 use Rattle.pv_tree.specs.declared.tree.UnaryOp.TheVariants.{Not}
 use Rattle.pv_tree.specs.declared.tree.BinaryOp.{BinaryOp}
 use Rattle.pv_tree.specs.declared.tree.BinaryOp.TheVariants.{And as AndOp, Or as OrOp}
@@ -27,14 +27,14 @@ use Rattle.pv_gate.proofs.OperationValues.{and_builds, or_builds}
 use Rattle.pv_mean.specs.declared.cell.Cell.{Cell}
 use Rattle.pv_mean.specs.Cells.{key_of_path}
 use Rattle.pv_mean.specs.Frames.{Frame}
-use Rattle.pv_mean.specs.Values.{Value, number, with_number, binary, value}
+use Rattle.pv_mean.specs.Values.{number, with_number, binary, value}
 use Rattle.pv_mean.specs.Boolean.{BoolLiterals, HasBoolLiterals}
-use Rattle.pv_mean.specs.Statements.{Ending, normal, go_on, store, run_one, run_list}
+use Rattle.pv_mean.specs.Statements.{normal, go_on, store, run_one, run_list}
 use Rattle.pv_mean.proofs.Numbers.{value_at-number, with_value_at-number}
 use Rattle.pv_step.specs.Circuits.{Literals, Wires, number_of, constant, binary_gate, expression_gate, assign_gate, statement_gates, begin_nodes, begin_literals}
 use Rattle.pv_step.specs.Bits.{number_of_bit, Carries}
-use Rattle.pv_step.proofs.Growth.{length-grows, grows_expression, grows_binary}
-use Rattle.pv_step.proofs.Beginning.{begin_nodes-more, length-begin_nodes, length-begin_literals, input_count-begin, names-begin}
+use Rattle.pv_step.proofs.Growth.{length-grows, grows_expression}
+use Rattle.pv_step.proofs.Beginning.{begin_nodes-more, length-begin_literals, input_count-begin, names-begin}
 use Rattle.pv_step.proofs.Meaning.{AreNamed, Stand, AreWires, not_bit, and_bit, or_bit, value-grows, named-grows, stand-grows, position_within, number_is, named_expression, wires_assign}
 
 -- ---- expressions
@@ -106,10 +106,10 @@ ran inputs cells keys same ((Assign target place e) ∷ ss) frame w len is stand
     let grown = grows_expression keys w.literals w.nodes e in
     let lt : n < length w.literals = omega (arith, position_within keys (key_of target) there.0.0, is.same_length) in
     let one : run_one cells frame (Assign target place e) ≡ normal after =
-        ap (store cells frame target) (value_expression inputs cells keys same w.literals frame w.nodes e is.same_length is.netlist is.named stand there.0.1 lits.0)
-        ∙ ap normal (with_value_at-number cells frame (key_of target) n v len (number_is cells keys target same there.0.0)) in
+    ap (store cells frame target) (value_expression inputs cells keys same w.literals frame w.nodes e is.same_length is.netlist is.named stand there.0.1 lits.0)
+    ∙ ap normal (with_value_at-number cells frame (key_of target) n v len (number_is cells keys target same there.0.0)) in
     let rest = ran inputs cells keys same ss after next (length-set frame n v ∙ len) (wires_assign keys w (Assign target place e) is there.0)
-        (stand_set inputs made.nodes w.literals frame n made.literal v lt (stand-grows inputs w.nodes made.nodes w.literals frame grown is.named stand) refl) there.1 lits.1 in
+    (stand_set inputs made.nodes w.literals frame n made.literal v lt (stand-grows inputs w.nodes made.nodes w.literals frame grown is.named stand) refl) there.1 lits.1 in
     record { ended = rest.ended; ends = ap (λ x. go_on x (λ f. run_list cells ss f)) one ∙ rest.ends; stand = rest.stand }
 
 -- ---- the beginning

@@ -1,20 +1,16 @@
 -- The gates have the values of the statements: what stands beside each cell has the cell's value.
-use Rattle.std.proofs.Common.{◌≡◌, ◌≢◌, ◌+◌, ◌<◌, ◌≤◌, ◌++◌, ℕ, zero, suc, ℤ, pos, negsuc, neg_ℤ, List, [], ◌∷◌, length, map, Bool, true, false, not, ◌&&◌, ◌||◌, cond, refl, sym, ◌∙◌, ap, subst, inl, inr, arith, get_or, set, Some, None, bytes_eq}
-use Rattle.std.specs.Prelude.{Contains, All}
-use Rattle.std.specs.List.{slice_get, position_or_len, range_with_len, AllByRecursion}
+use Rattle.std.proofs.Common.{◌≡◌, ◌<◌, ℕ, ℤ, pos, neg_ℤ, List, [], ◌∷◌, length, map, Bool, true, false, not, ◌&&◌, ◌||◌, cond, refl, sym, ◌∙◌, ap, subst, inl, inr, arith, get_or, set, Some, None, bytes_eq}
+use Rattle.std.specs.Prelude.{Contains}
+use Rattle.std.specs.List.{position_or_len, AllByRecursion}
 use Rattle.std.specs.Ordering.{int_eq}
 use Rattle.std.proofs.lemmas.Bool.{false≢true, cases_eq, cases_lt}
-use Rattle.std.proofs.lemmas.Int.{ints}
 use Rattle.std.proofs.lemmas.Slice.Eq.{bytes_eq-Decides}
-use Rattle.std.proofs.lemmas.List.{length-map, length-set, get_or-set_same, get_or-set_other, get_or-map, ext_get_or}
+use Rattle.std.proofs.lemmas.List.{length-map, length-set, get_or-set_same, get_or-set_other}
 use Rattle.std.proofs.lemmas.List.Sums.{fails_before_first, passes_at_first}
-use Rattle.std.proofs.lemmas.List.FromFn.{get_or-map-range_with_len, length-map-range_with_len}
-use Rattle.std.proofs.lemmas.Option.{slice_get-get_or}
 use Rattle.pv_word.specs.declared.types.Ty.TheVariants.{Bool as BoolType}
-use Rattle.pv_word.specs.Types.{InRange, not_of, and_of, or_of}
+use Rattle.pv_word.specs.Types.{not_of, and_of, or_of}
 use Rattle.pv_word.specs.Wrap.{wrap_at}
 use Rattle.pv_word.specs.Bits.{pattern_at}
-use Rattle.pv_tree.specs.declared.tree.UnaryOp.{UnaryOp}
 use Rattle.pv_tree.specs.declared.tree.UnaryOp.TheVariants.{Not}
 use Rattle.pv_tree.specs.declared.tree.BinaryOp.{BinaryOp}
 use Rattle.pv_tree.specs.declared.tree.BinaryOp.TheVariants.{And as AndOp, Or as OrOp}
@@ -24,26 +20,22 @@ use Rattle.pv_tree.specs.declared.tree.Stmt.{Stmt}
 use Rattle.pv_tree.specs.declared.tree.Stmt.TheVariants.{Assign}
 use Rattle.pv_tree.specs.Scope.{key_of, IsDeclared, IsDeclaredIn}
 use Rattle.pv_gate.specs.declared.netlist.Node.{Node}
-use Rattle.pv_gate.specs.declared.netlist.Node.TheVariants.{True, Input, And}
+use Rattle.pv_gate.specs.declared.netlist.Node.TheVariants.{And}
 use Rattle.pv_gate.specs.Node.{Names, true_literal, false_literal}
 use Rattle.pv_gate.specs.Netlist.{IsNetlist, MayFollow}
-use Rattle.pv_gate.specs.Value.{value_of, node_values}
+use Rattle.pv_gate.specs.Value.{value_of}
 use Rattle.pv_gate.specs.Build.{Made, present, share, shared_at, number_of as node_number, lower, higher, and_gate, or_gate}
-use Rattle.pv_gate.proofs.Building.{Names-neg, Names-more, Names-lower, Names-higher, value_of-neg, value_of-true, value_of-false}
+use Rattle.pv_gate.proofs.Building.{Names-neg, Names-more, Names-lower, Names-higher}
 use Rattle.pv_gate.proofs.Lists.{IsNetlist-push, one_node}
-use Rattle.pv_gate.proofs.Values.{value_of-append, node_values_at}
+use Rattle.pv_gate.proofs.Values.{value_of-append}
 use Rattle.pv_gate.proofs.OperationValues.{and_builds, or_builds}
 use Rattle.pv_mean.specs.declared.cell.Cell.{Cell}
 use Rattle.pv_mean.specs.Cells.{key_of_path}
 use Rattle.pv_mean.specs.Frames.{Frame}
-use Rattle.pv_mean.specs.Values.{Value, number, with_number, value}
-use Rattle.pv_mean.specs.Boolean.{BoolLiterals, HasBoolLiterals}
-use Rattle.pv_mean.specs.Statements.{Ending, normal, go_on, store, run_one, run_list}
-use Rattle.pv_mean.proofs.Numbers.{IsNumber, value_at-number, with_value_at-number}
-use Rattle.pv_step.specs.Circuits.{Literals, Wires, number_of, constant, binary_gate, expression_gate, assign_gate, statement_gates, begin_nodes, begin_literals}
-use Rattle.pv_step.specs.Bits.{number_of_bit, Carries}
-use Rattle.pv_step.proofs.Growth.{Grows, grows_itself, grows_twice, length-grows, grows_and, grows_or, grows_binary, grows_expression}
-use Rattle.pv_step.proofs.Beginning.{begin_nodes-more, length-begin_nodes, length-begin_literals, input_count-begin, names-begin}
+use Rattle.pv_mean.proofs.Numbers.{IsNumber}
+use Rattle.pv_step.specs.Circuits.{Literals, Wires, number_of, constant, binary_gate, expression_gate, assign_gate, statement_gates}
+use Rattle.pv_step.specs.Bits.{number_of_bit}
+use Rattle.pv_step.proofs.Growth.{Grows, length-grows, grows_expression}
 
 -- ---- operators on bits
 
@@ -193,7 +185,7 @@ named_set nodes literals n l lt named names = record {
   each = λ k below. elim (cases_eq k n) [
     | inl e ↦ let P : ℤ → Type 0 = λ z. Names (length nodes) z in subst P (sym (ap (λ j. get_or (set literals n l) j (pos 0)) e ∙ get_or-set_same literals n l (pos 0) lt)) names
     | inr ne ↦ let P : ℤ → Type 0 = λ z. Names (length nodes) z in subst P (sym (get_or-set_other literals n k l (pos 0) ne)) (named.each k (omega (arith, length-set literals n l)))
-  ]
+  ];
 }
 
 -- the wires name nodes

@@ -14,17 +14,17 @@ use Rattle.pv_gate.specs.declared.fault.GateFault.{GateFault}
 use Rattle.pv_gate.specs.declared.fault.GateFault.TheVariants.{Limit}
 use Rattle.pv_gate.specs.declared.netlist.Node.{Node}
 use Rattle.pv_gate.specs.Netlist.{Netlist}
-use Rattle.pv_gate.specs.declared.netlist.Node.TheVariants.{And}
 use Rattle.pv_gate.specs.Node.{true_literal, false_literal, gate_count}
-use Rattle.pv_gate.specs.Build.{Made, present, complemented, share, lower, higher, and_gate, or_gate}
+use Rattle.pv_gate.specs.Build.{Made, present, complemented, and_gate, or_gate}
 use Rattle.pv_gate.proofs.Building.{int_eq-true}
 use Rattle.pv_mean.specs.declared.cell.Cell.{Cell}
 use Rattle.pv_mean.specs.Cells.{cells_of}
 use Rattle.pv_mean.specs.Frames.{image_of, input_of}
-use Rattle.pv_step.specs.declared.step.StepCircuit.{StepCircuit}
+use Rattle.pv_step.specs.declared.made.StepCircuit.{StepCircuit}
 use Rattle.pv_step.specs.Made.{IsStepCircuit}
+use Rattle.pv_step.specs.Bits.{IsCircuit}
 use Rattle.pv_step.specs.Wiring.{Gives}
-use Rattle.pv_step.specs.Circuits.{Circuit, Wires, number_of, begin_literals, expression_gate, assign_gate, statement_gates, scan_gate, with_made, trap_literal, over_literal, done_literal, fail_gate, ok_gate, begin_nodes, begin_wires, end_wires, invariant_gate, outcome, judged, circuit_of}
+use Rattle.pv_step.specs.Circuits.{Circuit, Literals, Wires, number_of, begin_literals, expression_gate, assign_gate, statement_gates, scan_gate, with_made, trap_literal, over_literal, done_literal, fail_gate, ok_gate, begin_nodes, begin_wires, end_wires, invariant_gate, outcome, judged, circuit_of}
 use Rattle.pv_step.proofs.Beginning.{length-begin_nodes, gate_count-begin}
 use Rattle.pv_step.proofs.Growth.{Grows, grows_twice, grows_statements, grows_expression, others-grows}
 
@@ -168,3 +168,10 @@ from_fault f g h x e p q = e ∙ cc
 pub as_passed : (r : Result StepCircuit GateFault) (z : ℤ) (f : StepCircuit → ℤ) (g : ℤ → ℤ) → IfOk r (λ c. f c ≡ g (to_z w32 (of_z w32 z))) → SFits w32 z → IfOk r (λ c. f c ≡ g z)
 as_passed (Ok c) z f g h fits = h ∙ ap g (to_z-of_z w32 z fits)
 as_passed (Err e) z f g h fits = tt
+
+-- what holds of a circuit holds of one with the same parts
+pub kept_parts : (nodes : List Node) (a b d x y z : Literals) (ok fail p q : ℤ) → IsCircuit (record { nodes = nodes; state_in = a; input = b; state_out = d; ok = ok; fail = fail }) → x ≡ a → y ≡ b → z ≡ d → p ≡ ok → q ≡ fail → IsCircuit (record { nodes = nodes; state_in = x; input = y; state_out = z; ok = p; fail = q })
+kept_parts nodes a b d x y z ok fail p q is e f g h i =
+    let of : Literals → Literals → Literals → ℤ → ℤ → Circuit = λ r s t u v. record { nodes = nodes; state_in = r; input = s; state_out = t; ok = u; fail = v } in
+    let P : Circuit → Type 0 = λ c. IsCircuit c in
+    subst P (sym (ap (λ r. of r y z p q) e ∙ (ap (λ s. of a s z p q) f ∙ (ap (λ t. of a b t p q) g ∙ (ap (λ u. of a b d u q) h ∙ ap (of a b d ok) i))))) is

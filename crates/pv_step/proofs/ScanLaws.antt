@@ -1,5 +1,5 @@
 -- The laws that join the circuit with the scan.
-use Rattle.std.proofs.Common.{◌≡◌, ◌≢◌, ◌↔◌, ◌+◌, ◌<◌, ◌++◌, ℕ, ℤ, pos, negsuc, neg_ℤ, List, [], ◌∷◌, length, map, Bool, true, false, not, refl, sym, ◌∙◌, ap, subst, arith, get_or, All}
+use Rattle.std.proofs.Common.{◌≡◌, ◌≢◌, ◌↔◌, ◌++◌, ℕ, ℤ, pos, neg_ℤ, List, length, map, Bool, true, false, not, refl, sym, ◌∙◌, ap, subst, arith, get_or, All}
 use Rattle.std.specs.List.{AllByRecursion}
 use Rattle.std.specs.List.Sorted.{IsPermutation}
 use Rattle.std.proofs.lemmas.Bool.{false≢true}
@@ -7,35 +7,30 @@ use Rattle.std.proofs.lemmas.List.{length-map, get_or-map, ext_get_or}
 use Rattle.std.proofs.lemmas.List.Elements.{recursion_from_All, All-from_recursion, All-from_get_or}
 use Rattle.pv_tree.specs.declared.tree.Expr.{Expr}
 use Rattle.pv_tree.specs.declared.tree.Block.{Block}
-use Rattle.pv_tree.specs.declared.tree.Stmt.{Stmt}
 use Rattle.pv_tree.specs.Scope.{keys_of, statements_of, IsDeclaredIn}
 use Rattle.pv_gate.specs.declared.netlist.Node.{Node}
 use Rattle.pv_gate.specs.Node.{Names, input_count}
+use Rattle.pv_gate.specs.Netlist.{Netlist}
 use Rattle.pv_gate.specs.Value.{value_of}
-use Rattle.pv_gate.specs.Build.{Made, present}
-use Rattle.pv_gate.proofs.Building.{Names-neg, Names-more, value_of-neg}
+use Rattle.pv_gate.proofs.Building.{Names-neg, value_of-neg}
 use Rattle.pv_mean.specs.declared.cell.Cell.{Cell}
-use Rattle.pv_mean.specs.Cells.{key_of_path, cells_of}
+use Rattle.pv_mean.specs.Cells.{cells_of}
 use Rattle.pv_mean.specs.Frames.{Image, Input, Frame, begin, image_of, input_of}
 use Rattle.pv_mean.specs.Values.{Value, number, value}
 use Rattle.pv_mean.specs.Boolean.{HasBoolLiterals, IsOfBool}
-use Rattle.pv_mean.specs.Statements.{Ending, normal, run_list}
-use Rattle.pv_mean.specs.Scans.{ScanEnd, done, end_of, scan, next_image}
+use Rattle.pv_mean.specs.Statements.{normal, run_list}
+use Rattle.pv_mean.specs.Scans.{done, scan, next_image}
 use Rattle.pv_mean.proofs.FrameLaws.{length-begin, length-image_of, image_of-begin, input_of-begin}
 use Rattle.pv_mean.proofs.TypeLaws.{done_normally}
-use Rattle.pv_step.specs.Circuits.{Circuit, Literals, Wires, statement_gates, begin_nodes, begin_literals, begin_wires, end_wires, invariant_gate, outcome, circuit_of}
+use Rattle.pv_step.specs.Circuits.{Circuit, Literals, begin_nodes, begin_literals, begin_wires, end_wires, invariant_gate, circuit_of}
 use Rattle.pv_step.specs.Conditions.{HasNames, IsOverBool}
 use Rattle.pv_step.specs.Bits.{number_of_bit, numbers_of, Carries, Begins, IsCircuit}
-use Rattle.pv_step.proofs.Growth.{Grows, length-grows, input_count-grows, grows_statements, grows_expression}
-use Rattle.pv_step.proofs.Beginning.{length-begin_literals, length-begin_nodes, input_count-begin, keys_count, keys_same}
-use Rattle.pv_step.proofs.Outcome.{circuit_is, grows_circuit, length-statements}
+use Rattle.pv_step.proofs.Growth.{input_count-grows, grows_expression}
+use Rattle.pv_step.proofs.Beginning.{length-begin_literals, input_count-begin, keys_count, keys_same}
+use Rattle.pv_step.proofs.Outcome.{Scanned, circuit_is, grows_circuit, length-statements, kept_parts}
 use Rattle.pv_step.proofs.Meaning.{AreNamed, Stand, AreWires, IsNamed, named-grows, stand-grows, value-grows, named_expression, wires_statements}
-use Rattle.pv_step.proofs.Evaluation.{Ran, ran, value_expression, netlist_begin, named_begin, stand_begin, begin_bit}
+use Rattle.pv_step.proofs.Evaluation.{ran, value_expression, netlist_begin, named_begin, stand_begin, begin_bit}
 use Rattle.pv_step.proofs.CellLists.{image_of-map, input_of-map, begin_parts, image_values, input_values, image_length, input_length, image_all, input_all, parts_all}
-
--- the circuit with its outcome folded
-folded : Block → Expr → Circuit
-folded block invariant = outcome block (present (invariant_gate block invariant).nodes (neg_ℤ (invariant_gate block invariant).literal)) (invariant_gate block invariant)
 
 -- ---- frames of literals' values
 
@@ -61,7 +56,6 @@ begins_standing block invariant image input inputs is =
     (stand_begin inputs n (begin cells image input) (length-begin cells image input) is.carried)
 
 pub state_in_is : (block : Block) (invariant : Expr) (image : Image) (input : Input) (inputs : ℕ → Bool) → Begins block image input inputs → numbers_of inputs (circuit_of block invariant).nodes (circuit_of block invariant).state_in ≡ image
-unfolding folded
 state_in_is block invariant image input inputs is =
     let cells = cells_of block in
     let P : Circuit → Type 0 = λ c. numbers_of inputs c.nodes c.state_in ≡ image in
@@ -116,7 +110,7 @@ ended block invariant image input inputs frame over is end =
     let n = length cells in
     let start = begin cells image input in
     let run = ran inputs cells keys (keys_same block.interface.vars.items) ss start (begin_wires block) (length-begin cells image input) (begin_are_wires block)
-        (stand_begin inputs n start (length-begin cells image input) is.carried) (declared block invariant over.names) (recursion_from_All HasBoolLiterals ss over.boolean.literals) in
+    (stand_begin inputs n start (length-begin cells image input) is.carried) (declared block invariant over.names) (recursion_from_All HasBoolLiterals ss over.boolean.literals) in
     let same : run.ended ≡ frame = normal_same run.ended frame (sym run.ends ∙ done_normally (run_list cells ss start) frame end) in
     let P : Frame → Type 0 = λ f. Stand inputs (end_wires block).nodes (end_wires block).literals f in
     let stand = subst P same run.stand in
@@ -173,11 +167,11 @@ begins block invariant inputs bools =
     let all = recursion_from_All IsOfBool cells bools in
     let frame_length : length frame ≡ n = length-map ls (λ l. number_of_bit (f l)) ∙ len in
     let parts : begin cells (numbers_of inputs nodes (image_of cells ls)) (numbers_of inputs nodes (input_of cells ls)) ≡ frame =
-        ap (λ im. begin cells im (numbers_of inputs nodes (input_of cells ls))) (sym (image_of-map (λ l. number_of_bit (f l)) cells ls len))
-        ∙ (ap (begin cells (image_of cells frame)) (sym (input_of-map (λ l. number_of_bit (f l)) cells ls len)) ∙ begin_parts cells frame frame_length) in
+    ap (λ im. begin cells im (numbers_of inputs nodes (input_of cells ls))) (sym (image_of-map (λ l. number_of_bit (f l)) cells ls len))
+    ∙ (ap (begin cells (image_of cells frame)) (sym (input_of-map (λ l. number_of_bit (f l)) cells ls len)) ∙ begin_parts cells frame frame_length) in
     let carried : Carries inputs frame = λ i lt.
-        get_or-map (λ l. number_of_bit (f l)) ls i (pos 0) (pos 0) (omega (arith, frame_length, len))
-        ∙ ap number_of_bit (value-grows inputs (begin_nodes n) nodes (get_or ls i (pos 0)) (grows_circuit block invariant) ((named_begin n).each i (omega (arith, frame_length, len))) ∙ begin_bit inputs n i (omega (arith, frame_length))) in
+    get_or-map (λ l. number_of_bit (f l)) ls i (pos 0) (pos 0) (omega (arith, frame_length, len))
+    ∙ ap number_of_bit (value-grows inputs (begin_nodes n) nodes (get_or ls i (pos 0)) (grows_circuit block invariant) ((named_begin n).each i (omega (arith, frame_length, len))) ∙ begin_bit inputs n i (omega (arith, frame_length))) in
     let P : Circuit → Type 0 = λ c. Begins block (numbers_of inputs c.nodes c.state_in) (numbers_of inputs c.nodes c.input) inputs in
     let Q : Frame → Type 0 = λ x. Carries inputs x in
     subst P (sym (circuit_is block invariant)) (record {
@@ -201,7 +195,7 @@ is_circuit block invariant is =
     let N : ℤ → Type 0 = Names (length p.nodes) in
     let begin_named = all_named p.nodes (begin_literals n) (named-grows (begin_nodes n) p.nodes (begin_literals n) grown (named_begin n)) in
     let end_named = all_named p.nodes (end_wires block).literals
-        (named-grows (end_wires block).nodes p.nodes (end_wires block).literals (grows_expression (keys_of block.interface.vars.items) (end_wires block).literals (end_wires block).nodes invariant) (end_are_wires block invariant is).named) in
+    (named-grows (end_wires block).nodes p.nodes (end_wires block).literals (grows_expression (keys_of block.interface.vars.items) (end_wires block).literals (end_wires block).nodes invariant) (end_are_wires block invariant is).named) in
     let begin_len = length-begin_literals n in
     let count : input_count p.nodes ≡ n = input_count-grows (begin_nodes n) p.nodes grown ∙ input_count-begin n in
     let all = parts_all cells (begin_literals n) begin_len in
@@ -217,3 +211,18 @@ is_circuit block invariant is =
       same_state = length-image_of cells (end_wires block).literals ∙ sym (length-image_of cells (begin_literals n));
       all_inputs = subst Q (sym count) all;
     })
+
+-- a scan's parts are a circuit
+pub circuit_scanned : (block : Block) (invariant : Expr) (limit : ℕ) (cells : List Cell) (start finish : List ℤ) (gates : Netlist) (ok z : ℤ) → z ≡ ok → HasNames block invariant → Scanned block invariant limit cells start finish gates ok → IsCircuit (record { nodes = gates.nodes; state_in = image_of cells start; input = input_of cells start; state_out = image_of cells finish; ok = z; fail = neg_ℤ z })
+circuit_scanned block invariant limit cells start finish gates ok z same names scan =
+    let p = invariant_gate block invariant in
+    let P : Circuit → Type 0 = λ c. IsCircuit c in
+    let whole = subst P (circuit_is block invariant) (is_circuit block invariant names) in
+    let begins_at = scan.begin_is ∙ ap (λ (cs : List Cell). begin_literals (length cs)) scan.cells_are in
+    let Q : List Node → Type 0 = λ ns. IsCircuit (record { nodes = ns; state_in = image_of cells start; input = input_of cells start; state_out = image_of cells finish; ok = z; fail = neg_ℤ z }) in
+    subst Q (sym (ap (λ (g : Netlist). g.nodes) scan.gates_are))
+    (kept_parts p.nodes _ _ _ (image_of cells start) (input_of cells start) (image_of cells finish) _ _ z (neg_ℤ z) whole
+    (ap (λ cs. image_of cs start) scan.cells_are ∙ ap (image_of (cells_of block)) begins_at)
+    (ap (λ cs. input_of cs start) scan.cells_are ∙ ap (input_of (cells_of block)) begins_at)
+    (ap (λ cs. image_of cs finish) scan.cells_are ∙ ap (image_of (cells_of block)) scan.end_is)
+    (same ∙ scan.ok_is) (ap neg_ℤ (same ∙ scan.ok_is)))

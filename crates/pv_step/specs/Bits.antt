@@ -1,5 +1,5 @@
 -- What the bits of a circuit stand for: values of BOOL.
-use Rattle.std.specs.Prelude.{◌≡◌, ◌<◌, ◌≤◌, List, ◌++◌, length, map, ℕ, ℤ, pos, Bool, true, false, slice_index_or, All}
+use Rattle.std.specs.Prelude.{◌≡◌, ◌<◌, List, ◌++◌, length, map, ℕ, ℤ, pos, Bool, true, false, slice_index_or, All}
 use Rattle.std.specs.List.Sorted.{IsPermutation}
 use Rattle.pv_word.specs.Types.{AreValues}
 use Rattle.pv_tree.specs.declared.tree.Block.{Block}

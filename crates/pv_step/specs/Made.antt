@@ -1,6 +1,6 @@
 -- What the code has of a circuit.
 use Rattle.std.specs.Prelude.{◌≡◌, ℕ}
-use Rattle.pv_step.specs.declared.step.StepCircuit.{StepCircuit}
+use Rattle.pv_step.specs.declared.made.StepCircuit.{StepCircuit}
 use Rattle.pv_step.specs.Circuits.{Circuit}
 
 -- the gates and the literals are those of the circuit, under this limit

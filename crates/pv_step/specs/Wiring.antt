@@ -1,8 +1,7 @@
 -- What a private call gives that makes a part of a circuit. No public clause cites this.
-use Rattle.std.specs.Prelude.{◌≡◌, ℤ, Result, Err, IfOk, OnOk, All, length, List}
+use Rattle.std.specs.Prelude.{◌≡◌, ℤ, Result, Err, IfOk, OnOk}
 use Rattle.pv_gate.specs.declared.fault.GateFault.{GateFault}
 use Rattle.pv_gate.specs.declared.fault.GateFault.TheVariants.{Limit}
-use Rattle.pv_gate.specs.Node.{Names}
 use Rattle.pv_gate.specs.Netlist.{Netlist}
 use Rattle.pv_gate.specs.Build.{Made, IsBeyond}
 

@@ -4,8 +4,10 @@
 
 mod build;
 pub mod laws;
+mod made;
 mod step;
 #[cfg(test)]
 mod tests;
 
-pub use step::{StepCircuit, circuit};
+pub use made::StepCircuit;
+pub use step::circuit;

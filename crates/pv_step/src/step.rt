@@ -8,35 +8,21 @@ ghost use Rattle.pv_mean.specs.Cells.{cells_of};
 ghost use Rattle.pv_mean.specs.Frames.{image_of, input_of};
 ghost use Rattle.pv_step.specs.Circuits.{begin_nodes, begin_literals, circuit_of};
 ghost use Rattle.pv_step.specs.Conditions.{HasNames};
+ghost use Rattle.pv_step.specs.Bits.{IsCircuit};
 ghost use Rattle.pv_step.specs.Made.{IsStepCircuit};
 
 use crate::build::{complement, scan};
+use crate::made::StepCircuit;
 use pv_gate::{GateFault, Gates, MAX_GATES, MAX_INPUTS, make};
 use pv_mean::{Cell, cells};
 use pv_tree::{Block, Expr, Scope, scope_of};
 use std::alloc::Global;
 
-/// The gates of one scan of a block, and an invariant's literals at its end. Lists of literals are
-/// in the order of the block's cells.
-#[derive(Drop)]
-pub struct StepCircuit {
-    pub gates: Gates,
-    /// The kept cells at the scan's beginning: input nodes.
-    pub state_in: Vec<i32>,
-    /// The input cells: input nodes.
-    pub input: Vec<i32>,
-    /// The kept cells at the scan's end.
-    pub state_out: Vec<i32>,
-    /// True where the scan is done and the invariant holds at its end.
-    pub ok: i32,
-    /// True where the scan isn't done, or the invariant doesn't hold at its end.
-    pub fail: i32,
-}
-
 /// The step circuit of a block of BOOL variables and assignments, with an invariant over its
 /// variables. Node 1 is true, and node 2 + i is the input of cell i.
 ///
-/// Limit where it has more than `limit` gates. The other error is want of memory.
+/// Limit exactly where it has more than `limit` gates, unless memory runs out first, which is the other
+/// error.
 pub fn circuit(
     alloc: Global,
     block: &Block,
@@ -50,6 +36,7 @@ pub fn circuit(
     ensures within { OnOk result (gate_count (circuit_of block.now invariant.now).nodes ≤ limit) }
     ensures limit { result ≡ Err Limit → limit < gate_count (circuit_of block.now invariant.now).nodes }
     ensures few { OnOk result (length (circuit_of block.now invariant.now).nodes ≤ 1 + length (cells_of block.now) + limit) }
+    ensures kept { OnOk result (IsCircuit (circuit_of block.now invariant.now)) }
 {
     let scope = or_no_memory(scope_of(alloc, block))?;
     let cells = or_no_memory(cells(alloc, block))?;
@@ -96,6 +83,7 @@ fn judged(
     requires begin { length begin.now ≡ length cells.now }
     requires end { length end.now ≡ length cells.now }
     requires ok { Names (length gates.nodes) ok }
+    requires circuit { IsCircuit (record { nodes = gates.nodes; state_in = image_of cells.now begin.now; input = input_of cells.now begin.now; state_out = image_of cells.now end.now; ok = ok; fail = neg_ℤ ok }) }
     ensures gates { IfOk result (λ c. c.gates ≡ gates) }
     ensures state_in { IfOk result (λ c. c.state_in.items ≡ image_of cells.now begin.now) }
     ensures input { IfOk result (λ c. c.input.items ≡ input_of cells.now begin.now) }

@@ -49,5 +49,18 @@ fn step_of_a_latch(rt: HostRuntime) -> Result<(), Fail> {
     assert_eq!(rt; step.state_out.as_slice(), [6].as_slice());
     assert_eq!(rt; step.ok, -7);
     assert_eq!(rt; step.fail, 7);
+
+    let full = latch(rt.alloc(), b"NOT (run AND stop)", 2)?;
+    assert!(rt; matches!(&full, Err(GateFault::Limit)));
+    Ok(())
+}
+
+// The gates fold, so an invariant of constants alone needs none besides the statement's two.
+#[test]
+fn constants_fold(rt: HostRuntime) -> Result<(), Fail> {
+    let step = latch(rt.alloc(), b"NOT (TRUE AND stop OR FALSE)", 2)??;
+    assert_eq!(rt; step.gates.nodes(), 6);
+    assert_eq!(rt; step.ok, -3);
+    assert_eq!(rt; step.fail, 3);
     Ok(())
 }

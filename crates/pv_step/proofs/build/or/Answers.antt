@@ -1,7 +1,6 @@
-use Rattle.std.proofs.Common.{rules, ◌≡◌, ◌∙◌, ap, sym, neg_ℤ, to_z, of_z, w32, subst, Err}
-use Rattle.std.proofs.lemmas.Int.{to_z-of_z}
+use Rattle.std.proofs.Common.{rules, ◌≡◌, ap, neg_ℤ, to_z, of_z, w32, subst, Err}
 use Rattle.pv_gate.specs.Build.{Made, IsBeyond, and_gate, or_gate}
-use Rattle.pv_step.proofs.Growth.{gives_complemented, at_fault, passed, passed_complement, and_passed}
+use Rattle.pv_step.proofs.Growth.{gives_complemented, at_fault, passed_complement, and_passed}
 use Rattle.pv_step.proofs.build.or.Goals as goal
 use Rattle.pv_step.proofs.build.or.Goals.{After-and}
 

@@ -1,14 +1,16 @@
-use Rattle.std.proofs.Common.{◌≡◌, ◌∙◌, sym, ap, subst, length, List, ℤ, ℕ, arith, All, rules, neg_ℤ}
+use Rattle.std.proofs.Common.{◌≡◌, ◌∙◌, sym, ap, subst, length, List, ℤ, All, rules, neg_ℤ, refl}
 use Rattle.std.proofs.lemmas.List.{take_at}
 use Rattle.std.proofs.lemmas.Result.{err_from_is_err_and, IfOk-at_ok}
 use Rattle.pv_tree.specs.Scope.{statements_of}
 use Rattle.pv_gate.specs.declared.fault.GateFault.TheVariants.{Limit}
 use Rattle.pv_gate.specs.declared.netlist.Node.{Node}
-use Rattle.pv_gate.specs.Node.{Names, gate_count}
+use Rattle.pv_gate.specs.Node.{Names}
 use Rattle.pv_gate.specs.Netlist.{Netlist}
-use Rattle.pv_step.specs.Circuits.{begin_nodes, begin_literals, circuit_of}
+use Rattle.pv_step.specs.Circuits.{begin_nodes}
 use Rattle.pv_step.proofs.Beginning.{length-begin_literals, names-begin, keys_count}
 use Rattle.pv_step.proofs.Outcome.{Scanned, scanned, judged_is, within-scanned, beyond_circuit, length-statements, on_ok, from_fault, as_passed}
+use Rattle.pv_step.proofs.Growth.{passed}
+use Rattle.pv_step.proofs.ScanLaws.{circuit_scanned}
 use Rattle.pv_step.proofs.step.build.Goals.{After-deref_mut, After-deref-3}
 use Rattle.pv_step.proofs.step.build.Goals as goal
 
@@ -26,7 +28,7 @@ pub scan-requires-clause-literals : goal.scan-requires-clause-literals
 scan-requires-clause-literals c =
     let P : List Node → List ℤ → Type 0 = λ ns ls. All (Names (length ns)) ls in
     let begin : P (begin_nodes (length c.args.cells.now)) c.deref_mut.result.now =
-        subst (P (begin_nodes (length c.args.cells.now))) (sym (copied c ∙ c.in_ok-begin.ensures.literals)) (names-begin (length c.args.cells.now)) in
+    subst (P (begin_nodes (length c.args.cells.now))) (sym (copied c ∙ c.in_ok-begin.ensures.literals)) (names-begin (length c.args.cells.now)) in
     let Q : Netlist → Type 0 = λ g. P g.nodes c.deref_mut.result.now in
     subst Q (sym c.in_ok-begin.ensures.nodes) begin
 
@@ -41,7 +43,7 @@ returns-in_err-ok-clause-limit c =
 ended : (c : After-deref-3) → c.deref-3.result.now ≡ c.scan.new.literals
 ended c =
     let kept : length c.scan.new.literals ≡ length c.in_ok-end.end.items =
-        ap length c.in_ok-ok.ensures.end ∙ (length-statements c.args.scope.now (statements_of c.args.block.now.body) (record { nodes = c.inputs.new.gates.nodes; literals = c.deref_mut.result.now }) ∙ ap length c.deref_mut.ensures.value) in
+    ap length c.in_ok-ok.ensures.end ∙ (length-statements c.args.scope.now (statements_of c.args.block.now.body) (record { nodes = c.inputs.new.gates.nodes; literals = c.deref_mut.result.now }) ∙ ap length c.deref_mut.ensures.value) in
     c.deref-3.ensures.value ∙ take_at c.scan.new.literals _ c.in_ok-end.end.len (kept ∙ sym c.in_ok-end.end.ok.0)
 
 pub judged-requires-clause-begin : goal.judged-requires-clause-begin
@@ -59,6 +61,9 @@ scan_made c =
     scanned c.args.block.now c.args.invariant.now c.args.cells.now c.args.scope.now c.args.gates c.inputs.new.gates c.scan.new.gates c.deref-2.result.now c.deref_mut.result.now c.deref-3.result.now c.in_ok-ok.ok
     c.requires.cells c.requires.scope c.in_ok-begin.ensures.nodes (c.deref-2.ensures.value ∙ c.in_ok-begin.ensures.literals)
     (copied (goal.at-After-deref-3 c).After-deref_mut ∙ sym c.deref-2.ensures.value) (ended c ∙ c.in_ok-ok.ensures.end) c.in_ok-ok.ensures.made
+
+pub judged-requires-clause-circuit : goal.judged-requires-clause-circuit
+judged-requires-clause-circuit c = circuit_scanned c.args.block.now c.args.invariant.now c.args.gates.limit c.args.cells.now c.deref-2.result.now c.deref-3.result.now c.scan.new.gates c.in_ok-ok.ok _ (passed c.in_ok-ok.ok c.in_ok-ok.ok (search rules) refl) c.requires.names (scan_made (goal.at.judged-requires-clause-circuit c).After-deref-3)
 
 pub returns-clause-made : goal.returns-clause-made
 returns-clause-made c =
