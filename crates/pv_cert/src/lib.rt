@@ -15,6 +15,7 @@ mod writer;
 pub use certificate::{Certificate, Claim, Proofs};
 pub use fault::CertFault;
 pub use laws::text_determines_certificate;
+pub use parts::cut_line;
 pub use proof::{Chain, Proof, Query};
 pub use reader::read;
 pub use writer::write;

@@ -19,10 +19,7 @@ pub fn no_run_fails()
         → NoneFails m (m.start params) inputs }
 {}
 
-/// Where a run has a scan that fails, its first such scan is one that only good ones precede: what
-/// `no_run_fails` asks is no more than what it gives.
-pub fn a_failing_run_meets_base()
-    ensures { (m : Machine) (n : ℕ) → ((params : Values) (inputs : List Values) → AreParams m params
-        → AllByRecursion (IsInput m) inputs → NoneFails m (m.start params) inputs)
-        → MeetsBase m n → ⊥ }
+/// A run that meets base has a scan that fails: what `no_run_fails` asks is no more than what it gives.
+pub fn bases_are_failing_runs()
+    ensures { (m : Machine) (n : ℕ) (base : MeetsBase m n) → NoneFails m (m.start base.params) base.inputs → ⊥ }
 {}

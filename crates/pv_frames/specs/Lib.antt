@@ -1,0 +1,5 @@
+pub mod Frames
+pub mod Formulas
+pub mod Values
+pub mod Pushing
+pub mod Short

@@ -1,0 +1,8 @@
+-- Values of a formula's variables beside those of a circuit's nodes.
+use Rattle.std.specs.Prelude.{◌≡◌, ℕ, ◌≤◌, pos, Bool, List, length}
+use Rattle.pv_gate.specs.declared.netlist.Node.{Node}
+use Rattle.pv_gate.specs.Value.{value_of}
+
+-- each node's variable has the value that the node has under these values of the inputs
+abbrev pub AreNodeValues : (ℕ → Bool) → List Node → (ℕ → Bool) → Type 0
+AreNodeValues inputs nodes values = (n : ℕ) → 1 ≤ n → n ≤ length nodes → values n ≡ value_of inputs nodes (pos n)

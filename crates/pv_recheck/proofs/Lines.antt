@@ -1,0 +1,69 @@
+-- A text has one line of each number.
+use Rattle.std.proofs.Common.{◌≡◌, ◌≢◌, ℕ, zero, suc, Bool, true, false, not, List, [], ◌∷◌, ◌++◌, refl, ap, sym, subst, ◌∙◌, Option, Some, None, Bor}
+use Rattle.std.specs.Prelude.{◌↔◌, IsTrue, IfSome, IfNone, codes}
+use Rattle.std.proofs.lemmas.Bool.{false≢true}
+use Rattle.pv_cert.specs.CertificateText.{NoFeed}
+use Rattle.pv_cert.proofs.Texts.{cut-one, all-behind}
+use Rattle.pv_recheck.specs.Form.{IsLine, BeginsWith, HasOtherVerdict, HasReductions}
+
+no_feed : (text line rest : List ℕ) → NoFeed text → text ≡ line ++ 10 ∷ rest → ⊥
+no_feed text line rest plain e = (all-behind (λ byte. byte ≡ 10 → ⊥) line (10 ∷ rest) (subst NoFeed e plain)).0 refl
+
+-- without a line feed there is no line
+pub no_line : (n : ℕ) (text line : List ℕ) → NoFeed text → IsLine n text line → ⊥
+no_line zero text line plain h = h
+no_line (suc zero) text line plain h = no_feed text line h.0 plain h.2
+no_line (suc (suc n)) text line plain h = no_feed text h.0 h.1 plain h.3
+
+pub same_line : (n : ℕ) (text line other : List ℕ) → IsLine n text line → IsLine n text other → line ≡ other
+same_line zero text line other h k = absurd h
+same_line (suc zero) text line other h k = (cut-one line other h.0 k.0 h.1 k.1 (sym h.2 ∙ k.2)).0
+same_line (suc (suc n)) text line other h k =
+    let same = cut-one h.0 k.0 h.1 k.1 h.2 k.2 (sym h.3 ∙ k.3) in
+    same_line (suc n) k.1 line other (subst (λ r. IsLine (suc n) r line) same.1 h.4) k.4
+
+-- the lines behind the first are those of the rest
+pub behind : (n : ℕ) (text head rest line : List ℕ) → NoFeed head → text ≡ head ++ 10 ∷ rest → IsLine (suc (suc n)) text line → IsLine (suc n) rest line
+behind n text head rest line plain e h =
+    let same = cut-one h.0 head h.1 rest h.2 plain (sym h.3 ∙ e) in
+    subst (λ r. IsLine (suc n) r line) same.1 h.4
+
+pub ahead : (n : ℕ) (text head rest line : List ℕ) → NoFeed head → text ≡ head ++ 10 ∷ rest → IsLine (suc n) rest line → IsLine (suc (suc n)) text line
+ahead n text head rest line plain e h = (head, rest, plain, e, h)
+
+-- ---- what the readers of lines answer
+
+pub second_rest : (text head rest : List ℕ) (o : Option (Bor (List ℕ) × Bor (List ℕ))) → NoFeed head → text ≡ head ++ 10 ∷ rest → IfSome o (λ cut. NoFeed cut.0.now × (rest ≡ cut.0.now ++ 10 ∷ cut.1.now))
+    → IfSome o (λ cut. (n : ℕ) (line : List ℕ) → IsLine (suc (suc (suc n))) text line ↔ IsLine (suc n) cut.1.now line)
+second_rest text head rest None plain e f = tt
+second_rest text head rest (Some cut) plain e f = λ n line. (
+  (λ h. behind n rest cut.0.now cut.1.now line f.0 f.1 (behind (suc n) text head rest line plain e h)),
+  (λ h. ahead (suc n) text head rest line plain e (ahead n rest cut.0.now cut.1.now line f.0 f.1 h)),
+)
+
+pub second_none : (text head rest : List ℕ) (o : Option (Bor (List ℕ) × Bor (List ℕ))) → NoFeed head → text ≡ head ++ 10 ∷ rest → IfNone o (NoFeed rest)
+    → IfNone o ((n : ℕ) (line : List ℕ) → IsLine (suc (suc n)) text line → ⊥)
+second_none text head rest None plain e f = λ n line h. no_line (suc n) rest line f (behind n text head rest line plain e h)
+second_none text head rest (Some cut) plain e f = tt
+
+pub not_same : (b : Bool) (P Q : Type 0) → P → IsTrue b ↔ Q → IsTrue (not b) ↔ (P × (Q → ⊥))
+not_same true P Q p e = ((λ h. absurd cc), (λ k. absurd (k.1 (e.0 refl))))
+not_same false P Q p e = ((λ h. (p, λ q. false≢true (e.1 q))), (λ k. refl))
+
+pub other_verdict : (bytes line : List ℕ) (b : Bool) → IsLine 2 bytes line → IsTrue b ↔ (BeginsWith (codes "verdict ") line × (line ≢ codes "verdict satisfied 0")) → IsTrue b ↔ HasOtherVerdict bytes
+other_verdict bytes line b at e = (
+  (λ h. (line, at, (e.0 h).0, (e.0 h).1)),
+  (λ k. e.1 (subst (λ (l : List ℕ). BeginsWith (codes "verdict ") l × (l ≢ codes "verdict satisfied 0")) (same_line 2 bytes k.0 line k.1 at) (k.2, k.3))),
+)
+
+pub reductions : (bytes line : List ℕ) (b : Bool) → IsLine 4 bytes line → IsTrue b ↔ BeginsWith (codes "chain ") line → IsTrue b ↔ HasReductions bytes
+reductions bytes line b at e = (
+  (λ h. (line, at, e.0 h)),
+  (λ k. e.1 (subst (λ (l : List ℕ). BeginsWith (codes "chain ") l) (same_line 4 bytes k.0 line k.1 at) k.2)),
+)
+
+pub no_other_verdict : (bytes : List ℕ) → ((n : ℕ) (line : List ℕ) → IsLine (suc (suc n)) bytes line → ⊥) → IsTrue false ↔ HasOtherVerdict bytes
+no_other_verdict bytes none = ((λ h. absurd cc), (λ k. absurd (none 0 k.0 k.1)))
+
+pub no_reductions : (bytes : List ℕ) → ((line : List ℕ) → IsLine 4 bytes line → ⊥) → IsTrue false ↔ HasReductions bytes
+no_reductions bytes none = ((λ h. absurd cc), (λ k. absurd (none k.0 k.1)))

@@ -1,0 +1,191 @@
+//! The check of a certificate.
+ghost use Rattle.std.specs.Prelude.{◌≡◌, ◌↔◌, ◌<◌, ◌≤◌, ◌^◌, length, IfOk, OnOk, IfErr, IsTrue, Result, Err};
+ghost use Rattle.pv_gate.specs.Node.{Names, gate_count};
+ghost use Rattle.pv_frames.specs.Formulas.{step_clauses};
+ghost use Rattle.pv_mean.specs.Cells.{cells_of};
+ghost use Rattle.pv_step.specs.Conditions.{HasNames};
+ghost use Rattle.pv_cert.specs.declared.proof.Query.{Query};
+ghost use Rattle.pv_recheck.specs.Form.{IsUnbuilt};
+ghost use Rattle.pv_recheck.specs.Validity.{step_formula, IsValid};
+ghost use Rattle.pv_recheck.specs.Answers.{Answers, IsUnlessNoMemory};
+ghost use Rattle.pv_recheck.specs.Judging.{HasFewGates, ReadsAs, HasNoFormula, JudgesLog, JudgesProofs};
+
+use crate::fault::{Kind, RecheckFault};
+use crate::form::is_unbuilt;
+use pv_cert::{CertFault, Certificate, Proof, Query, read};
+use pv_cnf::{ClauseView, Formula};
+use pv_frames::{push_step, variables};
+use pv_gate::{GateFault, MAX_INPUTS};
+use pv_log::{Checker, Log, Verdict};
+use pv_step::{StepCircuit, circuit};
+use pv_tree::{Block, Expr};
+use std::alloc::Global;
+
+/// So many gates a step circuit may have.
+pub const MAX_STEP_GATES: u32 = 1_000_000;
+
+/// Whether the bytes are a valid certificate of 'satisfied' with k = 0 for a block of BOOL variables
+/// and assignments and an invariant over its variables. The work is linear in the block, the
+/// certificate and the clauses that the log's hints name.
+///
+/// The bytes are judged in this order: their form, the grammar of the whole, the first query, the
+/// number of gates of the step circuit, the log, and what stands in place of the end. So the fault is
+/// the first in the file, but for the grammar, which comes before all contents.
+pub fn check_certificate(
+    alloc: Global,
+    block: &Block,
+    invariant: &Expr,
+    bytes: &[u8],
+) -> Result<(), RecheckFault>
+    requires names { HasNames block.now invariant.now }
+    requires cells { length (cells_of block.now) ≤ MAX_INPUTS }
+    // What is accepted is valid, and each refusal is as its case says.
+    ensures valid { OnOk result (IsValid block.now invariant.now bytes.now) }
+    ensures answer { Answers block.now invariant.now bytes.now result }
+    // The case that holds is the answer.
+    ensures only { (other : Result (Unit {0}) RecheckFault) → (other ≡ Err RecheckFault.NoMemory → ⊥)
+        → Answers block.now invariant.now bytes.now other → IsUnlessNoMemory result other }
+{
+    check(alloc, block, invariant, bytes)
+}
+
+fn check(
+    alloc: Global,
+    block: &Block,
+    invariant: &Expr,
+    bytes: &[u8],
+) -> Result<(), RecheckFault>
+    requires names { HasNames block.now invariant.now }
+    requires cells { length (cells_of block.now) ≤ MAX_INPUTS }
+    ensures { Answers block.now invariant.now bytes.now result }
+{
+    if is_unbuilt(bytes) {
+        return Err(RecheckFault::Unbuilt);
+    }
+    match read_certificate(alloc, bytes) {
+        Ok(certificate) => check_proofs(alloc, block, invariant, certificate.proofs.as_slice()),
+        Err(fault) => Err(fault),
+    }
+}
+
+fn read_certificate(alloc: Global, bytes: &[u8]) -> Result<Certificate, RecheckFault>
+    ensures { ReadsAs bytes.now result }
+{
+    match read(alloc, bytes) {
+        Ok(certificate) => Ok(certificate),
+        Err(CertFault::NotACertificate { line }) => Err(RecheckFault::Fault {
+            line,
+            kind: Kind::NotACertificate,
+        }),
+        Err(CertFault::NoMemory) => Err(RecheckFault::NoMemory),
+    }
+}
+
+/// A query or a proof that isn't the verdict's, in this line.
+fn wrong_query(line: u64) -> RecheckFault
+    ensures { result ≡ RecheckFault.Fault line Kind.WrongQuery }
+{
+    RecheckFault::Fault {
+        line,
+        kind: Kind::WrongQuery,
+    }
+}
+
+/// The one proof that belongs to the verdict, and no other.
+fn check_proofs(
+    alloc: Global,
+    block: &Block,
+    invariant: &Expr,
+    proofs: &[Proof],
+) -> Result<(), RecheckFault>
+    requires names { HasNames block.now invariant.now }
+    requires cells { length (cells_of block.now) ≤ MAX_INPUTS }
+    ensures { JudgesProofs block.now invariant.now proofs.now result }
+{
+    let Some((first, more)) = proofs.split_first() else {
+        return Err(wrong_query(3));
+    };
+    if !is_step_zero(first.query) {
+        return Err(wrong_query(3));
+    }
+    if let Err(fault) = check_log(alloc, block, invariant, &first.log) {
+        return Err(fault);
+    }
+    if !more.is_empty() {
+        return Err(wrong_query(first.log.as_slice().len() as u64 + 6));
+    }
+    Ok(())
+}
+
+fn is_step_zero(query: Query) -> bool
+    ensures { IsTrue result ↔ (query ≡ Query.Step 0) }
+{
+    match query {
+        Query::Base(_) => false,
+        Query::Step(k) => k == 0,
+    }
+}
+
+/// The log, against the formula of step(0).
+fn check_log(
+    alloc: Global,
+    block: &Block,
+    invariant: &Expr,
+    log: &Log,
+) -> Result<(), RecheckFault>
+    requires names { HasNames block.now invariant.now }
+    requires cells { length (cells_of block.now) ≤ MAX_INPUTS }
+    ensures { JudgesLog block.now invariant.now log.now result }
+{
+    let formula = match step_formula(alloc, block, invariant) {
+        Ok(formula) => formula,
+        Err(fault) => return Err(fault),
+    };
+    let Ok(mut checker) = Checker::make(alloc, formula.variables()) else {
+        return Err(RecheckFault::NoMemory);
+    };
+    match checker.check(&formula, log) {
+        Verdict::Accepted => Ok(()),
+        Verdict::NoEmpty => Err(RecheckFault::Fault {
+            line: 5,
+            kind: Kind::NoEmpty,
+        }),
+        Verdict::Refused { line, kind } => Err(RecheckFault::Fault {
+            line: line as u64 + 5,
+            kind: Kind::Line(kind),
+        }),
+    }
+}
+
+/// The formula of step(0), made from the block and the invariant.
+fn step_formula(alloc: Global, block: &Block, invariant: &Expr) -> Result<Formula, RecheckFault>
+    requires names { HasNames block.now invariant.now }
+    requires cells { length (cells_of block.now) ≤ MAX_INPUTS }
+    ensures formula { IfOk result (λ formula. formula ≡ step_formula block.now invariant.now) }
+    ensures small { IfOk result (λ formula. formula.variables < 2 ^ 31) }
+    ensures few { OnOk result (HasFewGates block.now invariant.now) }
+    ensures none { IfErr result (λ fault. HasNoFormula block.now invariant.now fault) }
+{
+    match circuit(alloc, block, invariant, MAX_STEP_GATES) {
+        Ok(step) => formula_of(alloc, &step),
+        Err(GateFault::Limit) => Err(RecheckFault::TooManyGates),
+        Err(GateFault::NoMemory) => Err(RecheckFault::NoMemory),
+    }
+}
+
+/// The clauses of step(0) of a circuit.
+fn formula_of(alloc: Global, step: &StepCircuit) -> Result<Formula, RecheckFault>
+    requires fail { Names (length step.now.gates.nodes) step.now.fail }
+    requires gates { gate_count step.now.gates.nodes ≤ MAX_STEP_GATES }
+    ensures formula { IfOk result (λ formula. formula ≡ record { variables = length step.now.gates.nodes; clauses = step_clauses step.now.gates.nodes step.now.fail }) }
+    ensures small { IfOk result (λ formula. formula.variables < 2 ^ 31) }
+    ensures err { IfErr result (λ fault. fault ≡ RecheckFault.NoMemory) }
+{
+    let Ok(mut formula) = Formula::make(alloc, variables(&step.gates)) else {
+        return Err(RecheckFault::NoMemory);
+    };
+    match push_step(&step.gates, step.fail, &mut formula) {
+        Ok(()) => Ok(formula),
+        Err(_) => Err(RecheckFault::NoMemory),
+    }
+}

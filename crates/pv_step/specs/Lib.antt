@@ -1,0 +1,5 @@
+pub mod Conditions
+pub mod Circuits
+pub mod Made
+pub mod Bits
+pub mod Wiring
