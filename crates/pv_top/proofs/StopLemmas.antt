@@ -9,9 +9,10 @@ use Rattle.pv_tree.specs.declared.tree.Expr.{Expr}
 use Rattle.pv_tree.specs.declared.tree.Block.{Block}
 use Rattle.pv_replay.specs.declared.end.End.{End}
 use Rattle.pv_top.specs.declared.answer.Part.{Part}
-use Rattle.pv_top.specs.declared.answer.Part.TheVariants.{Case, Source, Trace}
+use Rattle.pv_top.specs.declared.answer.Part.TheVariants.{Case, Source, Trace, Certificate}
 use Rattle.pv_top.specs.declared.answer.Report.{Report as ReportOf}
-use Rattle.pv_top.specs.declared.answer.Refusal.TheVariants.{Words, Unread, Unbuilt}
+use Rattle.pv_top.specs.declared.answer.Refusal.TheVariants.{Words, Unread, Unbuilt, Faulty, TooManyGates}
+use Rattle.pv_top.specs.declared.answer.Outcome.TheVariants.{Replay}
 use Rattle.pv_top.specs.declared.answer.Answer.{Answer}
 use Rattle.pv_top.specs.declared.answer.Answer.TheVariants.{Report}
 use Rattle.pv_top.specs.declared.answer.Stop.{Stop}
@@ -20,7 +21,7 @@ use Rattle.pv_top.specs.Answers.{answer_in}
 use Rattle.pv_top.specs.Cases.{CaseData, IsCaseText}
 use Rattle.pv_top.specs.Projects.{IsProject}
 use Rattle.pv_top.specs.Inputs.{Holds, HoldsCase, HoldsNoCase, HoldsProject, HoldsNoProject, Reads, IsFormStop, StopsCase, StopsSource}
-use Rattle.pv_top.specs.Replays.{Replayed, StopsTrace, SaysReplay}
+use Rattle.pv_top.specs.Replays.{Replayed, StopsTrace, ReportsReplay, SaysReplay}
 
 -- what a refusal of a form says
 refused : {T : Type 0} (Q : Type 0) (r : Result T ReadFault) → IfErr r (λ fault. fault ≡ NotOfForm → Q) → r ≡ Err NotOfForm → Q
@@ -31,11 +32,13 @@ abbrev is_case : Part → Bool
 is_case Case = true
 is_case Source = false
 is_case Trace = false
+is_case Certificate = false
 
 abbrev is_source : Part → Bool
 is_source Case = false
 is_source Source = true
 is_source Trace = false
+is_source Certificate = false
 
 not_case : (part : Part) → is_case part ≡ false → part ≡ Case → ⊥
 not_case part other is = true≢false (sym (ap is_case is) ∙ other)
@@ -53,6 +56,9 @@ case_stops told name bytes text r result (Err (Refused (Unbuilt Case file))) hel
     (is.1, record { bytes = bytes; held = held; none = subst P same (refused ((case : CaseData) → IsCaseText text case → ⊥) r clause is.2) })
 case_stops told name bytes text r result (Err (Refused (Unbuilt Source file))) held same clause is = not_case Source refl is.0
 case_stops told name bytes text r result (Err (Refused (Unbuilt Trace file))) held same clause is = not_case Trace refl is.0
+case_stops told name bytes text r result (Err (Refused (Unbuilt Certificate file))) held same clause is = not_case Certificate refl is.0
+case_stops told name bytes text r result (Err (Refused (Faulty line kind))) held same clause is = absurd is
+case_stops told name bytes text r result (Err (Refused TooManyGates)) held same clause is = absurd is
 case_stops told name bytes text r result (Err NoMemory) held same clause is = tt
 
 -- ---- what is said
@@ -66,6 +72,9 @@ trace_stop_says told later case_file trace_file case block a (Refused (Unbuilt T
     let P : Option FileMap → Type 0 = λ t. StopsTrace t trace_file block (Refused (Unbuilt Trace file)) in
     let moved = subst P same is in
     (moved.0, record { case = case; block = block; a = a; reads = reads; no_trace = moved.1 })
+trace_stop_says told later case_file trace_file case block a (Refused (Unbuilt Certificate file)) reads same is = absurd is
+trace_stop_says told later case_file trace_file case block a (Refused (Faulty line kind)) reads same is = absurd is
+trace_stop_says told later case_file trace_file case block a (Refused TooManyGates) reads same is = absurd is
 trace_stop_says told later case_file trace_file case block a NoMemory reads same is = tt
 
 pub reads_both : (told later : Option FileMap) (case_file : List ℕ) (case : CaseData) (block : Block) (a : Expr) → HoldsCase told case_file case → later ≡ told → HoldsProject later case block a → Reads told case_file case block a
@@ -73,11 +82,10 @@ reads_both told later case_file case block a of_case same project =
     let P : Option FileMap → Type 0 = λ t. HoldsProject t case block a in
     record { case_held = of_case; project_held = subst P same project }
 
-pub report_says : (told later : Option FileMap) (case_file trace_file : List ℕ) (case : CaseData) (block : Block) (a : Expr) (report : ReportOf) (end : End) → Reads told case_file case block a → later ≡ told → string_bytes report.case ≡ case.name → Replayed later trace_file block a end → report.end ≡ end → SaysReplay told case_file trace_file (Report report)
-report_says told later case_file trace_file case block a report end reads same named replayed is =
+pub report_says : (told later : Option FileMap) (case_file trace_file name : List ℕ) (case : CaseData) (block : Block) (a : Expr) (end : End) → Reads told case_file case block a → later ≡ told → name ≡ case.name → Replayed later trace_file block a end → ReportsReplay told case_file trace_file name (Replay end)
+report_says told later case_file trace_file name case block a end reads same named replayed =
     let P : Option FileMap → Type 0 = λ t. Replayed t trace_file block a end in
-    let Q : End → Type 0 = λ e. Replayed told trace_file block a e in
-    record { case = case; block = block; a = a; reads = reads; named = named; replayed = subst Q (sym is) (subst P same replayed) }
+    record { case = case; block = block; a = a; reads = reads; named = named; replayed = subst P same replayed }
 
 -- a stop that is passed on says what it said
 pub passed_on : (result : Result ReportOf Stop) (stop : Stop) (P : Answer → Type 0) → IsErrAnd result (λ e. e ≡ stop) → IfSome (answer_in (Err stop)) P → IfSome (answer_in result) P

@@ -5,8 +5,8 @@ use Rattle.pv_edge.specs.Files.{FileMap}
 use Rattle.pv_tree.specs.declared.tree.Expr.{Expr}
 use Rattle.pv_tree.specs.declared.tree.Block.{Block}
 use Rattle.pv_top.specs.declared.answer.Part.{Part}
-use Rattle.pv_top.specs.declared.answer.Part.TheVariants.{Case, Source, Trace}
-use Rattle.pv_top.specs.declared.answer.Refusal.TheVariants.{Words, Unread, Unbuilt}
+use Rattle.pv_top.specs.declared.answer.Part.TheVariants.{Case, Source, Trace, Certificate}
+use Rattle.pv_top.specs.declared.answer.Refusal.TheVariants.{Words, Unread, Unbuilt, Faulty, TooManyGates}
 use Rattle.pv_top.specs.declared.answer.Stop.{Stop}
 use Rattle.pv_top.specs.declared.answer.Stop.TheVariants.{Refused, NoMemory}
 use Rattle.pv_top.specs.Cases.{CaseData, IsCaseText}
@@ -50,6 +50,8 @@ abbrev pub IsReadStop : List ℕ → Stop → Type 0
 IsReadStop name (Refused Words) = ⊥
 IsReadStop name (Refused (Unread file)) = string_bytes file ≡ name
 IsReadStop name (Refused (Unbuilt part file)) = ⊥
+IsReadStop name (Refused (Faulty line kind)) = ⊥
+IsReadStop name (Refused TooManyGates) = ⊥
 IsReadStop name NoMemory = Unit {0}
 
 -- why what a file holds isn't taken: it isn't of the part's form, as the cause says
@@ -57,6 +59,8 @@ abbrev pub IsFormStop : Part → List ℕ → Type 0 → Stop → Type 0
 IsFormStop part name cause (Refused Words) = ⊥
 IsFormStop part name cause (Refused (Unread file)) = ⊥
 IsFormStop part name cause (Refused (Unbuilt other file)) = (other ≡ part) × (string_bytes file ≡ name) × cause
+IsFormStop part name cause (Refused (Faulty line kind)) = ⊥
+IsFormStop part name cause (Refused TooManyGates) = ⊥
 IsFormStop part name cause NoMemory = Unit {0}
 
 -- why the reading of a case stops: its file can't be read, or holds no case
@@ -66,6 +70,9 @@ StopsCase told case_file (Refused (Unread file)) = string_bytes file ≡ case_fi
 StopsCase told case_file (Refused (Unbuilt Case file)) = (string_bytes file ≡ case_file) × HoldsNoCase told case_file
 StopsCase told case_file (Refused (Unbuilt Source file)) = ⊥
 StopsCase told case_file (Refused (Unbuilt Trace file)) = ⊥
+StopsCase told case_file (Refused (Unbuilt Certificate file)) = ⊥
+StopsCase told case_file (Refused (Faulty line kind)) = ⊥
+StopsCase told case_file (Refused TooManyGates) = ⊥
 StopsCase told case_file NoMemory = Unit {0}
 
 -- why the reading of a case's source stops: it can't be read, or holds no project of the case
@@ -75,6 +82,9 @@ StopsSource told case (Refused (Unread file)) = string_bytes file ≡ case.file
 StopsSource told case (Refused (Unbuilt Case file)) = ⊥
 StopsSource told case (Refused (Unbuilt Source file)) = (string_bytes file ≡ case.file) × HoldsNoProject told case
 StopsSource told case (Refused (Unbuilt Trace file)) = ⊥
+StopsSource told case (Refused (Unbuilt Certificate file)) = ⊥
+StopsSource told case (Refused (Faulty line kind)) = ⊥
+StopsSource told case (Refused TooManyGates) = ⊥
 StopsSource told case NoMemory = Unit {0}
 
 -- ---- what a refusal says, where the command's second file has this name

@@ -12,9 +12,11 @@ use Rattle.pv_replay.specs.Traces.{AreScans, trace_text}
 use Rattle.pv_replay.specs.Ends.{IsEnd}
 use Rattle.pv_top.specs.declared.answer.Answer.{Answer}
 use Rattle.pv_top.specs.declared.answer.Answer.TheVariants.{Report, Refusal as RefusalOf}
-use Rattle.pv_top.specs.declared.answer.Part.TheVariants.{Case, Source, Trace}
+use Rattle.pv_top.specs.declared.answer.Part.TheVariants.{Case, Source, Trace, Certificate}
 use Rattle.pv_top.specs.declared.answer.Refusal.{Refusal}
-use Rattle.pv_top.specs.declared.answer.Refusal.TheVariants.{Words, Unread, Unbuilt}
+use Rattle.pv_top.specs.declared.answer.Refusal.TheVariants.{Words, Unread, Unbuilt, Faulty, TooManyGates}
+use Rattle.pv_top.specs.declared.answer.Outcome.{Outcome}
+use Rattle.pv_top.specs.declared.answer.Outcome.TheVariants.{Replay, Satisfied}
 use Rattle.pv_top.specs.declared.answer.Stop.{Stop}
 use Rattle.pv_top.specs.declared.answer.Stop.TheVariants.{Refused, NoMemory}
 use Rattle.pv_top.specs.Cases.{CaseData}
@@ -40,6 +42,9 @@ StopsTrace told trace_file block (Refused (Unread file)) = string_bytes file ≡
 StopsTrace told trace_file block (Refused (Unbuilt Case file)) = ⊥
 StopsTrace told trace_file block (Refused (Unbuilt Source file)) = ⊥
 StopsTrace told trace_file block (Refused (Unbuilt Trace file)) = (string_bytes file ≡ trace_file) × HoldsNoTrace told trace_file block
+StopsTrace told trace_file block (Refused (Unbuilt Certificate file)) = ⊥
+StopsTrace told trace_file block (Refused (Faulty line kind)) = ⊥
+StopsTrace told trace_file block (Refused TooManyGates) = ⊥
 StopsTrace told trace_file block NoMemory = Unit {0}
 
 -- the report is that of the case, and its end is that of the trace
@@ -66,8 +71,16 @@ RefusesReplay told case_file trace_file (Unread file) = IsUnreadable told case_f
 RefusesReplay told case_file trace_file (Unbuilt Case file) = IsNoCase told case_file (string_bytes file)
 RefusesReplay told case_file trace_file (Unbuilt Source file) = IsNoProject told case_file (string_bytes file)
 RefusesReplay told case_file trace_file (Unbuilt Trace file) = (string_bytes file ≡ trace_file) × IsNoTrace told case_file trace_file
+RefusesReplay told case_file trace_file (Unbuilt Certificate file) = ⊥
+RefusesReplay told case_file trace_file (Faulty line kind) = ⊥
+RefusesReplay told case_file trace_file TooManyGates = ⊥
+
+-- what a report of a replay says
+abbrev pub ReportsReplay : Option FileMap → List ℕ → List ℕ → List ℕ → Outcome → Type 0
+ReportsReplay told case_file trace_file name (Replay end) = IsReplayed told case_file trace_file name end
+ReportsReplay told case_file trace_file name (Satisfied k) = ⊥
 
 -- what an answer of a replay says
 abbrev pub SaysReplay : Option FileMap → List ℕ → List ℕ → Answer → Type 0
-SaysReplay told case_file trace_file (Report report) = IsReplayed told case_file trace_file (string_bytes report.case) report.end
+SaysReplay told case_file trace_file (Report report) = ReportsReplay told case_file trace_file (string_bytes report.case) report.outcome
 SaysReplay told case_file trace_file (RefusalOf refusal) = RefusesReplay told case_file trace_file refusal

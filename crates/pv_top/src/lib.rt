@@ -9,12 +9,14 @@ ghost use Rattle.pv_top.specs.Calls.{Says, Delivers, Promises};
 mod answer;
 mod case;
 mod inputs;
+mod recheck;
 mod replay;
 mod words;
 
 pub use answer::Status;
 use answer::{Answer, NO_MEMORY, Refusal, WRITE_FAULT, answer_in};
 use pv_edge::{Files, Sink, SinkFault, Text};
+use recheck::recheck;
 use replay::replay;
 use std::alloc::Global;
 use words::{Command, read_words};
@@ -60,6 +62,9 @@ fn answer_of<F: Files>(alloc: Global, words: &[String], files: &mut F) -> Option
     match read_words(words) {
         None => Some(Answer::Refusal(Refusal::Words)),
         Some(Command::Replay { case, trace }) => answer_in(replay(alloc, files, case, trace)),
+        Some(Command::Recheck { case, certificate }) => {
+            answer_in(recheck(alloc, files, case, certificate))
+        }
     }
 }
 

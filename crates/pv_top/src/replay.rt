@@ -5,7 +5,7 @@ ghost use Rattle.pv_replay.specs.Replayable.{IsReplayable};
 ghost use Rattle.pv_top.specs.Answers.{is_unread, answer_in};
 ghost use Rattle.pv_top.specs.Replays.{Replayed, StopsTrace, SaysReplay};
 
-use crate::answer::{Part, Report, Stop};
+use crate::answer::{Outcome, Part, Report, Stop};
 use crate::inputs::{accept, case_in, project_in, read};
 use pv_edge::Files;
 use pv_replay::{End, replay_block};
@@ -30,7 +30,7 @@ pub fn replay<F: Files>(
     let end = end_in(alloc, files, &block, &invariant, trace_file)?;
     Ok(Report {
         case: case.name,
-        end,
+        outcome: Outcome::Replay(end),
     })
 }
 

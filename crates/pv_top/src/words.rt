@@ -7,6 +7,8 @@ ghost use Rattle.pv_top.specs.Calls.{IsCommand, Spells};
 pub enum Command<'a> {
     /// `replay CASE TRACE`: replays the trace on the case's block.
     Replay { case: &'a str, trace: &'a str },
+    /// `recheck CASE CERT`: checks the certificate against the case.
+    Recheck { case: &'a str, certificate: &'a str },
 }
 
 /// The command that the words spell, if they have one of the forms. Nothing stands before or
@@ -19,6 +21,10 @@ pub fn read_words(words: &[String]) -> Option<Command<'_>>
         [verb, case, trace] if verb.as_str() == "replay" => Some(Command::Replay {
             case: case.as_str(),
             trace: trace.as_str(),
+        }),
+        [verb, case, certificate] if verb.as_str() == "recheck" => Some(Command::Recheck {
+            case: case.as_str(),
+            certificate: certificate.as_str(),
         }),
         _ => None,
     }

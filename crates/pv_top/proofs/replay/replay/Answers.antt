@@ -19,6 +19,6 @@ returns-clause-says g c =
     let told = g.F.Files.told c.args.files.now in
     let later = g.F.Files.told c.project_in.new.files in
     let case = data_of c.in_ok-case.case in
-    report_says told later c.args.case_file.now c.args.trace_file.now case c.in_ok-block.block c.in_ok-block.invariant (record { case = c.in_ok-case.case.name; end = c.in_ok-end.end }) c.in_ok-end.end
+    report_says told later c.args.case_file.now c.args.trace_file.now case.name case c.in_ok-block.block c.in_ok-block.invariant c.in_ok-end.end
     (reads_both told (g.F.Files.told c.case_in.new.files) c.args.case_file.now case c.in_ok-block.block c.in_ok-block.invariant c.in_ok-case.ensures.found c.case_in.ensures.files c.in_ok-block.ensures.found)
-    (c.project_in.ensures.files ∙ c.case_in.ensures.files) refl c.in_ok-end.ensures.found refl
+    (c.project_in.ensures.files ∙ c.case_in.ensures.files) refl c.in_ok-end.ensures.found
