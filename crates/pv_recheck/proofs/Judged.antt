@@ -1,5 +1,5 @@
 -- What the steps of a check find decides the answer, and the answer is one.
-use Rattle.std.proofs.Common.{◌≡◌, ℕ, ◌+◌, List, [], ◌∷◌, refl, ap, sym, subst, ◌∙◌, arith, inl, inr, Result, Ok, Err, length, ℤ}
+use Rattle.std.proofs.Common.{◌≡◌, ℕ, List, [], ◌∷◌, ap, sym, subst, ◌∙◌, inl, inr, Result, Ok, Err, length, ℤ}
 use Rattle.pv_tree.specs.declared.tree.Expr.{Expr}
 use Rattle.pv_tree.specs.declared.tree.Block.{Block}
 use Rattle.pv_gate.specs.declared.netlist.Node.{Node}
@@ -7,16 +7,15 @@ use Rattle.pv_gate.specs.Node.{Names}
 use Rattle.pv_cert.specs.declared.proof.Proof.{Proof}
 use Rattle.pv_cert.specs.declared.certificate.Certificate.{Certificate}
 use Rattle.pv_cert.specs.declared.certificate.Claim.TheVariants.{Satisfied}
-use Rattle.pv_cert.specs.CertificateText.{IsTextOf, FailsAt}
+use Rattle.pv_cert.specs.CertificateText.{IsTextOf}
 use Rattle.pv_recheck.specs.declared.fault.Kind.{Kind}
 use Rattle.pv_recheck.specs.declared.fault.Kind.TheVariants.{NotACertificate, Line, NoEmpty, WrongQuery}
 use Rattle.pv_recheck.specs.declared.fault.RecheckFault.{RecheckFault}
 use Rattle.pv_recheck.specs.declared.fault.RecheckFault.TheVariants.{Unbuilt, TooManyGates, Fault, NoMemory}
 use Rattle.pv_recheck.specs.Form.{IsUnbuilt}
 use Rattle.pv_recheck.specs.Validity.{IsValid}
-use Rattle.pv_recheck.specs.Faults.{BeginsWithStep, IsFaultAt}
-use Rattle.pv_recheck.specs.Answers.{HasTooManyGates, IsBeforeLog, Answers}
-use Rattle.pv_recheck.specs.Judging.{HasFewGates, JudgesProofs, ReadsAs, IsProofFault}
+use Rattle.pv_recheck.specs.Answers.{Answers}
+use Rattle.pv_recheck.specs.Judging.{JudgesProofs, IsProofFault}
 
 -- a certificate's text is that of its proofs
 proofs_text : (bytes : List ℕ) (c : Certificate) (p : Proof) → IsTextOf bytes c → c.proofs ≡ p ∷ [] → IsTextOf bytes (record { claim = Satisfied 0; proofs = p ∷ [] })

@@ -1,5 +1,5 @@
 -- A text has one line of each number.
-use Rattle.std.proofs.Common.{◌≡◌, ◌≢◌, ℕ, zero, suc, Bool, true, false, not, List, [], ◌∷◌, ◌++◌, refl, ap, sym, subst, ◌∙◌, Option, Some, None, Bor}
+use Rattle.std.proofs.Common.{◌≡◌, ◌≢◌, ℕ, zero, suc, Bool, true, false, not, List, ◌∷◌, ◌++◌, refl, sym, subst, ◌∙◌, Option, Some, None, Bor}
 use Rattle.std.specs.Prelude.{◌↔◌, IsTrue, IfSome, IfNone, codes}
 use Rattle.std.proofs.lemmas.Bool.{false≢true}
 use Rattle.pv_cert.specs.CertificateText.{NoFeed}

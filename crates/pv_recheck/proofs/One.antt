@@ -1,5 +1,5 @@
 -- A certificate has one first fault, a valid one has none, and so the answer is one.
-use Rattle.std.proofs.Common.{◌≡◌, ℕ, ◌+◌, ◌==◌, true, false, List, [], ◌∷◌, ◌++◌, length, get_or, map, refl, ap, sym, subst, ◌∙◌, arith, inl, inr, Result, Ok, Err, append_assoc}
+use Rattle.std.proofs.Common.{◌≡◌, ℕ, ◌==◌, true, false, List, [], ◌∷◌, ◌++◌, length, get_or, map, refl, ap, sym, subst, ◌∙◌, arith, inl, inr, Result, Ok, Err, append_assoc}
 use Rattle.std.specs.Prelude.{codes, ◌⊎◌}
 use Rattle.std.proofs.lemmas.Bool.{both_ways, false≢true}
 use Rattle.pv_tree.specs.declared.tree.Expr.{Expr}
@@ -11,7 +11,7 @@ use Rattle.pv_log.proofs.FollowLaws.{follows-not-fails, fails-once}
 use Rattle.pv_cert.specs.declared.proof.Proof.{Proof}
 use Rattle.pv_cert.specs.declared.certificate.Certificate.{Certificate}
 use Rattle.pv_cert.specs.declared.certificate.Claim.TheVariants.{Satisfied}
-use Rattle.pv_cert.specs.CertificateText.{text_of_lines, query_line, log_line as count_line, certificate_lines, IsTextOf, FailsAt, NoFeed}
+use Rattle.pv_cert.specs.CertificateText.{text_of_lines, query_line, log_line as count_line, IsTextOf, FailsAt, NoFeed}
 use Rattle.pv_cert.proofs.Texts.{feedless}
 use Rattle.pv_cert.proofs.Whole.{one-certificate, fails-once as one-stuck}
 use Rattle.pv_recheck.specs.declared.fault.Kind.{Kind}
@@ -21,7 +21,7 @@ use Rattle.pv_recheck.specs.declared.fault.RecheckFault.TheVariants.{Unbuilt, To
 use Rattle.pv_recheck.specs.Form.{IsLine, IsUnbuilt}
 use Rattle.pv_recheck.specs.Validity.{step_formula, IsStepProof, IsValid}
 use Rattle.pv_recheck.specs.Faults.{BeginsWithStep, first_log, log_line, LineFails, LogLacksEmpty, HasSecondAt, IsFaultAt}
-use Rattle.pv_recheck.specs.Answers.{HasTooManyGates, IsBeforeLog, ComesToLog, Answers, IsUnlessNoMemory}
+use Rattle.pv_recheck.specs.Answers.{IsBeforeLog, ComesToLog, Answers, IsUnlessNoMemory}
 use Rattle.pv_recheck.proofs.Lines.{same_line, ahead}
 
 module _ (b : Block) (a : Expr) where
@@ -155,6 +155,7 @@ module _ (b : Block) (a : Expr) where
       no_second : (ps : List Proof) (at : ℕ) → at ≡ 3 → HasSecondAt b a ps at → ⊥
       no_second [] at e k = k
       no_second (p ∷ ps) at e k = omega (arith, e, k.3)
+
       no_early : (ps : List Proof) (at : ℕ) (f : Kind) → at ≡ 3 → BeginsWithStep ps → Contents ps at f → ⊥
       no_early ps at NotACertificate e s k = k
       no_early ps at (Line g) e s k = omega (arith, e, k.2)

@@ -1,5 +1,5 @@
 -- What a valid certificate says is so.
-use Rattle.std.proofs.Common.{◌≡◌, ◌≢◌, ℕ, zero, suc, ◌<◌, ◌≤◌, Bool, true, false, not, cond, List, [], ◌∷◌, length, get_or, map, ℤ, pos, negsuc, refl, ap, sym, subst, ◌∙◌, arith}
+use Rattle.std.proofs.Common.{◌≡◌, ◌≢◌, ℕ, zero, suc, Bool, true, false, not, cond, List, [], ◌∷◌, get_or, map, ℤ, pos, negsuc, refl, ap, sym, subst, ◌∙◌, arith}
 use Rattle.std.specs.Prelude.{filter}
 use Rattle.std.specs.Ordering.{int_eq}
 use Rattle.std.specs.List.{AllByRecursion}
@@ -23,15 +23,15 @@ use Rattle.pv_mean.specs.Scans.{ScanEnd, done, scan}
 use Rattle.pv_mean.specs.Runs.{run}
 use Rattle.pv_machine.specs.Queries.{MeetsStep}
 use Rattle.pv_pattern.specs.Patterns.{is_true, invariant}
-use Rattle.pv_pattern.specs.Failing.{fails, fails_at, Keeps}
+use Rattle.pv_pattern.specs.Failing.{fails_at, Keeps}
 use Rattle.pv_pattern.specs.Sources.{source}
 use Rattle.pv_pattern.proofs.RunsOf.{no_failing_run, some_failing_scan}
 use Rattle.pv_step.specs.Circuits.{circuit_of}
 use Rattle.pv_step.specs.Conditions.{IsOverBool}
-use Rattle.pv_step.specs.Bits.{number_of_bit, Carries, Begins, IsCircuit}
+use Rattle.pv_step.specs.Bits.{number_of_bit, Carries, Begins}
 use Rattle.pv_step.proofs.ScanLaws.{fail_is, is_circuit}
 use Rattle.pv_frames.proofs.StepValues.{none-fails}
-use Rattle.pv_recheck.specs.Validity.{step_formula, RefutesStep, IsValid}
+use Rattle.pv_recheck.specs.Validity.{step_formula, IsValid}
 
 -- ---- any image and input of a block of BOOL are bits
 
@@ -48,10 +48,13 @@ begin_bits (c ∷ cs) image input all im inp = lead (is_input c.role) (λ i j p 
   where
     kept : List Cell
     kept = filter (λ d. not (is_input d.role)) cs
+
     taken : List Cell
     taken = filter (λ d. is_input d.role) cs
+
     in_bool : (v : ℤ) → InRange c.ty v → InRange BoolType v
     in_bool v r = subst (λ (t : Ty). InRange t v) all.0 r
+
     lead : (b : Bool) → ((i j : List ℤ) → AreValues (image_types cs) i → AreValues (input_types cs) j → AreBits (begin cs i j))
         → AreValues (map (λ (d : Cell). d.ty) (cond (not b) (c ∷ filter (λ d. not (is_input d.role)) cs) (filter (λ d. not (is_input d.role)) cs))) image
         → AreValues (map (λ (d : Cell). d.ty) (cond b (c ∷ filter (λ d. is_input d.role) cs) (filter (λ d. is_input d.role) cs))) input

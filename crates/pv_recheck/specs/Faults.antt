@@ -3,7 +3,6 @@
 use Rattle.std.specs.Prelude.{◌≡◌, ◌≢◌, ℕ, ◌+◌, List, [], ◌∷◌, length, ◌⊎◌}
 use Rattle.pv_tree.specs.declared.tree.Expr.{Expr}
 use Rattle.pv_tree.specs.declared.tree.Block.{Block}
-use Rattle.pv_cnf.specs.Clause.{Cnf}
 use Rattle.pv_log.specs.declared.line.Line as line
 use Rattle.pv_log.specs.declared.fault.LineFault.{LineFault}
 use Rattle.pv_log.specs.Follows.{Follows, fault_of, LacksEmpty, FailsFirst}

@@ -49,12 +49,7 @@ pub fn check_certificate(
     check(alloc, block, invariant, bytes)
 }
 
-fn check(
-    alloc: Global,
-    block: &Block,
-    invariant: &Expr,
-    bytes: &[u8],
-) -> Result<(), RecheckFault>
+fn check(alloc: Global, block: &Block, invariant: &Expr, bytes: &[u8]) -> Result<(), RecheckFault>
     requires names { HasNames block.now invariant.now }
     requires cells { length (cells_of block.now) ≤ MAX_INPUTS }
     ensures { Answers block.now invariant.now bytes.now result }
@@ -127,12 +122,7 @@ fn is_step_zero(query: Query) -> bool
 }
 
 /// The log, against the formula of step(0).
-fn check_log(
-    alloc: Global,
-    block: &Block,
-    invariant: &Expr,
-    log: &Log,
-) -> Result<(), RecheckFault>
+fn check_log(alloc: Global, block: &Block, invariant: &Expr, log: &Log) -> Result<(), RecheckFault>
     requires names { HasNames block.now invariant.now }
     requires cells { length (cells_of block.now) ≤ MAX_INPUTS }
     ensures { JudgesLog block.now invariant.now log.now result }

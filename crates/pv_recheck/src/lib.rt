@@ -10,3 +10,5 @@ pub mod laws;
 pub use check::{MAX_STEP_GATES, check_certificate};
 pub use fault::{Kind, RecheckFault};
 
+#[cfg(test)]
+mod tests;
