@@ -15,7 +15,7 @@ mod tree;
 mod words;
 
 pub use fault::ReadFault;
-pub use laws::text_determines_tokens;
+pub use laws::{text_determines_tokens, tokens_lie_in_their_text};
 pub use name::Name;
 pub use parse::{read_block, read_expression, read_name};
 pub use place::Place;
