@@ -19,11 +19,12 @@ use Rattle.pv_top.specs.Cases.{CaseData}
 use Rattle.pv_top.specs.Inputs.{Holds, Reads}
 use Rattle.pv_top.specs.Rechecks.{HoldsProof, HoldsFault, IsCheckStop, StopsCertificate, ReportsRecheck, SaysRecheck}
 
-pub proof_holds : (told : Option FileMap) (file bytes text : List ℕ) (block : Block) (a : Expr) → Holds told file bytes → text ≡ bytes → IsOverBool block a → IsValid block a text → HoldsProof told file block a
-proof_holds told file bytes text block a held same over valid =
-    let P : List ℕ → Type 0 = λ t. IsValid block a t in
-    let moved = subst P same valid in
-    record { bytes = bytes; held = held; valid = moved; satisfied = runs_keep block a bytes over moved }
+pub proof_holds : (told : Option FileMap) (file bytes text : List ℕ) (block : Block) (a : Expr) (r : Result (Unit {0}) RecheckFault) → Holds told file bytes → text ≡ bytes → IsOverBool block a → Answers block a text r → r ≡ Ok tt → HoldsProof told file block a
+proof_holds told file bytes text block a r held same over answer is =
+    let P : List ℕ → Type 0 = λ t. Answers block a t (Ok tt) in
+    let Q : Result (Unit {0}) RecheckFault → Type 0 = λ x. Answers block a text x in
+    let moved = subst P same (subst Q is answer) in
+    record { bytes = bytes; held = held; valid = moved.0; few_gates = moved.1; satisfied = runs_keep block a bytes over moved.0 }
 
 fault_held : (told : Option FileMap) (file bytes text : List ℕ) (block : Block) (a : Expr) (fault other : RecheckFault) → Holds told file bytes → text ≡ bytes → Answers block a text (Err fault) → fault ≡ other → HoldsFault told file block a other
 fault_held told file bytes text block a fault other held same answer is =
@@ -53,9 +54,9 @@ certificate_stop_says told later case_file file case block a (Refused (Unread na
 certificate_stop_says told later case_file file case block a (Refused (Unbuilt Case name)) reads same is = absurd is
 certificate_stop_says told later case_file file case block a (Refused (Unbuilt Source name)) reads same is = absurd is
 certificate_stop_says told later case_file file case block a (Refused (Unbuilt Trace name)) reads same is = absurd is
-certificate_stop_says told later case_file file case block a (Refused (Unbuilt Certificate name)) reads same is = (is.0, record { case = case; block = block; a = a; reads = reads; fault = fault_is told later file block a UnbuiltCertificate same is.1 })
-certificate_stop_says told later case_file file case block a (Refused (Faulty line kind)) reads same is = record { case = case; block = block; a = a; reads = reads; fault = fault_is told later file block a (Fault line kind) same is }
-certificate_stop_says told later case_file file case block a (Refused TooManyGates) reads same is = record { case = case; block = block; a = a; reads = reads; fault = fault_is told later file block a Gates same is }
+certificate_stop_says told later case_file file case block a (Refused (Unbuilt Certificate name)) reads same is = (is.0, record { case = case; block = block; a = a; reads = reads; certificate = fault_is told later file block a UnbuiltCertificate same is.1 })
+certificate_stop_says told later case_file file case block a (Refused (Faulty line kind)) reads same is = record { case = case; block = block; a = a; reads = reads; certificate = fault_is told later file block a (Fault line kind) same is }
+certificate_stop_says told later case_file file case block a (Refused TooManyGates) reads same is = record { case = case; block = block; a = a; reads = reads; certificate = fault_is told later file block a Gates same is }
 certificate_stop_says told later case_file file case block a NoMemory reads same is = tt
 
 pub verdict_says : (told later : Option FileMap) (case_file file name : List ℕ) (case : CaseData) (block : Block) (a : Expr) → Reads told case_file case block a → later ≡ told → name ≡ case.name → HoldsProof later file block a → ReportsRecheck told case_file file name (Satisfied 0)
