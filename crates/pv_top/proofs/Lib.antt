@@ -1,8 +1,4 @@
-mod TraceLemmas
 mod CaseLemmas
-mod ProgramLemmas
-mod PlaceLemmas
-mod MachineLemmas
 mod WordsLemmas
-mod Silent
-mod ReadLemmas
+mod StopLemmas
+mod SayLemmas
