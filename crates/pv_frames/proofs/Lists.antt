@@ -4,7 +4,7 @@ use Rattle.std.specs.List.{flat_map}
 use Rattle.std.proofs.lemmas.List.{take_more, flat_map_more}
 use Rattle.pv_cnf.specs.Clause.{AreClauses}
 use Rattle.pv_frames.specs.declared.short.Short.{Short}
-use Rattle.pv_frames.specs.declared.short.Short.TheVariants.{Left, One, Two, Three}
+use Rattle.pv_frames.specs.declared.short.Short.TheVariants.{Omitted, One, Two, Three}
 use Rattle.pv_frames.specs.Short.{clauses_of}
 
 -- one more piece
@@ -37,7 +37,7 @@ clauses-at n f xs i d h all =
     (clauses-right n (flat_map f (take i xs)) (f (get_or xs i d) ++ flat_map f (drop (suc i) xs)) (subst (AreClauses n) (flat_map-around f xs i d h) all))
 
 at_most_one : (s : Short) → length (clauses_of s) ≤ 1
-at_most_one Left = lit≤ tt
+at_most_one Omitted = lit≤ tt
 at_most_one (One a) = lit≤ tt
 at_most_one (Two a b) = lit≤ tt
 at_most_one (Three a b c) = lit≤ tt

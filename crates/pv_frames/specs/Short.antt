@@ -3,11 +3,11 @@ use Rattle.std.specs.Prelude.{ℕ, ◌<◌, ◌^◌, unsigned_abs, List, [], ◌
 use Rattle.pv_gate.specs.declared.netlist.Node.{Node}
 use Rattle.pv_gate.specs.declared.netlist.Node.TheVariants.{True, Input, And, Xor, Mux}
 use Rattle.pv_frames.specs.declared.short.Short.{Short}
-use Rattle.pv_frames.specs.declared.short.Short.TheVariants.{Left, One, Two, Three}
+use Rattle.pv_frames.specs.declared.short.Short.TheVariants.{Omitted, One, Two, Three}
 
 -- one clause, or none where it is left out
 abbrev pub clauses_of : Short → List (List ℕ)
-clauses_of Left = []
+clauses_of Omitted = []
 clauses_of (One a) = (a ∷ []) ∷ []
 clauses_of (Two a b) = (a ∷ b ∷ []) ∷ []
 clauses_of (Three a b c) = (a ∷ b ∷ c ∷ []) ∷ []

@@ -28,7 +28,7 @@ fn and_gate(g: u32, a: u32, b: u32) -> [Short; 4]
         two(flip(g), a),
         two(flip(g), b),
         three(g, flip(a), flip(b)),
-        Short::Left,
+        Short::Omitted,
     ]
 }
 
@@ -67,7 +67,7 @@ pub(crate) fn clauses(n: u32, node: Node) -> [Short; 4]
         Node::And(a, b) => and_gate(g, literal(a), literal(b)),
         Node::Xor(a, b) => xor_gate(g, literal(a), literal(b)),
         Node::Mux(s, a, b) => mux_gate(g, literal(s), literal(a), literal(b)),
-        Node::True => [Short::Left; 4],
-        Node::Input(_) => [Short::Left; 4],
+        Node::True => [Short::Omitted; 4],
+        Node::Input(_) => [Short::Omitted; 4],
     }
 }

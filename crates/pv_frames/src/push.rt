@@ -25,7 +25,7 @@ fn push_short<C: Clauses>(clause: Short, into: &mut C) -> Result<(), PushFault>
     ensures overflow_kept { (all : List (List ℕ)) → C.overflow into.new all ≡ C.overflow into.old all }
 {
     match clause {
-        Short::Left => Ok(()),
+        Short::Omitted => Ok(()),
         Short::One(a) => into.push(&[a]),
         Short::Two(a, b) => into.push(&[a, b]),
         Short::Three(a, b, c) => into.push(&[a, b, c]),

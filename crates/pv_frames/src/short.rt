@@ -10,7 +10,7 @@ use pv_cnf::flip;
 #[derive(Clone, Copy)]
 pub(crate) enum Short {
     /// No clause: a literal would stand beside its complement.
-    Left,
+    Omitted,
     One(u32),
     Two(u32, u32),
     Three(u32, u32, u32),
@@ -21,7 +21,7 @@ pub(crate) fn two(a: u32, b: u32) -> Short
     ensures { clauses_of result ≡ written (a ∷ b ∷ []) }
 {
     if b == flip(a) {
-        Short::Left
+        Short::Omitted
     } else if b == a {
         Short::One(a)
     } else {
@@ -34,7 +34,7 @@ pub(crate) fn three(a: u32, b: u32, c: u32) -> Short
     ensures { clauses_of result ≡ written (a ∷ b ∷ c ∷ []) }
 {
     if b == flip(a) || c == flip(a) || c == flip(b) {
-        Short::Left
+        Short::Omitted
     } else if c == a || c == b {
         two(a, b)
     } else if b == a {

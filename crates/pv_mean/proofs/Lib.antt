@@ -3,4 +3,5 @@ pub mod Lists
 pub mod FrameLaws
 pub mod RangeLaws
 pub mod TypeLaws
+pub mod ReadingLaws
 pub mod RunLaws

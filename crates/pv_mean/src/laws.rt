@@ -10,11 +10,13 @@ ghost use Rattle.pv_tree.specs.declared.tree.Expr.{Expr};
 ghost use Rattle.pv_tree.specs.declared.tree.Stmt.TheVariants.{Assign};
 ghost use Rattle.pv_tree.specs.declared.tree.Block.{Block};
 ghost use Rattle.pv_tree.specs.Scope.{key_of, statements_of};
+ghost use Rattle.pv_tree.specs.Shape.{expr_shape, block_shape};
+ghost use Rattle.pv_tree.specs.Reading.{ReadsBlock, ReadsExpression};
 ghost use Rattle.pv_mean.specs.declared.cell.Cell.{Cell};
 ghost use Rattle.pv_mean.specs.Cells.{cells_of, key_of_path};
 ghost use Rattle.pv_mean.specs.Frames.{Image, Input, Frame, image_len, input_len, frame_types, image_types, input_types, start_image, begin, image_of, input_of};
 ghost use Rattle.pv_mean.specs.Values.{number, unary, binary, value, value_at};
-ghost use Rattle.pv_mean.specs.Boolean.{IsBoolean};
+ghost use Rattle.pv_mean.specs.Boolean.{IsBoolean, BoolLiterals};
 ghost use Rattle.pv_mean.specs.Statements.{normal, run_one, IsUntouched};
 ghost use Rattle.pv_mean.specs.Scans.{done, scan, next_image};
 ghost use Rattle.pv_mean.specs.Runs.{run_from, run_on, end_image};
@@ -80,4 +82,11 @@ pub fn scans_begin_with_image_and_input()
         → length image ≡ image_len cells → image_of cells (begin cells image input) ≡ image }
     ensures carried { (block : Block) (frame : Frame) (input : Input)
         → image_of (cells_of block) (begin (cells_of block) (next_image block frame) input) ≡ image_of (cells_of block) frame }
+{}
+
+/// What reads as a block has cells, start values and literals of BOOL alone, and what reads as an expression has such
+/// literals.
+pub fn texts_read_as_boolean()
+    ensures block { (file : ℕ) (text : List ℕ) (block : Block) → ReadsBlock file text (block_shape block) → IsBoolean block }
+    ensures expression { (file : ℕ) (text : List ℕ) (e : Expr) → ReadsExpression file text (expr_shape e) → BoolLiterals e }
 {}

@@ -10,7 +10,7 @@ use Rattle.pv_tree.specs.declared.tree.Block.{Block}
 use Rattle.pv_tree.specs.Scope.{keys_of, statements_of, IsDeclaredIn}
 use Rattle.pv_gate.specs.declared.netlist.Node.{Node}
 use Rattle.pv_gate.specs.Node.{Names, input_count}
-use Rattle.pv_gate.specs.Netlist.{Netlist}
+use Rattle.pv_gate.specs.Netlist.{Netlist, Extends}
 use Rattle.pv_gate.specs.Value.{value_of}
 use Rattle.pv_gate.proofs.Building.{Names-neg, value_of-neg}
 use Rattle.pv_mean.specs.declared.cell.Cell.{Cell}
@@ -200,9 +200,11 @@ is_circuit block invariant is =
     let count : input_count p.nodes ≡ n = input_count-grows (begin_nodes n) p.nodes grown ∙ input_count-begin n in
     let all = parts_all cells (begin_literals n) begin_len in
     let Q : ℕ → Type 0 = λ m. IsPermutation (begin_literals m) (image_of cells (begin_literals n) ++ input_of cells (begin_literals n)) in
+    let R : ℕ → Type 0 = λ m. Extends (begin_nodes m) p.nodes in
     let P : Circuit → Type 0 = λ c. IsCircuit c in
     subst P (sym (circuit_is block invariant)) (record {
       netlist = named.netlist;
+      inputs_first = subst R (sym count) (record { added = grown.added; is = grown.is });
       state_in = All-from_recursion N (image_of cells (begin_literals n)) (image_all N cells (begin_literals n) begin_len begin_named);
       input = All-from_recursion N (input_of cells (begin_literals n)) (input_all N cells (begin_literals n) begin_len begin_named);
       state_out = All-from_recursion N (image_of cells (end_wires block).literals) (image_all N cells (end_wires block).literals (end_length block) end_named);

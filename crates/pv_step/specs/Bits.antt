@@ -6,10 +6,10 @@ use Rattle.pv_tree.specs.declared.tree.Block.{Block}
 use Rattle.pv_gate.specs.declared.netlist.Node.{Node}
 use Rattle.pv_gate.specs.Node.{Names, input_count}
 use Rattle.pv_gate.specs.Value.{value_of}
-use Rattle.pv_gate.specs.Netlist.{IsNetlist}
+use Rattle.pv_gate.specs.Netlist.{IsNetlist, Extends}
 use Rattle.pv_mean.specs.Cells.{cells_of}
 use Rattle.pv_mean.specs.Frames.{Image, Input, Frame, image_types, input_types, begin}
-use Rattle.pv_step.specs.Circuits.{Circuit, Literals, begin_literals}
+use Rattle.pv_step.specs.Circuits.{Circuit, Literals, begin_nodes, begin_literals}
 
 -- the value of BOOL that a bit stands for
 abbrev pub number_of_bit : Bool → ℤ
@@ -30,10 +30,11 @@ pub record Begins (block : Block) (image : Image) (input : Input) (inputs : ℕ 
   pub input_values : AreValues (input_types (cells_of block)) input
   pub carried : Carries inputs (begin (cells_of block) image input)
 
--- the nodes are in order, each literal names one of them, the state has as many literals after the scan as before it, and the
--- literals of the state and the input before it are the input nodes, each once
+-- the nodes are in order and the inputs stand first, each literal names a node, the state has as many literals after the scan as
+-- before it, and those of the state and the input before it name the input nodes, each once
 pub record IsCircuit (c : Circuit) : Type 0 where
   pub netlist : IsNetlist c.nodes
+  pub inputs_first : Extends (begin_nodes (input_count c.nodes)) c.nodes
   pub state_in : All (Names (length c.nodes)) c.state_in
   pub input : All (Names (length c.nodes)) c.input
   pub state_out : All (Names (length c.nodes)) c.state_out

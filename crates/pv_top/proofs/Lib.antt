@@ -1,8 +1,6 @@
-mod TraceLemmas
 mod CaseLemmas
-mod ProgramLemmas
-mod PlaceLemmas
-mod MachineLemmas
 mod WordsLemmas
-mod Silent
-mod ReadLemmas
+mod ProjectLemmas
+mod StopLemmas
+mod RecheckLemmas
+mod SayLemmas

@@ -1,14 +1,14 @@
 -- The words of a command.
-use Rattle.std.proofs.Common.{◌≡◌, List, [], ◌∷◌, length, map, get_or, ap, sym, ◌∙◌, arith, codes, String, string_bytes}
+use Rattle.std.proofs.Common.{◌≡◌, List, [], ◌∷◌, length, map, get_or, ap, sym, ◌∙◌, arith, ℕ, String, string_bytes}
 use Rattle.std.specs.declared.alloc.Global.{Global}
 
--- three words of which the first is `replay`
-pub three : (words : List (String Global)) (verb case trace : String Global) → length words ≡ 3 → verb ≡ get_or words 0 verb → case ≡ get_or words 1 case → trace ≡ get_or words 2 trace → string_bytes verb ≡ codes "replay" → map string_bytes words ≡ codes "replay" ∷ string_bytes case ∷ string_bytes trace ∷ []
-three [] verb case trace len v c t is = absurd (omega arith)
-three (x ∷ []) verb case trace len v c t is = absurd (omega arith)
-three (x ∷ y ∷ []) verb case trace len v c t is = absurd (omega arith)
-three (x ∷ y ∷ z ∷ []) verb case trace len v c t is =
+-- three words of which the first is this one
+pub three : (first : List ℕ) (words : List (String Global)) (verb case trace : String Global) → length words ≡ 3 → verb ≡ get_or words 0 verb → case ≡ get_or words 1 case → trace ≡ get_or words 2 trace → string_bytes verb ≡ first → map string_bytes words ≡ first ∷ string_bytes case ∷ string_bytes trace ∷ []
+three first [] verb case trace len v c t is = absurd (omega arith)
+three first (x ∷ []) verb case trace len v c t is = absurd (omega arith)
+three first (x ∷ y ∷ []) verb case trace len v c t is = absurd (omega arith)
+three first (x ∷ y ∷ z ∷ []) verb case trace len v c t is =
     ap (λ w. w ∷ string_bytes y ∷ string_bytes z ∷ []) (ap string_bytes (sym v) ∙ is)
-    ∙ ap (λ w. codes "replay" ∷ w ∷ string_bytes z ∷ []) (ap string_bytes (sym c))
-    ∙ ap (λ w. codes "replay" ∷ string_bytes case ∷ w ∷ []) (ap string_bytes (sym t))
-three (x ∷ y ∷ z ∷ w ∷ more) verb case trace len v c t is = absurd (omega arith)
+    ∙ ap (λ w. first ∷ w ∷ string_bytes z ∷ []) (ap string_bytes (sym c))
+    ∙ ap (λ w. first ∷ string_bytes case ∷ w ∷ []) (ap string_bytes (sym t))
+three first (x ∷ y ∷ z ∷ w ∷ more) verb case trace len v c t is = absurd (omega arith)

@@ -1,8 +1,7 @@
-pub mod Traces
 pub mod Cases
-pub mod Programs
-pub mod Ends
-pub mod Replayable
-pub mod Machines
 pub mod Answers
+pub mod Projects
+pub mod Inputs
 pub mod Replays
+pub mod Rechecks
+pub mod Calls

@@ -1,24 +1,22 @@
 //! The commands of plcv, over the files and the sink that they are handed.
 #![tactic(auto)]
 
-ghost use Rattle.std.specs.Prelude.{◌≡◌, ◌≤◌, ◌⊎◌, IfSome, IsSomeAnd, map, string_bytes};
+ghost use Rattle.std.specs.Prelude.{◌≡◌, ◌≤◌, ◌⊎◌, IfSome, map, string_bytes};
 ghost use Rattle.pv_edge.specs.Faults.{HasRisen};
-ghost use Rattle.pv_top.specs.Answers.{status_of, text_of};
-ghost use Rattle.pv_top.specs.Replays.{IsReplay, Means, Delivers, Replays};
+ghost use Rattle.pv_top.specs.Answers.{status_of};
+ghost use Rattle.pv_top.specs.Calls.{Says, Delivers, Promises};
 
 mod answer;
 mod case;
-pub mod laws;
-mod machine;
-mod program;
+mod inputs;
+mod recheck;
 mod replay;
-mod trace;
 mod words;
 
-use answer::{Answer, NO_MEMORY, Refusal, Stop, WRITE_FAULT};
-pub use answer::{End, Status};
-pub use machine::replay_block;
+pub use answer::Status;
+use answer::{Answer, NO_MEMORY, Refusal, WRITE_FAULT, answer_in};
 use pv_edge::{Files, Sink, SinkFault, Text};
+use recheck::recheck;
 use replay::replay;
 use std::alloc::Global;
 use words::{Command, read_words};
@@ -36,7 +34,7 @@ pub fn run<F: Files, S: Sink>(
 ) -> Status
     ensures files { F.told files.new ≡ F.told files.old }
     ensures kept { kept.new ≡ kept.old }
-    ensures replay { Replays (record {
+    ensures promises { Promises (record {
       words = map string_bytes words.now;
       told = F.told files.old;
       status = result;
@@ -58,19 +56,15 @@ pub fn run<F: Files, S: Sink>(
 /// What the command has to say, or None for want of memory.
 fn answer_of<F: Files>(alloc: Global, words: &[String], files: &mut F) -> Option<Answer>
     ensures files { F.told files.new ≡ F.told files.old }
-    ensures words { IfSome result (λ answer. status_of answer ≡ 5 → IsReplay (map string_bytes words.now) → ⊥) }
-    ensures only_words { (IsReplay (map string_bytes words.now) → ⊥) → IfSome result (λ answer. status_of answer ≡ 5) }
-    ensures means { IfSome result (Means (F.told files.old) (map string_bytes words.now)) }
+    ensures says { IfSome result (Says (F.told files.old) (map string_bytes words.now)) }
     ensures unread { IfSome result (λ answer. status_of answer ≡ 6 → HasRisen (F.read_faults files.old) (F.read_faults files.new)) }
 {
-    let Some(command) = read_words(words) else {
-        return Some(Answer::Refusal(Refusal::Words));
-    };
-    let Command::Replay { case, trace } = command;
-    match replay(alloc, files, case, trace) {
-        Ok(report) => Some(Answer::Report(report)),
-        Err(Stop::Refused(refusal)) => Some(Answer::Refusal(refusal)),
-        Err(Stop::NoMemory) => None,
+    match read_words(words) {
+        None => Some(Answer::Refusal(Refusal::Words)),
+        Some(Command::Replay { case, trace }) => answer_in(replay(alloc, files, case, trace)),
+        Some(Command::Recheck { case, certificate }) => {
+            answer_in(recheck(alloc, files, case, certificate))
+        }
     }
 }
 
@@ -90,7 +84,5 @@ fn print<S: Sink>(alloc: Global, out: &mut S, answer: &Answer) -> Status
     }
 }
 
-#[cfg(test)]
-mod step_formula;
 #[cfg(test)]
 mod tests;

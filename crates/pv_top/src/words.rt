@@ -1,24 +1,30 @@
 //! The forms of words that the program has.
 ghost use Rattle.std.specs.Prelude.{IfNone, IfSome, map, string_bytes};
-ghost use Rattle.pv_top.specs.Replays.{IsReplay, Spells};
+ghost use Rattle.pv_top.specs.Calls.{IsCommand, Spells};
 
 /// A command with its words.
 #[derive(Clone, Copy, Debug, PartialEq, Eq)]
 pub enum Command<'a> {
     /// `replay CASE TRACE`: replays the trace on the case's block.
     Replay { case: &'a str, trace: &'a str },
+    /// `recheck CASE CERT`: checks the certificate against the case.
+    Recheck { case: &'a str, certificate: &'a str },
 }
 
 /// The command that the words spell, if they have one of the forms. Nothing stands before or
 /// after it: there are no options.
 pub fn read_words(words: &[String]) -> Option<Command<'_>>
     ensures some { IfSome result (λ command. Spells (map string_bytes words.now) command) }
-    ensures none { IfNone result (IsReplay (map string_bytes words.now) → ⊥) }
+    ensures none { IfNone result (IsCommand (map string_bytes words.now) → ⊥) }
 {
     match words {
         [verb, case, trace] if verb.as_str() == "replay" => Some(Command::Replay {
             case: case.as_str(),
             trace: trace.as_str(),
+        }),
+        [verb, case, certificate] if verb.as_str() == "recheck" => Some(Command::Recheck {
+            case: case.as_str(),
+            certificate: certificate.as_str(),
         }),
         _ => None,
     }

@@ -1,17 +1,27 @@
 //! From tokens to trees.
-ghost use Rattle.std.specs.Prelude.{◌≤◌, IfOk, vec_len};
+ghost use Rattle.std.specs.Prelude.{◌≡◌, ◌≤◌, IfOk, IfErr, vec_len};
+ghost use Rattle.pv_tree.specs.declared.fault.ReadFault.TheVariants.{NotOfForm};
+ghost use Rattle.pv_tree.specs.declared.name.Name.{Name};
+ghost use Rattle.pv_tree.specs.Shape.{ExprShape, BlockShape, expr_shape, block_shape};
+ghost use Rattle.pv_tree.specs.Reading.{ReadsBlock, ReadsExpression, ReadsName};
+ghost use Rattle.pv_tree.specs.Readers.{Gives, is_ended, whole_block_in, expression_in, whole_name_in};
 
-mod cursor;
+mod block;
 mod declarations;
 mod expressions;
+mod front;
+mod head;
+mod names;
 mod statements;
 
 use crate::fault::ReadFault;
-use crate::lex::{Kind, MAX_SOURCE, tokens};
+use crate::lex::{Kind, MAX_SOURCE, Token, tokens};
 use crate::name::Name;
-use crate::tree::{Block, BlockKind, Body, Expr, Interface};
-use crate::words::Word;
-use cursor::Cursor;
+use crate::tree::{Block, Expr};
+use block::block;
+use expressions::disjunction;
+use head::has_header_line;
+use names::block_name;
 use std::alloc::Global;
 
 /// The most levels of statements, expressions and types on the way down a tree.
@@ -24,64 +34,92 @@ const MAX_VARS: usize = 20_000;
 ///
 /// `NotOfForm` where the text isn't of the form, whose rules on declared names `scope_of` tests.
 pub fn read_block(alloc: Global, file: u32, text: &[u8]) -> Result<Block, ReadFault>
-    ensures { IfOk result (λ block. vec_len block.interface.vars ≤ MAX_VARS) }
+    ensures few { IfOk result (λ block. vec_len block.interface.vars ≤ MAX_VARS) }
+    ensures found { IfOk result (λ block. ReadsBlock file text.now (block_shape block)) }
+    ensures refused { IfErr result (λ fault. fault ≡ NotOfForm → (block : BlockShape) → ReadsBlock file text.now block → ⊥) }
 {
     if text.len() > MAX_SOURCE {
         return Err(ReadFault::NotOfForm);
     }
     let tokens = tokens(alloc, file, text)?;
-    let mut cursor = Cursor::new(text, tokens.as_slice());
-    if cursor.has_header_line() {
+    let all = tokens.as_slice();
+    if has_header_line(text, all) {
         return Err(ReadFault::NotOfForm);
     }
-    let block = block(alloc, &mut cursor)?;
-    cursor.expect(Kind::End)?;
-    Ok(block)
+    whole_block(alloc, text, all)
 }
 
 /// Reads an expression, as that of a pattern. `file` is the number that its places have.
 ///
 /// `NotOfForm` where the text isn't one of at most 64 levels.
-pub fn read_expression(alloc: Global, file: u32, text: &[u8]) -> Result<Expr, ReadFault> {
+pub fn read_expression(alloc: Global, file: u32, text: &[u8]) -> Result<Expr, ReadFault>
+    ensures found { IfOk result (λ expr. ReadsExpression file text.now (expr_shape expr)) }
+    ensures refused { IfErr result (λ fault. fault ≡ NotOfForm → (expr : ExprShape) → ReadsExpression file text.now expr → ⊥) }
+{
     if text.len() > MAX_SOURCE {
         return Err(ReadFault::NotOfForm);
     }
     let tokens = tokens(alloc, file, text)?;
-    let mut cursor = Cursor::new(text, tokens.as_slice());
-    let value = expressions::expression(alloc, &mut cursor, MAX_NESTING)?;
-    cursor.expect(Kind::End)?;
-    Ok(value)
+    whole_expression(alloc, text, tokens.as_slice())
 }
 
 /// Reads the name of a block: a word, a quoted name or a numbered name, with nothing but white space around it.
 ///
 /// `NotOfForm` where the text isn't one.
-pub fn read_name(alloc: Global, text: &[u8]) -> Result<Name, ReadFault> {
+pub fn read_name(alloc: Global, text: &[u8]) -> Result<Name, ReadFault>
+    ensures found { IfOk result (λ name. ReadsName text.now name) }
+    ensures refused { IfErr result (λ fault. fault ≡ NotOfForm → (name : Name) → ReadsName text.now name → ⊥) }
+{
     if text.len() > MAX_SOURCE {
         return Err(ReadFault::NotOfForm);
     }
     let tokens = tokens(alloc, 0, text)?;
-    let mut cursor = Cursor::new(text, tokens.as_slice());
-    let name = cursor.block_name(alloc)?;
-    cursor.expect(Kind::End)?;
+    whole_name(alloc, text, tokens.as_slice())
+}
+
+/// Reads the block that all the tokens are.
+fn whole_block(alloc: Global, text: &[u8], tokens: &[Token]) -> Result<Block, ReadFault>
+    ensures few { IfOk result (λ block. vec_len block.interface.vars ≤ MAX_VARS) }
+    ensures reads { Gives (λ block. block_shape block) result (whole_block_in text.now tokens.now) }
+{
+    let (block, rest) = block(alloc, text, tokens)?;
+    if !is_ended(rest) {
+        return Err(ReadFault::NotOfForm);
+    }
+    Ok(block)
+}
+
+/// Reads the expression that all the tokens are.
+fn whole_expression(alloc: Global, text: &[u8], tokens: &[Token]) -> Result<Expr, ReadFault>
+    ensures { Gives (λ expr. expr_shape expr) result (expression_in text.now tokens.now) }
+{
+    let (value, rest) = disjunction(alloc, text, tokens, MAX_NESTING)?;
+    if !is_ended(rest) {
+        return Err(ReadFault::NotOfForm);
+    }
+    Ok(value.expr)
+}
+
+/// Reads the name that all the tokens are.
+fn whole_name(alloc: Global, text: &[u8], tokens: &[Token]) -> Result<Name, ReadFault>
+    ensures { Gives (λ name. name) result (whole_name_in text.now tokens.now) }
+{
+    let (name, rest) = block_name(alloc, text, tokens)?;
+    if !is_ended(rest) {
+        return Err(ReadFault::NotOfForm);
+    }
     Ok(name)
 }
 
-/// Reads a function block.
-fn block(alloc: Global, cursor: &mut Cursor) -> Result<Block, ReadFault>
-    ensures { IfOk result (λ block. vec_len block.interface.vars ≤ MAX_VARS) }
+/// Whether the end of the text is all that is left.
+fn is_ended(tokens: &[Token]) -> bool
+    ensures { result ≡ is_ended tokens.now }
 {
-    let place = cursor.expect(Kind::Word(Word::FunctionBlock))?;
-    let name = cursor.block_name(alloc)?;
-    let vars = declarations::sections(alloc, cursor)?;
-    let _begin = cursor.accept(Kind::Word(Word::Begin));
-    let body = statements::statements(alloc, cursor)?;
-    cursor.expect(Kind::Word(Word::EndFunctionBlock))?;
-    Ok(Block {
-        kind: BlockKind::Fb,
-        name,
-        interface: Interface { vars, value: None },
-        body: Body::Scl(body),
-        place,
-    })
+    match tokens {
+        [token] => match token.kind {
+            Kind::End => true,
+            _ => false,
+        },
+        _ => false,
+    }
 }

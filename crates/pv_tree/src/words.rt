@@ -1,6 +1,11 @@
 //! The words that have a meaning of their own in the language.
 //!
 //! Upper and lower case don't differ in a word.
+ghost use Rattle.std.specs.Prelude.{◌≡◌, map};
+ghost use Rattle.std.specs.List.{list_any, list_all};
+ghost use Rattle.std.specs.Char.{is_ascii_digit};
+ghost use Rattle.pv_tree.specs.Stretches.{entry_of};
+ghost use Rattle.pv_tree.specs.Words.{is_same, is_one_of, is_numbered, is_numbered_one, is_reserved, word_class, is_header_word, class_beside_keywords, meaning, keywords, numbering, absolute, grammar_words, functions, outside};
 
 /// What a word is.
 #[derive(Clone, Copy, PartialEq, Eq, Debug)]
@@ -223,50 +228,145 @@ static HEADERS: [&[u8]; 6] = [
     b"KNOW_HOW_PROTECT",
 ];
 
+/// Whether the text is this word, whatever the case of its letters.
+fn is_same(text: &[u8], word: &[u8]) -> bool
+    ensures { result ≡ is_same text.now word.now }
+{
+    text.eq_ignore_ascii_case(word)
+}
+
 /// Whether the text is one of the words.
-fn is_among(text: &[u8], words: &[&[u8]]) -> bool {
-    words.iter().any(|word| text.eq_ignore_ascii_case(word))
+fn is_among(text: &[u8], words: &[&[u8]]) -> bool
+    ensures { result ≡ list_any (λ word. is_same text.now word.now) words.now }
+{
+    words.iter().any(|word| is_same(text, word))
 }
 
 /// Whether the text is one of the words with one digit or more behind it, and nothing else.
-fn has_number(text: &[u8], words: &[&[u8]]) -> bool {
+fn has_number(text: &[u8], words: &[&[u8]]) -> bool
+    ensures { result ≡ list_any (λ word. is_numbered text.now word.now) words.now }
+{
     words.iter().any(|word| has_number_behind(text, word))
 }
 
 /// Whether the text is the word with one digit or more behind it, and nothing else.
-fn has_number_behind(text: &[u8], word: &[u8]) -> bool {
+#[tactic(auto, unfolding(crate::specs::Words::is_numbered))]
+fn has_number_behind(text: &[u8], word: &[u8]) -> bool
+    ensures { result ≡ is_numbered text.now word.now }
+{
     if text.len() <= word.len() {
         return false;
     }
     let (front, digits) = text.split_at(word.len());
-    front.eq_ignore_ascii_case(word) && digits.iter().all(|b| b.is_ascii_digit())
+    is_same(front, word) && are_digits(digits)
+}
+
+/// Whether the bytes are digits.
+fn are_digits(bytes: &[u8]) -> bool
+    ensures { result ≡ list_all is_ascii_digit bytes.now }
+{
+    bytes.iter().all(|b| b.is_ascii_digit())
+}
+
+/// The meaning of the first of the keywords that is the text.
+fn meaning_of(text: &[u8], keywords: &[Keyword]) -> Option<Word>
+    ensures { result ≡ meaning (map entry_of keywords.now) text.now }
+{
+    for keyword in keywords {
+        if is_same(text, keyword.spelling) {
+            return Some(keyword.word);
+        }
+    }
+    None
 }
 
 /// What the word of this text is.
-pub fn word_of(text: &[u8]) -> Word {
-    for keyword in &KEYWORDS {
-        if text.eq_ignore_ascii_case(keyword.spelling) {
-            return keyword.word;
-        }
+#[tactic(auto, unfolding(crate::specs::Words::word_class))]
+pub fn word_of(text: &[u8]) -> Word
+    ensures { result ≡ word_class text.now }
+{
+    match keyword_of(text) {
+        Some(word) => word,
+        None => other_word(text),
     }
-    if is_among(text, &NUMBERING) {
-        return Word::Numbering;
-    }
-    if has_number(text, &NUMBERING) {
-        return Word::Numbered;
-    }
-    let is_reserved = is_among(text, &OTHER_WORDS)
-        || is_among(text, &FUNCTIONS)
-        || is_among(text, &OUTSIDE)
-        || has_number(text, &ABSOLUTE);
-    if is_reserved {
+}
+
+/// The keyword that the text is.
+fn keyword_of(text: &[u8]) -> Option<Word>
+    ensures { result ≡ meaning keywords text.now }
+{
+    meaning_of(text, &KEYWORDS)
+}
+
+/// What the word of this text is, which is no keyword.
+#[tactic(auto, unfolding(crate::specs::Words::class_beside_keywords))]
+fn other_word(text: &[u8]) -> Word
+    ensures { result ≡ class_beside_keywords text.now }
+{
+    if is_numbering(text) {
+        Word::Numbering
+    } else if is_numbered_name(text) {
+        Word::Numbered
+    } else if is_reserved(text) {
         Word::Reserved
     } else {
         Word::Plain
     }
 }
 
+/// Whether the word is no keyword and yet names no variable.
+#[tactic(auto, unfolding(crate::specs::Words::is_reserved))]
+fn is_reserved(text: &[u8]) -> bool
+    ensures { result ≡ is_reserved text.now }
+{
+    is_grammar_word(text) || is_function(text) || is_outside(text) || is_absolute(text)
+}
+
+/// Whether the word is one of a numbered name.
+fn is_numbering(text: &[u8]) -> bool
+    ensures { result ≡ is_one_of numbering text.now }
+{
+    is_among(text, &NUMBERING)
+}
+
+/// Whether the word is a numbered name in one piece.
+fn is_numbered_name(text: &[u8]) -> bool
+    ensures { result ≡ is_numbered_one numbering text.now }
+{
+    has_number(text, &NUMBERING)
+}
+
+/// Whether the word is an absolute address outside the profile.
+fn is_absolute(text: &[u8]) -> bool
+    ensures { result ≡ is_numbered_one absolute text.now }
+{
+    has_number(text, &ABSOLUTE)
+}
+
+/// Whether the word is one of the grammars' that is no keyword of the form.
+fn is_grammar_word(text: &[u8]) -> bool
+    ensures { result ≡ is_one_of grammar_words text.now }
+{
+    is_among(text, &OTHER_WORDS)
+}
+
+/// Whether the word is a standard function.
+fn is_function(text: &[u8]) -> bool
+    ensures { result ≡ is_one_of functions text.now }
+{
+    is_among(text, &FUNCTIONS)
+}
+
+/// Whether the word is outside the profile.
+fn is_outside(text: &[u8]) -> bool
+    ensures { result ≡ is_one_of outside text.now }
+{
+    is_among(text, &OUTSIDE)
+}
+
 /// Whether the word begins a header line where it stands first on a line of a block's head.
-pub fn is_header(text: &[u8]) -> bool {
+pub fn is_header(text: &[u8]) -> bool
+    ensures { result ≡ is_header_word text.now }
+{
     is_among(text, &HEADERS)
 }

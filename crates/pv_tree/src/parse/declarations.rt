@@ -1,96 +1,107 @@
 //! The sections of declared variables.
-ghost use Rattle.std.specs.Prelude.{◌<◌, ◌≤◌, length, OnOk, IfOk, vec_len};
+ghost use Rattle.std.specs.Prelude.{◌≡◌, ◌≤◌, IfOk, vec_len, map};
+ghost use Rattle.pv_tree.specs.Shape.{var_shape};
+ghost use Rattle.pv_tree.specs.Declarations.{declared_by};
+ghost use Rattle.pv_tree.specs.Readers.{Gives, found_vars, step_of, variables_in};
 
 use super::MAX_VARS;
-use super::cursor::Cursor;
+use super::front::{next, word_name};
 use crate::fault::ReadFault;
-use crate::lex::Kind;
+use crate::lex::{Kind, Token};
 use crate::tree::{DeclType, Section, Var};
 use crate::words::Word;
 use pv_word::Ty;
-use std::alloc::Global;
+use std::alloc::{AllocError, Global};
 
-/// Reads the sections of a block, as many as there are.
-pub fn sections(alloc: Global, cursor: &mut Cursor<'_>) -> Result<Vec<Var>, ReadFault>
-    ensures { IfOk result (λ v. vec_len v ≤ MAX_VARS) }
+/// Where the reading of sections stands.
+#[derive(Clone, Copy)]
+pub enum Stage {
+    /// No section is open.
+    Outside,
+    /// A section is open, and a declaration or END_VAR is next.
+    Inside(Section),
+    /// A comma came, and a name has to be next.
+    Naming(Section),
+    /// A name came, and a comma or the colon is next.
+    Named(Section),
+    /// The colon came, and the type is next.
+    Typing(Section),
+    /// The type came, and `;` is next.
+    Typed(Section),
+}
+
+/// What a token is where the reading of sections stands.
+#[derive(Clone, Copy)]
+pub enum Step {
+    /// The first token behind the sections.
+    Behind,
+    /// A token that can't stand there.
+    Wrong,
+    /// A token that leads to this stage.
+    To(Stage),
+    /// The name of a variable.
+    Declare(Section),
+}
+
+/// Reads the sections of a block, as many as there are, and gives the tokens behind them.
+pub fn sections<'a>(
+    alloc: Global,
+    text: &[u8],
+    tokens: &'a [Token],
+) -> Result<(Vec<Var>, &'a [Token]), ReadFault>
+    ensures few { IfOk result (λ x. vec_len x.0 ≤ MAX_VARS) }
+    ensures reads { Gives (λ x. found_vars (map var_shape x.0.items) x.1.now) result (variables_in text.now MAX_VARS Stage.Outside tokens.now) }
 {
     let mut vars = Vec::new(alloc);
-    while let Some(section) = section_of(cursor.kind()) {
-        cursor.take()?;
-        declarations(alloc, cursor, section, &mut vars)?;
+    let mut stage = Stage::Outside;
+    let mut rest = tokens;
+    while let Some((token, behind)) = next(rest) {
+        match step_of(stage, token.kind) {
+            Step::Behind => return Ok((vars, rest)),
+            Step::Wrong => return Err(ReadFault::NotOfForm),
+            Step::To(next) => stage = next,
+            Step::Declare(section) => {
+                if vars.len() == MAX_VARS {
+                    return Err(ReadFault::NotOfForm);
+                }
+                vars.push(declared(alloc, text, section, token)?)?;
+                stage = Stage::Named(section);
+            }
+        }
+        rest = behind;
     }
-    Ok(vars)
+    Err(ReadFault::NotOfForm)
 }
 
-/// The section that a word opens.
-fn section_of(kind: Kind) -> Option<Section> {
-    match kind {
-        Kind::Word(Word::VarInput) => Some(Section::Input),
-        Kind::Word(Word::VarOutput) => Some(Section::Output),
-        Kind::Word(Word::Var) => Some(Section::Static),
-        _ => None,
-    }
-}
-
-/// Reads the declarations of a section up to its END_VAR, and adds their variables.
-fn declarations(
-    alloc: Global,
-    cursor: &mut Cursor<'_>,
-    section: Section,
-    vars: &mut Vec<Var>,
-) -> Result<(), ReadFault>
-    requires { vec_len vars.old ≤ MAX_VARS }
-    ensures progress { OnOk result (length cursor.new.rest.now < length cursor.old.rest.now) }
-    ensures few { vec_len vars.new ≤ MAX_VARS }
+/// What a token of this kind is at this stage.
+fn step_of(stage: Stage, kind: Kind) -> Step
+    ensures { result ≡ step_of stage kind }
 {
-    while cursor.accept(Kind::Word(Word::EndVar)).is_none() {
-        declaration(alloc, cursor, section, vars)?;
+    match (stage, kind) {
+        (Stage::Outside, Kind::Word(Word::VarInput)) => Step::To(Stage::Inside(Section::Input)),
+        (Stage::Outside, Kind::Word(Word::VarOutput)) => Step::To(Stage::Inside(Section::Output)),
+        (Stage::Outside, Kind::Word(Word::Var)) => Step::To(Stage::Inside(Section::Static)),
+        (Stage::Outside, _) => Step::Behind,
+        (Stage::Inside(_), Kind::Word(Word::EndVar)) => Step::To(Stage::Outside),
+        (Stage::Inside(s), Kind::Word(Word::Plain)) => Step::Declare(s),
+        (Stage::Naming(s), Kind::Word(Word::Plain)) => Step::Declare(s),
+        (Stage::Named(s), Kind::Comma) => Step::To(Stage::Naming(s)),
+        (Stage::Named(s), Kind::Colon) => Step::To(Stage::Typing(s)),
+        (Stage::Typing(s), Kind::Word(Word::Bool)) => Step::To(Stage::Typed(s)),
+        (Stage::Typed(s), Kind::Semicolon) => Step::To(Stage::Inside(s)),
+        _ => Step::Wrong,
     }
-    Ok(())
 }
 
-/// Reads a declaration of one or more variables, and adds them.
-fn declaration(
-    alloc: Global,
-    cursor: &mut Cursor<'_>,
-    section: Section,
-    vars: &mut Vec<Var>,
-) -> Result<(), ReadFault>
-    requires { vec_len vars.old ≤ MAX_VARS }
-    ensures progress { OnOk result (length cursor.new.rest.now < length cursor.old.rest.now) }
-    ensures few { vec_len vars.new ≤ MAX_VARS }
+/// The variable that a word declares.
+fn declared(alloc: Global, text: &[u8], section: Section, token: Token) -> Result<Var, AllocError>
+    ensures { IfOk result (λ var. var_shape var ≡ declared_by text.now section token) }
 {
-    variable(alloc, cursor, section, vars)?;
-    while cursor.accept(Kind::Comma).is_some() {
-        variable(alloc, cursor, section, vars)?;
-    }
-    cursor.expect(Kind::Colon)?;
-    cursor.expect(Kind::Word(Word::Bool))?;
-    cursor.expect(Kind::Semicolon)?;
-    Ok(())
-}
-
-/// Reads the name of a variable, and adds the variable.
-fn variable(
-    alloc: Global,
-    cursor: &mut Cursor<'_>,
-    section: Section,
-    vars: &mut Vec<Var>,
-) -> Result<(), ReadFault>
-    requires { vec_len vars.old ≤ MAX_VARS }
-    ensures progress { OnOk result (length cursor.new.rest.now < length cursor.old.rest.now) }
-    ensures few { vec_len vars.new ≤ MAX_VARS }
-{
-    let (name, place) = cursor.word(alloc)?;
-    if vars.len() == MAX_VARS {
-        return Err(ReadFault::NotOfForm);
-    }
-    vars.push(Var {
-        name,
+    Ok(Var {
+        name: word_name(alloc, text, token)?,
         section,
         ty: DeclType::Plain(Ty::Bool),
         start: None,
-        place,
-    })?;
-    Ok(())
+        place: token.place,
+    })
 }

@@ -1,90 +1,191 @@
 //! Expressions.
 //!
 //! NOT binds tightest, then AND and `&`, then OR. Operators of one strength go from left to right.
-ghost use Rattle.std.specs.Prelude.{◌≡◌, ◌+◌, ◌<◌, ◌≤◌, ◌^◌, length, OnOk, IfOk, OnSome, IfNone};
+ghost use Rattle.std.specs.Prelude.{◌≡◌, ◌+◌, ◌-◌, ◌^◌, ◌<◌, ◌≤◌, List, Some, IfOk, IfSome, IfNone};
+ghost use Rattle.pv_word.specs.declared.types.Ty.TheVariants.{Bool as BoolType};
+ghost use Rattle.pv_tree.specs.declared.lex.Token.{Token};
+ghost use Rattle.pv_tree.specs.Shape.{operand_shape, expr_shape, lit, read};
+ghost use Rattle.pv_tree.specs.Expressions.{word_operand};
+ghost use Rattle.pv_tree.specs.Readers.{Gives, found_expr, readers, operand_in, chain, joined, enclosed, negated, Stops, IsSignBefore, is_sign, start_of};
 
-use super::cursor::Cursor;
+use super::front::{next, word_name};
 use crate::fault::ReadFault;
-use crate::lex::Kind;
+use crate::lex::{Kind, Token};
 use crate::place::Place;
 use crate::tree::{BinaryOp, Expr, Operand, Root, UnaryOp};
 use crate::words::Word;
 use pv_word::Ty;
-use std::alloc::Global;
+use std::alloc::{AllocError, Global};
 
 /// An expression, and how many levels it has.
 #[derive(Drop)]
-struct Leveled {
-    expr: Expr,
-    levels: u32,
+pub struct Leveled {
+    pub expr: Expr,
+    pub levels: u32,
 }
 
-/// Reads an expression of at most `room` levels.
-pub fn expression(alloc: Global, cursor: &mut Cursor<'_>, room: u32) -> Result<Expr, ReadFault>
-    ensures { OnOk result (length cursor.new.rest.now < length cursor.old.rest.now) }
-{
-    let Leveled { expr, levels: _ } = disjunction(alloc, cursor, room)?;
-    Ok(expr)
+/// How an expression begins that is no operator between two operands.
+#[derive(Clone, Copy)]
+pub enum Start {
+    /// NOT.
+    Not,
+    /// `(`
+    Open,
+    /// TRUE.
+    True,
+    /// FALSE.
+    False,
+    /// A plain word.
+    Word,
+    /// By no such token.
+    Other,
 }
 
-/// Reads operands joined by OR, of at most `room` levels.
+/// Reads operands joined by OR, of at most `room` levels, and gives the tokens behind them.
 #[cycle(expressions)]
-fn disjunction(alloc: Global, cursor: &mut Cursor<'_>, room: u32) -> Result<Leveled, ReadFault>
-    ensures within { IfOk result (λ e. e.levels ≤ room) }
-    ensures progress { OnOk result (length cursor.new.rest.now < length cursor.old.rest.now) }
+pub fn disjunction<'a>(
+    alloc: Global,
+    text: &[u8],
+    tokens: &'a [Token],
+    room: u32,
+) -> Result<(Leveled, &'a [Token]), ReadFault>
+    ensures within { IfOk result (λ x. (0 < x.0.levels) × (x.0.levels ≤ room)) }
+    ensures reads { Gives (λ x. found_expr (expr_shape x.0.expr) x.0.levels x.1.now) result ((readers text.now room).disjunction tokens.now) }
 {
-    let mut left = conjunction(alloc, cursor, room)?;
-    while let Some(place) = cursor.accept(Kind::Word(Word::Or)) {
-        let right = conjunction(alloc, cursor, room.saturating_sub(1))?;
-        left = joined(alloc, BinaryOp::Or, place, left, right, room)?;
-    }
-    Ok(left)
+    let (first, behind) = conjunction(alloc, text, tokens, room)?;
+    joined_by(alloc, text, BinaryOp::Or, first, behind, room)
 }
 
 /// Reads operands joined by AND or `&`, of at most `room` levels.
 #[cycle(expressions)]
-fn conjunction(alloc: Global, cursor: &mut Cursor<'_>, room: u32) -> Result<Leveled, ReadFault>
-    ensures within { IfOk result (λ e. e.levels ≤ room) }
-    ensures progress { OnOk result (length cursor.new.rest.now < length cursor.old.rest.now) }
+fn conjunction<'a>(
+    alloc: Global,
+    text: &[u8],
+    tokens: &'a [Token],
+    room: u32,
+) -> Result<(Leveled, &'a [Token]), ReadFault>
+    ensures within { IfOk result (λ x. (0 < x.0.levels) × (x.0.levels ≤ room)) }
+    ensures reads { Gives (λ x. found_expr (expr_shape x.0.expr) x.0.levels x.1.now) result ((readers text.now room).conjunction tokens.now) }
 {
-    let mut left = factor(alloc, cursor, room)?;
-    while let Some(place) = and_sign(cursor) {
-        let right = factor(alloc, cursor, room.saturating_sub(1))?;
-        left = joined(alloc, BinaryOp::And, place, left, right, room)?;
+    let (first, behind) = factor(alloc, text, tokens, room)?;
+    joined_by(alloc, text, BinaryOp::And, first, behind, room)
+}
+
+/// Reads the operands that the operator joins to the first one.
+#[cycle(expressions)]
+fn joined_by<'a>(
+    alloc: Global,
+    text: &[u8],
+    op: BinaryOp,
+    first: Leveled,
+    tokens: &'a [Token],
+    room: u32,
+) -> Result<(Leveled, &'a [Token]), ReadFault>
+    requires some { 0 < first.levels }
+    requires few { first.levels ≤ room }
+    ensures within { IfOk result (λ x. (0 < x.0.levels) × (x.0.levels ≤ room)) }
+    ensures reads { Gives (λ x. found_expr (expr_shape x.0.expr) x.0.levels x.1.now) result (chain op (operand_in op (readers text.now (room - 1))) room room (expr_shape first.expr) first.levels tokens.now) }
+{
+    let mut left = first;
+    let mut rest = tokens;
+    while let Some((place, behind)) = sign(op, rest) {
+        let (right, after) = right_operand(alloc, text, op, behind, room - 1)?;
+        left = joined(alloc, op, place, left, right, room)?;
+        rest = after;
     }
-    Ok(left)
+    Ok((left, rest))
+}
+
+/// Reads the right operand of an operator, of at most `room` levels.
+#[cycle(expressions)]
+fn right_operand<'a>(
+    alloc: Global,
+    text: &[u8],
+    op: BinaryOp,
+    tokens: &'a [Token],
+    room: u32,
+) -> Result<(Leveled, &'a [Token]), ReadFault>
+    ensures within { IfOk result (λ x. (0 < x.0.levels) × (x.0.levels ≤ room)) }
+    ensures reads { Gives (λ x. found_expr (expr_shape x.0.expr) x.0.levels x.1.now) result (operand_in op (readers text.now room) tokens.now) }
+{
+    match op {
+        BinaryOp::And => factor(alloc, text, tokens, room),
+        BinaryOp::Or => conjunction(alloc, text, tokens, room),
+    }
 }
 
 /// Reads NOT and its operand, an expression in parentheses, TRUE, FALSE or an operand, of at most `room` levels.
 #[cycle(expressions)]
-fn factor(alloc: Global, cursor: &mut Cursor<'_>, room: u32) -> Result<Leveled, ReadFault>
-    ensures within { IfOk result (λ e. e.levels ≤ room) }
-    ensures progress { OnOk result (length cursor.new.rest.now < length cursor.old.rest.now) }
+fn factor<'a>(
+    alloc: Global,
+    text: &[u8],
+    tokens: &'a [Token],
+    room: u32,
+) -> Result<(Leveled, &'a [Token]), ReadFault>
+    ensures within { IfOk result (λ x. (0 < x.0.levels) × (x.0.levels ≤ room)) }
+    ensures reads { Gives (λ x. found_expr (expr_shape x.0.expr) x.0.levels x.1.now) result ((readers text.now room).factor tokens.now) }
 {
-    let Some(inner) = room.checked_sub(1) else {
+    if room == 0 {
+        return Err(ReadFault::NotOfForm);
+    }
+    let Some((token, rest)) = next(tokens) else {
         return Err(ReadFault::NotOfForm);
     };
-    if let Some(place) = cursor.accept(Kind::Word(Word::Not)) {
-        let arg = factor(alloc, cursor, inner)?;
-        return negated(alloc, place, arg);
+    match start_of(token.kind) {
+        Start::Not => {
+            let (arg, behind) = factor(alloc, text, rest, room - 1)?;
+            Ok((negated(alloc, token.place, arg)?, behind))
+        }
+        Start::Open => {
+            let (arg, behind) = disjunction(alloc, text, rest, room - 1)?;
+            enclosed(alloc, token.place, arg, behind)
+        }
+        Start::True => Ok((truth(1, token.place), rest)),
+        Start::False => Ok((truth(0, token.place), rest)),
+        Start::Word => Ok((variable(alloc, text, token)?, rest)),
+        Start::Other => Err(ReadFault::NotOfForm),
     }
-    if let Some(place) = cursor.accept(Kind::Open) {
-        let arg = disjunction(alloc, cursor, inner)?;
-        cursor.expect(Kind::Close)?;
-        return enclosed(alloc, place, arg);
-    }
-    atom(alloc, cursor)
 }
 
-/// Takes an AND or `&`, where one is next, and gives its place.
-fn and_sign(cursor: &mut Cursor<'_>) -> Option<Place>
-    ensures some { OnSome result (length cursor.new.rest.now < length cursor.old.rest.now) }
-    ensures none { IfNone result (cursor.new ≡ cursor.old) }
+/// What begins with a token of this kind.
+fn start_of(kind: Kind) -> Start
+    ensures { result ≡ start_of kind }
 {
-    if cursor.kind() == Kind::Ampersand {
-        return cursor.accept(Kind::Ampersand);
+    match kind {
+        Kind::Word(Word::Not) => Start::Not,
+        Kind::Open => Start::Open,
+        Kind::Word(Word::True) => Start::True,
+        Kind::Word(Word::False) => Start::False,
+        Kind::Word(Word::Plain) => Start::Word,
+        _ => Start::Other,
     }
-    cursor.accept(Kind::Word(Word::And))
+}
+
+/// Whether the token is a sign of the operator. `&` is AND.
+fn is_sign(op: BinaryOp, kind: Kind) -> bool
+    ensures { result ≡ is_sign op kind }
+{
+    match op {
+        BinaryOp::And => match kind {
+            Kind::Word(Word::And) | Kind::Ampersand => true,
+            _ => false,
+        },
+        BinaryOp::Or => match kind {
+            Kind::Word(Word::Or) => true,
+            _ => false,
+        },
+    }
+}
+
+/// The place of the operator's sign, where one is next, and the tokens behind it.
+pub fn sign(op: BinaryOp, tokens: &[Token]) -> Option<(Place, &[Token])>
+    ensures some { IfSome result (λ x. IsSignBefore op tokens.now x.0 x.1.now) }
+    ensures none { IfNone result (Stops op tokens.now) }
+{
+    match tokens {
+        [token, behind @ ..] if is_sign(op, token.kind) => Some((token.place, behind)),
+        _ => None,
+    }
 }
 
 /// The two expressions under an operator, which have to leave it one of the `room` levels.
@@ -96,7 +197,8 @@ fn joined(
     right: Leveled,
     room: u32,
 ) -> Result<Leveled, ReadFault>
-    ensures { IfOk result (λ e. e.levels ≤ room) }
+    ensures within { IfOk result (λ x. (left.levels < x.levels) × (x.levels ≤ room)) }
+    ensures joins { (rest : List Token) → Gives (λ x. found_expr (expr_shape x.expr) x.levels rest) result (joined room op place (expr_shape left.expr) left.levels (found_expr (expr_shape right.expr) right.levels rest)) }
 {
     let below = left.levels.max(right.levels);
     if below >= room {
@@ -115,9 +217,10 @@ fn joined(
 }
 
 /// The expression under NOT.
-fn negated(alloc: Global, place: Place, arg: Leveled) -> Result<Leveled, ReadFault>
+fn negated(alloc: Global, place: Place, arg: Leveled) -> Result<Leveled, AllocError>
     requires { arg.levels + 1 < 2 ^ 32 }
-    ensures { IfOk result (λ e. e.levels ≡ arg.levels + 1) }
+    ensures levels { IfOk result (λ x. x.levels ≡ arg.levels + 1) }
+    ensures shape { (rest : List Token) → IfOk result (λ x. found_expr (expr_shape x.expr) x.levels rest ≡ negated place (found_expr (expr_shape arg.expr) arg.levels rest)) }
 {
     let levels = arg.levels + 1;
     let arg = Box::new(alloc, arg.expr)?;
@@ -131,55 +234,68 @@ fn negated(alloc: Global, place: Place, arg: Leveled) -> Result<Leveled, ReadFau
     })
 }
 
-/// The expression in parentheses.
-fn enclosed(alloc: Global, place: Place, arg: Leveled) -> Result<Leveled, ReadFault>
+/// The expression in parentheses, whose closing one has to be next.
+fn enclosed<'a>(
+    alloc: Global,
+    place: Place,
+    arg: Leveled,
+    tokens: &'a [Token],
+) -> Result<(Leveled, &'a [Token]), ReadFault>
     requires { arg.levels + 1 < 2 ^ 32 }
-    ensures { IfOk result (λ e. e.levels ≡ arg.levels + 1) }
+    ensures within { IfOk result (λ x. x.0.levels ≡ arg.levels + 1) }
+    ensures reads { Gives (λ x. found_expr (expr_shape x.0.expr) x.0.levels x.1.now) result (enclosed place (expr_shape arg.expr) arg.levels tokens.now) }
 {
-    let levels = arg.levels + 1;
-    let inner = Box::new(alloc, arg.expr)?;
-    Ok(Leveled {
-        expr: Expr::Paren(place, inner),
-        levels,
-    })
-}
-
-/// Reads TRUE, FALSE or an operand.
-fn atom(alloc: Global, cursor: &mut Cursor<'_>) -> Result<Leveled, ReadFault>
-    ensures progress { OnOk result (length cursor.new.rest.now < length cursor.old.rest.now) }
-    ensures one { IfOk result (λ e. e.levels ≡ 1) }
-{
-    let expr = if let Some(place) = cursor.accept(Kind::Word(Word::True)) {
-        truth(1, place)
-    } else if let Some(place) = cursor.accept(Kind::Word(Word::False)) {
-        truth(0, place)
-    } else {
-        Expr::Read(operand(alloc, cursor)?)
+    let Some((token, behind)) = next(tokens) else {
+        return Err(ReadFault::NotOfForm);
     };
-    Ok(Leveled { expr, levels: 1 })
-}
-
-/// TRUE or FALSE.
-fn truth(value: i128, place: Place) -> Expr {
-    Expr::Lit {
-        ty: Some(Ty::Bool),
-        value,
-        place,
+    match token.kind {
+        Kind::Close => {
+            let levels = arg.levels + 1;
+            let inner = Box::new(alloc, arg.expr)?;
+            let expr = Expr::Paren(place, inner);
+            Ok((Leveled { expr, levels }, behind))
+        }
+        _ => Err(ReadFault::NotOfForm),
     }
 }
 
-/// Reads an operand: a plain word.
-pub fn operand(alloc: Global, cursor: &mut Cursor<'_>) -> Result<Operand, ReadFault>
-    ensures { OnOk result (length cursor.new.rest.now < length cursor.old.rest.now) }
+/// TRUE or FALSE.
+fn truth(value: i128, place: Place) -> Leveled
+    ensures levels { result.levels ≡ 1 }
+    ensures shape { expr_shape result.expr ≡ lit (Some BoolType) value place }
 {
-    let (name, place) = cursor.word(alloc)?;
-    Ok(Operand {
-        root: Root::Local {
-            name,
-            hash: false,
+    Leveled {
+        expr: Expr::Lit {
+            ty: Some(Ty::Bool),
+            value,
             place,
         },
+        levels: 1,
+    }
+}
+
+/// The variable that a word names, as an expression.
+fn variable(alloc: Global, text: &[u8], token: Token) -> Result<Leveled, AllocError>
+    ensures levels { IfOk result (λ x. x.levels ≡ 1) }
+    ensures shape { IfOk result (λ x. expr_shape x.expr ≡ read (word_operand text.now token)) }
+{
+    Ok(Leveled {
+        expr: Expr::Read(operand(alloc, text, token)?),
+        levels: 1,
+    })
+}
+
+/// The variable that a word names.
+pub fn operand(alloc: Global, text: &[u8], token: Token) -> Result<Operand, AllocError>
+    ensures { IfOk result (λ x. operand_shape x ≡ word_operand text.now token) }
+{
+    Ok(Operand {
+        root: Root::Local {
+            name: word_name(alloc, text, token)?,
+            hash: false,
+            place: token.place,
+        },
         steps: Vec::new(alloc),
-        place,
+        place: token.place,
     })
 }

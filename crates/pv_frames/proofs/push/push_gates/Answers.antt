@@ -12,12 +12,11 @@ use Rattle.pv_frames.proofs.push.push_gates.Goals as goal
 
 pub push_all-requires-clause-valid : goal.push_all-requires-clause-valid
 push_all-requires-clause-valid g c =
-    let v = g.C.Clauses.variables c.args.into.now in
     let e : c.loop-k.k + 1 - 1 ≡ c.loop-k.k = omega arith in
     let few = length-take-le (c.loop-k.k + 1 - 1) c.args.gates.now.nodes (omega arith) in
     subst (λ (n : ℕ). AreClauses n (flat_map clauses_of c.clauses.result)) (sym c.loop-k.invariant.variables)
-    (subst (AreClauses v) (sym c.clauses.ensures)
-    (node-valid v (c.loop-k.k + 1) (take (c.loop-k.k + 1 - 1) c.args.gates.now.nodes) c.node.result (omega arith) (omega arith) (omega arith) c.node.ensures.operands))
+    (subst (AreClauses (g.C.Clauses.variables c.args.into.now)) {x = flat_map written (node_clauses own_variables (c.loop-k.k + 1) c.node.result)} (sym c.clauses.ensures)
+    (node-valid (g.C.Clauses.variables c.args.into.now) (c.loop-k.k + 1) (take (c.loop-k.k + 1 - 1) c.args.gates.now.nodes) c.node.result (omega arith) (omega arith) (omega arith) c.node.ensures.operands))
 
 pub push_all-requires-clause-room : goal.push_all-requires-clause-room
 push_all-requires-clause-room g c =
@@ -36,7 +35,7 @@ returns-in_err-push_all-clause-pushes g c =
     let back : c.loop-k.k + 1 - 1 ≡ c.loop-k.k = omega arith in
     let at : slice_get c.args.gates.now.nodes c.loop-k.k ≡ Some c.node.result = ap (λ (k : ℕ). slice_get c.args.gates.now.nodes k) (sym back) ∙ c.node.ensures.node in
     let e : c.loop-k.k + 1 ≡ 1 + c.loop-k.k = omega arith in
-    let is : flat_map clauses_of c.clauses.result ≡ flat_map written (node_clauses own_variables (1 + c.loop-k.k) c.node.result) = c.clauses.ensures ∙ ap (λ (n : ℕ). flat_map written (node_clauses own_variables n c.node.result)) e in
+    let is : flat_map clauses_of c.clauses.result ≡ flat_map written (node_clauses own_variables (1 + c.loop-k.k) c.node.result) = subst (λ (n : ℕ). flat_map clauses_of c.clauses.result ≡ flat_map written (node_clauses own_variables n c.node.result)) e c.clauses.ensures in
     rw (p.1, p.2)
     (subst (λ (t : List (List ℕ)). StopsAt (g.C.Clauses.overflow c.args.into.now) (g.C.Clauses.clauses c.args.into.now) t (g.C.Clauses.clauses c.push_all.new.into) c.in_err-push_all.field-0.0)
     (sym (written-around own_variables 1 c.args.gates.now.nodes c.loop-k.k c.node.result at))
@@ -51,7 +50,7 @@ loop-k-preserved g c =
     let at : slice_get c.args.gates.now.nodes c.loop-k.k ≡ Some c.node.result = ap (λ (k : ℕ). slice_get c.args.gates.now.nodes k) (sym back) ∙ c.node.ensures.node in
     let e : c.loop-k.k + 1 ≡ 1 + c.loop-k.k = omega arith in
     let next : suc c.loop-k.k ≡ c.loop-k.k + 1 = omega arith in
-    let is : flat_map clauses_of c.clauses.result ≡ flat_map written (node_clauses own_variables (1 + c.loop-k.k) c.node.result) = c.clauses.ensures ∙ ap (λ (n : ℕ). flat_map written (node_clauses own_variables n c.node.result)) e in
+    let is : flat_map clauses_of c.clauses.result ≡ flat_map written (node_clauses own_variables (1 + c.loop-k.k) c.node.result) = subst (λ (n : ℕ). flat_map clauses_of c.clauses.result ≡ flat_map written (node_clauses own_variables n c.node.result)) e c.clauses.ensures in
     record {
       pushed = subst (λ (n : ℕ). ArePushed (g.C.Clauses.overflow c.args.into.now) (g.C.Clauses.clauses c.args.into.now) (flat_map written (frame_clauses own_variables 1 (take n c.args.gates.now.nodes))) (g.C.Clauses.clauses c.push_all.new.into)) next
           (subst (λ (t : List (List ℕ)). ArePushed (g.C.Clauses.overflow c.args.into.now) (g.C.Clauses.clauses c.args.into.now) t (g.C.Clauses.clauses c.push_all.new.into))

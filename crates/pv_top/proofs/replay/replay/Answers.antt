@@ -1,13 +1,24 @@
-use Rattle.std.proofs.Common.{◌≡◌, Result, Ok, IfOk, refl, subst, ◌∙◌}
-use Rattle.pv_tree.specs.declared.fault.ReadFault.{ReadFault}
-use Rattle.pv_top.specs.declared.case.Case.{Case}
-use Rattle.pv_top.specs.Cases.{data_of, IsCaseText}
-use Rattle.pv_top.proofs.ReadLemmas.{told_replay}
+use Rattle.std.proofs.Common.{refl, ◌∙◌}
+use Rattle.pv_top.specs.Cases.{data_of}
+use Rattle.pv_top.specs.Replays.{SaysReplay}
+use Rattle.pv_top.proofs.StopLemmas.{passed_on, reads_both, trace_stop_says, report_says}
 use Rattle.pv_top.proofs.replay.replay.Goals as goal
 
-pub returns-clause-replayed : goal.returns-clause-replayed
-returns-clause-replayed g c =
-    let P : Result Case ReadFault → Type 0 = λ r. IfOk r (λ case. IsCaseText c.deref.result.now (data_of case)) in
-    told_replay (g.F.Files.told c.args.files.now) _ c.args.case_file.now c.in_ok-bytes.bytes.items c.deref.result.now c.args.trace_file.now c.in_ok-bytes-3.bytes.items c.deref-3.result.now _ (data_of c.in_ok-case.case) c.in_ok-block.block c.in_ok-block.invariant c.replay_block-replayed.result c.in_ok-end.end
-    c.in_ok-bytes.ensures.held c.deref.ensures.value (subst P c.in_ok-case.ensures.found c.read_case.ensures.found) refl
-    (c.read-2.ensures.files ∙ c.read.ensures.files) c.in_ok-bytes-3.ensures.held c.deref-3.ensures.value c.replay_block-replayed.ensures.found c.in_ok-end.ensures.found
+pub returns-in_err-end-clause-says : goal.returns-in_err-end-clause-says
+returns-in_err-end-clause-says g c =
+    let told = g.F.Files.told c.args.files.now in
+    let later = g.F.Files.told c.project_in.new.files in
+    let case = data_of c.in_ok-case.case in
+    passed_on c.from_residual-in_err-end.result c.in_err-end.field-0.0 (SaysReplay told c.args.case_file.now c.args.trace_file.now) c.from_residual-in_err-end.ensures.1
+    (trace_stop_says told later c.args.case_file.now c.args.trace_file.now case c.in_ok-block.block c.in_ok-block.invariant c.in_err-end.field-0.0
+    (reads_both told (g.F.Files.told c.case_in.new.files) c.args.case_file.now case c.in_ok-block.block c.in_ok-block.invariant c.in_ok-case.ensures.found c.case_in.ensures.files c.in_ok-block.ensures.found)
+    (c.project_in.ensures.files ∙ c.case_in.ensures.files) c.in_err-end.ensures.stopped)
+
+pub returns-clause-says : goal.returns-clause-says
+returns-clause-says g c =
+    let told = g.F.Files.told c.args.files.now in
+    let later = g.F.Files.told c.project_in.new.files in
+    let case = data_of c.in_ok-case.case in
+    report_says told later c.args.case_file.now c.args.trace_file.now case.name case c.in_ok-block.block c.in_ok-block.invariant c.in_ok-end.end
+    (reads_both told (g.F.Files.told c.case_in.new.files) c.args.case_file.now case c.in_ok-block.block c.in_ok-block.invariant c.in_ok-case.ensures.found c.case_in.ensures.files c.in_ok-block.ensures.found)
+    (c.project_in.ensures.files ∙ c.case_in.ensures.files) refl c.in_ok-end.ensures.found

@@ -1,8 +1,10 @@
-use Rattle.std.proofs.Common.{◌≤◌, length, vec_len}
+use Rattle.std.proofs.Common.{◌≤◌, length, map, vec_len}
+use Rattle.pv_tree.specs.Shape.{var_shape}
+use Rattle.pv_tree.proofs.Declarations.{Stands}
 use Rattle.pv_tree.proofs.parse.declarations.sections.Given as goal
 
-abbrev pub invariant-loop-section : goal.invariant-loop-section
-invariant-loop-section l = vec_len l.vars ≤ 20000
+abbrev pub invariant-loop-token : goal.invariant-loop-token
+invariant-loop-token l = (vec_len l.vars ≤ 20000) × Stands l.text 20000 l.tokens (map var_shape l.vars.items) l.stage l.rest
 
-abbrev pub decreases-loop-section : goal.decreases-loop-section
-decreases-loop-section l = length l.cursor.rest.now
+abbrev pub decreases-loop-token : goal.decreases-loop-token
+decreases-loop-token l = length l.rest

@@ -1,23 +1,25 @@
-use Rattle.std.proofs.Common.{◌+◌, ◌<◌, ◌≤◌, length, ◌*◌}
+use Rattle.std.proofs.Common.{◌+◌, ◌-◌, ◌*◌}
+use Rattle.pv_tree.specs.Shape.{expr_shape}
+use Rattle.pv_tree.proofs.Chains.{Joins}
 use Rattle.pv_tree.proofs.parse.expressions.+expressions.Given as goal
 
 abbrev pub decreases-conjunction : goal.decreases-conjunction
-decreases-conjunction l = 3 * l.room + 1
+decreases-conjunction l = 5 * l.room + 2
 
 abbrev pub decreases-disjunction : goal.decreases-disjunction
-decreases-disjunction l = 3 * l.room + 2
+decreases-disjunction l = 5 * l.room + 3
 
 abbrev pub decreases-factor : goal.decreases-factor
-decreases-factor l = 3 * l.room
+decreases-factor l = 5 * l.room
 
-abbrev pub invariant-conjunction-loop-place : goal.invariant-conjunction-loop-place
-invariant-conjunction-loop-place l = (l.left.levels ≤ l.room) × (length l.cursor.rest.now < length l.fn.cursor.rest.now)
+abbrev pub decreases-joined_by : goal.decreases-joined_by
+decreases-joined_by l = 5 * l.room + 1
 
-abbrev pub decreases-conjunction-loop-place : goal.decreases-conjunction-loop-place
-decreases-conjunction-loop-place l = length l.cursor.rest.now
+abbrev pub decreases-right_operand : goal.decreases-right_operand
+decreases-right_operand l = 5 * l.room + 4
 
-abbrev pub invariant-disjunction-loop-place : goal.invariant-disjunction-loop-place
-invariant-disjunction-loop-place l = (l.left.levels ≤ l.room) × (length l.cursor.rest.now < length l.fn.cursor.rest.now)
+abbrev pub invariant-joined_by-loop-place : goal.invariant-joined_by-loop-place
+invariant-joined_by-loop-place l = Joins l.text l.op l.room (expr_shape l.fn.first.expr) l.fn.first.levels l.tokens (expr_shape l.left.expr) l.left.levels l.rest
 
-abbrev pub decreases-disjunction-loop-place : goal.decreases-disjunction-loop-place
-decreases-disjunction-loop-place l = length l.cursor.rest.now
+abbrev pub decreases-joined_by-loop-place : goal.decreases-joined_by-loop-place
+decreases-joined_by-loop-place l = l.room - l.left.levels

@@ -1,5 +1,10 @@
-use Rattle.std.proofs.Common.{length}
+use Rattle.std.proofs.Common.{length, map}
+use Rattle.pv_tree.specs.Shape.{stmt_shape}
+use Rattle.pv_tree.proofs.Statements.{Stands}
 use Rattle.pv_tree.proofs.parse.statements.statements.Given as goal
 
+abbrev pub invariant-loop-alloc : goal.invariant-loop-alloc
+invariant-loop-alloc l = Stands l.text l.tokens (map stmt_shape l.statements.items) l.rest
+
 abbrev pub decreases-loop-alloc : goal.decreases-loop-alloc
-decreases-loop-alloc l = length l.cursor.rest.now
+decreases-loop-alloc l = length l.rest

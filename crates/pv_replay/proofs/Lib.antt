@@ -1,0 +1,4 @@
+mod TraceLemmas
+mod ProgramLemmas
+mod PlaceLemmas
+mod MachineLemmas

@@ -1,0 +1,5 @@
+pub mod Traces
+pub mod Programs
+pub mod Ends
+pub mod Replayable
+pub mod Machines

@@ -1,0 +1,73 @@
+-- A block whose names are numbers of cells, as the interpreter has it. No public clause cites this.
+use Rattle.std.specs.Prelude.{◌≡◌, ◌<◌, ℕ, List, [], ◌∷◌, length, map, ℤ, pos, slice_index_or, slice_set, position, bytes_eq, Some, All}
+use Rattle.pv_word.specs.declared.types.Ty.TheVariants.{Bool}
+use Rattle.pv_word.specs.Types.{InRange, and_of, or_of, not_of}
+use Rattle.pv_tree.specs.declared.tree.Expr.{Expr}
+use Rattle.pv_tree.specs.declared.tree.Stmt.{Stmt}
+use Rattle.pv_tree.specs.declared.tree.Stmt.TheVariants.{Assign}
+use Rattle.pv_tree.specs.declared.tree.Operand.{Operand}
+use Rattle.pv_mean.specs.declared.cell.Cell.{Cell}
+use Rattle.pv_mean.specs.Cells.{key_of_path}
+use Rattle.pv_mean.specs.Frames.{Frame}
+use Rattle.pv_mean.specs.Values.{number, value}
+use Rattle.pv_mean.specs.Statements.{normal, run_one, run_list}
+use Rattle.pv_replay.specs.declared.program.Term.{Term, Constant, Load, Not', And', Or'}
+use Rattle.pv_replay.specs.declared.program.Assignment.{Assignment}
+
+-- the parts of an assignment
+abbrev pub target_of : Stmt → Operand
+target_of (Assign target place e) = target
+
+abbrev pub source_of : Stmt → Expr
+source_of (Assign target place e) = e
+
+-- its cells are among the first n, its constants values of BOOL
+abbrev pub IsTerm : ℕ → Term → Type 0
+IsTerm n (Constant v) = InRange Bool v
+IsTerm n (Load k) = k < n
+IsTerm n (Not' p t) = IsTerm n t
+IsTerm n (And' p s q t) = IsTerm n s × IsTerm n t
+IsTerm n (Or' p s q t) = IsTerm n s × IsTerm n t
+
+abbrev pub value_in : Frame → Term → ℤ
+value_in frame (Constant v) = v
+value_in frame (Load k) = slice_index_or frame k (pos 0)
+value_in frame (Not' p t) = not_of Bool (value_in frame t)
+value_in frame (And' p s q t) = and_of Bool (value_in frame s) (value_in frame t)
+value_in frame (Or' p s q t) = or_of Bool (value_in frame s) (value_in frame t)
+
+-- each value is one of BOOL
+abbrev pub AreBools : Frame → Type 0
+AreBools frame = (k : ℕ) → InRange Bool (slice_index_or frame k (pos 0))
+
+pub record IsAssignment (n : ℕ) (a : Assignment) : Type 0 where
+  pub target : a.target < n
+  pub term : IsTerm n a.value
+
+-- the frame after the assignments
+abbrev pub run_program : List Assignment → Frame → Frame
+run_program [] frame = frame
+run_program (a ∷ more) frame = run_program more (slice_set frame a.target (value_in frame a.value))
+
+-- the key's first place among the keys
+pub record IsNumberAmong (keys : List (List ℕ)) (key : List ℕ) (n : ℕ) : Type 0 where
+  pub place : position (bytes_eq key) keys ≡ Some n
+
+-- the keys of the cells' paths
+abbrev pub keys_of_cells : List Cell → List (List ℕ)
+keys_of_cells cells = map key_of_path cells
+
+-- the term has the expression's value in each frame of cells with these keys
+pub record IsTermOf (keys : List (List ℕ)) (e : Expr) (t : Term) : Type 0 where
+  pub within : IsTerm (length keys) t
+  pub same : (cells : List Cell) (frame : Frame) → keys_of_cells cells ≡ keys → length frame ≡ length cells → value cells frame e ≡ number (value_in frame t)
+
+-- the assignment does what the statement does
+pub record IsAssignmentOf (keys : List (List ℕ)) (s : Stmt) (a : Assignment) : Type 0 where
+  pub within : IsAssignment (length keys) a
+  pub same : (cells : List Cell) (frame : Frame) → keys_of_cells cells ≡ keys → length frame ≡ length cells → run_one cells frame s ≡ normal (slice_set frame a.target (value_in frame a.value))
+
+-- the program does what the statements do
+pub record IsProgramOf (keys : List (List ℕ)) (ss : List Stmt) (program : List Assignment) : Type 0 where
+  pub within : All (IsAssignment (length keys)) program
+  pub same : (cells : List Cell) (frame : Frame) → keys_of_cells cells ≡ keys → length frame ≡ length cells → run_list cells ss frame ≡ normal (run_program program frame)

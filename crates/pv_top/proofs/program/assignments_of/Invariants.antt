@@ -1,7 +1,0 @@
-use Rattle.std.proofs.Common.{take}
-use Rattle.pv_top.specs.Programs.{IsProgramOf}
-use Rattle.pv_top.proofs.program.assignments_of.Given as goal
-
--- the statements so far have their assignments
-abbrev pub invariant-loop-statement : goal.invariant-loop-statement
-invariant-loop-statement l = IsProgramOf l.scope (take l.statement-index l.statements) l.program.items
