@@ -103,6 +103,7 @@ written (c ∷ cs) (w ∷ ws) key v len among = lead (has_key key c) refl (λ a.
     fewer : has_key key c ≡ false → (k : ℕ) → k < length (map key_of_path (c ∷ cs)) → get_or (map key_of_path (c ∷ cs)) k key ≡ key → IsAmong cs key
     fewer h zero lt e = absurd (false≢true (sym h ∙ (bytes_eq-Decides key (key_of_path c)).1 (sym e)))
     fewer h (suc k) lt e = (k, omega arith, e)
+
     lead : (b : Bool) → has_key key c ≡ b → (IsAmong cs key → value_at cs (with_value_at cs ws key v) key ≡ v) → cond b (first (cond b (v ∷ ws) (w ∷ with_value_at cs ws key v))) (value_at cs (others (cond b (v ∷ ws) (w ∷ with_value_at cs ws key v))) key) ≡ v
     lead true h later = refl
     lead false h later = later (fewer h among.0 among.1 among.2)

@@ -61,6 +61,7 @@ start_types (c ∷ cs) all starts = lead (is_input c.role) (start_types cs all.1
   where
     one : InRange c.ty c.start
     one = let P : Ty → Type 0 = λ t. InRange t c.start in subst P (sym all.0) starts.0
+
     lead : (b : Bool) → AreValues (image_types cs) (start_image cs) → AreValues (map (λ (d : Cell). d.ty) (cond (not b) (c ∷ filter (λ d. not (is_input d.role)) cs) (filter (λ d. not (is_input d.role)) cs))) (map (λ (d : Cell). d.start) (cond (not b) (c ∷ filter (λ d. not (is_input d.role)) cs) (filter (λ d. not (is_input d.role)) cs)))
     lead true h = h
     lead false h = (one, h)
@@ -112,6 +113,7 @@ done_normally (normal f) frame h = ap normal (same h)
   where
     frame_of : ScanEnd → Frame
     frame_of (done g) = g
+
     same : done f ≡ done frame → f ≡ frame
     same = λ k. ap frame_of k
 

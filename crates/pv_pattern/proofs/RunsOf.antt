@@ -32,9 +32,9 @@ pub lawful : (block : Block) (pattern : Pattern) → IsBoolean block → IsLawfu
 lawful block pattern is = record {
   starts = λ p are. start_keeps block is;
   steps = λ s i t is_state is_input h.
-    let left = left_is block (scan block s i).end t h in
-    let P : Values → Type 0 = λ v. AreValues (image_types (cells_of block)) v in
-    subst P left.2 (image_keeps block s i left.0 is is_state is_input left.1);
+      let left = left_is block (scan block s i).end t h in
+      let P : Values → Type 0 = λ v. AreValues (image_types (cells_of block)) v in
+      subst P left.2 (image_keeps block s i left.0 is is_state is_input left.1);
 }
 
 pub runs_to : (block : Block) (pattern : Pattern) (image : Image) (inputs : List Input) → AllByRecursion (Keeps block pattern) (run_from block image inputs) → NoneFails (source block pattern) image inputs
