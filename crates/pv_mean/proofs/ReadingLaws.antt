@@ -1,5 +1,5 @@
 -- What reads as a tree is of BOOL: the form has no other types, and no start values.
-use Rattle.std.proofs.Common.{◌≡◌, ◌++◌, ℕ, List, [], ◌∷◌, map, ℤ, pos, Option, None, ◌⊎◌, inl, inr, refl, ap, sym, subst, arith}
+use Rattle.std.proofs.Common.{◌≡◌, ◌++◌, ℕ, List, [], ◌∷◌, map, ℤ, pos, Option, None, inl, inr, refl, ap, sym, subst, arith}
 use Rattle.std.specs.List.{flat_map, AllByRecursion}
 use Rattle.std.proofs.lemmas.Int.{ints}
 use Rattle.std.proofs.lemmas.List.Elements.{All-from_recursion}
@@ -7,7 +7,6 @@ use Rattle.pv_word.specs.declared.types.Ty.TheVariants.{Bool as BoolType}
 use Rattle.pv_word.specs.Types.{InRange}
 use Rattle.pv_tree.specs.declared.lex.Kind.{Kind}
 use Rattle.pv_tree.specs.declared.lex.Token.{Token}
-use Rattle.pv_tree.specs.declared.tree.DeclType.{DeclType}
 use Rattle.pv_tree.specs.declared.tree.DeclType.TheVariants.{Plain}
 use Rattle.pv_tree.specs.declared.tree.Literal.{Literal}
 use Rattle.pv_tree.specs.declared.tree.Section.{Section}
@@ -24,7 +23,6 @@ use Rattle.pv_tree.specs.Expressions.{IsTruth, SpellsExpression}
 use Rattle.pv_tree.specs.Statements.{SpellsStatements}
 use Rattle.pv_tree.specs.Declarations.{Declares, SpellsNames, SpellsDeclarations, SpellsSections, SpellsVariables}
 use Rattle.pv_tree.specs.Reading.{ReadsBlock, ReadsExpression}
-use Rattle.pv_mean.specs.declared.cell.Cell.{Cell}
 use Rattle.pv_mean.specs.Cells.{cell_of, type_of, start_of}
 use Rattle.pv_mean.specs.Boolean.{BoolLiterals, HasBoolLiterals, IsOfBool, StartsInBool, IsBoolean}
 

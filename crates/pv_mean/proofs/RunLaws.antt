@@ -1,8 +1,8 @@
 -- Runs one after the other.
-use Rattle.std.proofs.Common.{◌≡◌, ◌++◌, List, [], ◌∷◌, Option, refl, ap}
+use Rattle.std.proofs.Common.{◌≡◌, ◌++◌, List, [], ◌∷◌, refl, ap}
 use Rattle.pv_tree.specs.declared.tree.Block.{Block}
 use Rattle.pv_mean.specs.Frames.{Image, Input}
-use Rattle.pv_mean.specs.Scans.{Scan, ScanEnd, done, scan}
+use Rattle.pv_mean.specs.Scans.{ScanEnd, done, scan}
 use Rattle.pv_mean.specs.Runs.{after, run_from, run_on, with_image, end_image}
 
 pub run_from-append : (block : Block) (image : Image) (inputs more : List Input) → run_from block image (inputs ++ more) ≡ run_from block image inputs ++ run_on block (end_image block image inputs) more

@@ -1,15 +1,15 @@
 -- The runs of a block are those of its machine.
-use Rattle.std.proofs.Common.{◌≡◌, ℕ, ◌≤◌, true, false, List, [], ◌∷◌, refl, ap, sym, subst, ◌∙◌, arith}
+use Rattle.std.proofs.Common.{◌≡◌, ℕ, true, List, [], ◌∷◌, refl, ap, subst, arith}
 use Rattle.std.specs.List.{AllByRecursion}
 use Rattle.pv_word.specs.Types.{AreValues}
 use Rattle.pv_tree.specs.declared.tree.Block.{Block}
 use Rattle.pv_mean.specs.Boolean.{IsBoolean}
 use Rattle.pv_mean.specs.Cells.{cells_of}
 use Rattle.pv_mean.specs.Frames.{Image, Input, input_types, image_types, start_image}
-use Rattle.pv_mean.specs.Scans.{Scan, ScanEnd, done as done_scan, scan, next_image}
+use Rattle.pv_mean.specs.Scans.{ScanEnd, done as done_scan, scan, next_image}
 use Rattle.pv_mean.specs.Runs.{after, run_from, run}
 use Rattle.pv_mean.proofs.TypeLaws.{start_keeps, image_keeps}
-use Rattle.pv_machine.specs.Machines.{Machine, Values, Step, done, IsLawful}
+use Rattle.pv_machine.specs.Machines.{Values, Step, done, IsLawful}
 use Rattle.pv_machine.specs.Queries.{NoneFails, MeetsStep, MeetsBase}
 use Rattle.pv_machine.proofs.Induction.{no_base, none_fails, step_zero}
 use Rattle.pv_pattern.specs.Patterns.{Pattern}

@@ -14,7 +14,7 @@ use Rattle.pv_tree.specs.declared.tree.Block.{Block}
 use Rattle.pv_tree.specs.Scope.{keys_of, statements_of}
 use Rattle.pv_mean.specs.declared.cell.Cell.{Cell}
 use Rattle.pv_mean.specs.Cells.{key_of_path, cell_of, cells_of, is_input}
-use Rattle.pv_mean.specs.Frames.{Image, first, others, begin, image_of, start_image, input_len}
+use Rattle.pv_mean.specs.Frames.{Image, begin, image_of, start_image, input_len}
 use Rattle.pv_mean.specs.Boolean.{StartsInBool}
 use Rattle.pv_mean.specs.Statements.{normal, run_list}
 use Rattle.pv_mean.specs.Scans.{Scan, ScanEnd, done, end_of}

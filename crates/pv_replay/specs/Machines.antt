@@ -1,11 +1,8 @@
 -- A block as the machine of the interpreter has it. No public clause cites this.
 use Rattle.std.specs.Prelude.{◌≡◌, ◌+◌, ℕ, List, [], ◌∷◌, length, ℤ, All, if◌then◌else◌}
-use Rattle.pv_word.specs.declared.types.Ty.TheVariants.{Bool as BoolType}
-use Rattle.pv_word.specs.Types.{InRange}
 use Rattle.pv_tree.specs.declared.tree.Expr.{Expr}
 use Rattle.pv_tree.specs.declared.tree.Block.{Block}
 use Rattle.pv_tree.specs.Scope.{keys_of, statements_of}
-use Rattle.pv_mean.specs.declared.cell.Cell.{Cell}
 use Rattle.pv_mean.specs.Cells.{cells_of}
 use Rattle.pv_mean.specs.Scans.{Scan}
 use Rattle.pv_replay.specs.declared.end.End.{End}
