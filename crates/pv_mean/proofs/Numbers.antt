@@ -12,11 +12,11 @@ pub record IsNumber (cells : List Cell) (key : List ℕ) (n : ℕ) : Type 0 wher
   pub here : bytes_eq key (get_or (map key_of_path cells) n []) ≡ true
   pub before : (k : ℕ) → k < n → bytes_eq key (get_or (map key_of_path cells) k []) ≡ false
 
-first_is : (frame : List ℤ) → first frame ≡ get_or frame 0 (pos 0)
+pub first_is : (frame : List ℤ) → first frame ≡ get_or frame 0 (pos 0)
 first_is [] = refl
 first_is (v ∷ vs) = refl
 
-others_at : (frame : List ℤ) (n : ℕ) → get_or (others frame) n (pos 0) ≡ get_or frame (suc n) (pos 0)
+pub others_at : (frame : List ℤ) (n : ℕ) → get_or (others frame) n (pos 0) ≡ get_or frame (suc n) (pos 0)
 others_at [] n = refl
 others_at (v ∷ vs) n = refl
 

@@ -1,5 +1,5 @@
 //! Laws of the definitions, each the contract of a function that does nothing.
-ghost use Rattle.std.specs.Prelude.{◌≡◌, ◌≢◌, ◌++◌, length, pos, ℕ, ℤ, List, Contains, map};
+ghost use Rattle.std.specs.Prelude.{◌≡◌, ◌≢◌, ◌++◌, ◌∷◌, length, pos, ℕ, ℤ, List, Contains, map, slice_index_or, true, false};
 ghost use Rattle.pv_word.specs.declared.types.Ty.TheVariants.{Bool};
 ghost use Rattle.pv_word.specs.Types.{AreValues};
 ghost use Rattle.pv_tree.specs.declared.place.Place.{Place};
@@ -13,7 +13,7 @@ ghost use Rattle.pv_tree.specs.Scope.{key_of, statements_of};
 ghost use Rattle.pv_tree.specs.Shape.{expr_shape, block_shape};
 ghost use Rattle.pv_tree.specs.Reading.{ReadsBlock, ReadsExpression};
 ghost use Rattle.pv_mean.specs.declared.cell.Cell.{Cell};
-ghost use Rattle.pv_mean.specs.Cells.{cells_of, key_of_path};
+ghost use Rattle.pv_mean.specs.Cells.{cells_of, key_of_path, is_input};
 ghost use Rattle.pv_mean.specs.Frames.{Image, Input, Frame, image_len, input_len, frame_types, image_types, input_types, start_image, begin, image_of, input_of};
 ghost use Rattle.pv_mean.specs.Values.{number, unary, binary, value, value_at};
 ghost use Rattle.pv_mean.specs.Boolean.{IsBoolean, BoolLiterals};
@@ -74,8 +74,12 @@ pub fn untouched_cells_keep_their_value()
 {}
 
 /// At a scan's beginning the input cells have the input's values, and the kept cells those of the image: after a scan
-/// that is done the values of its end.
+/// that is done the values of its end. Each cell has the value of its own number among its kind.
 pub fn scans_begin_with_image_and_input()
+    ensures input_place { (before : List Cell) (c : Cell) (after : List Cell) (image : Image) (input : Input) → is_input c.role ≡ true
+        → slice_index_or (begin (before ++ c ∷ after) image input) (length before) (pos 0) ≡ slice_index_or input (input_len before) (pos 0) }
+    ensures image_place { (before : List Cell) (c : Cell) (after : List Cell) (image : Image) (input : Input) → is_input c.role ≡ false
+        → slice_index_or (begin (before ++ c ∷ after) image input) (length before) (pos 0) ≡ slice_index_or image (image_len before) (pos 0) }
     ensures input { (cells : List Cell) (image : Image) (input : Input)
         → length input ≡ input_len cells → input_of cells (begin cells image input) ≡ input }
     ensures image { (cells : List Cell) (image : Image) (input : Input)
