@@ -1,4 +1,6 @@
 mod CaseLemmas
 mod WordsLemmas
+mod ProjectLemmas
 mod StopLemmas
+mod RecheckLemmas
 mod SayLemmas

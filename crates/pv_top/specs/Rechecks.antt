@@ -14,7 +14,7 @@ use Rattle.pv_recheck.specs.declared.fault.Kind.{Kind}
 use Rattle.pv_recheck.specs.declared.fault.RecheckFault.{RecheckFault}
 use Rattle.pv_recheck.specs.declared.fault.RecheckFault.TheVariants.{Unbuilt as UnbuiltCertificate, TooManyGates as Gates, Fault}
 use Rattle.pv_recheck.specs.Validity.{IsValid}
-use Rattle.pv_recheck.specs.Answers.{Answers}
+use Rattle.pv_recheck.specs.Answers.{Answers, HasTooManyGates}
 use Rattle.pv_top.specs.declared.answer.Answer.{Answer}
 use Rattle.pv_top.specs.declared.answer.Answer.TheVariants.{Report, Refusal as RefusalOf}
 use Rattle.pv_top.specs.declared.answer.Outcome.{Outcome}
@@ -31,11 +31,12 @@ use Rattle.pv_top.specs.Inputs.{Holds, Reads, IsUnreadable, IsNoCase, IsNoProjec
 abbrev pub IsSatisfied : Block → Expr → Type 0
 IsSatisfied block a = (inputs : List Input) → AllByRecursion (AreValues (input_types (cells_of block))) inputs → AllByRecursion (Keeps block (invariant a)) (run block inputs)
 
--- the certificate's file holds a valid certificate, and what it says is so
+-- the certificate's file holds a valid certificate, whose circuit has no more gates than it may, and what it says is so
 pub record HoldsProof (told : Option FileMap) (file : List ℕ) (block : Block) (a : Expr) : Type 0 where
   pub bytes : List ℕ
   pub held : Holds told file bytes
   pub valid : IsValid block a bytes
+  pub few_gates : HasTooManyGates block a → ⊥
   pub satisfied : IsSatisfied block a
 
 -- the certificate's file holds bytes that the check answers so
@@ -83,7 +84,7 @@ pub record IsRefused (told : Option FileMap) (case_file file : List ℕ) (fault 
   pub block : Block
   pub a : Expr
   pub reads : Reads told case_file case block a
-  pub fault : HoldsFault told file block a fault
+  pub certificate : HoldsFault told file block a fault
 
 -- what a report of a recheck says
 abbrev pub ReportsRecheck : Option FileMap → List ℕ → List ℕ → List ℕ → Outcome → Type 0

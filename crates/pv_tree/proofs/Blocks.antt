@@ -1,10 +1,9 @@
 -- Function blocks: what spells one is read as it, and what is read is spelled so.
-use Rattle.std.proofs.Common.{◌≡◌, ◌⊎◌, inl, inr, ℕ, ◌≤◌, true, false, List, [], ◌∷◌, ◌++◌, length, Option, Some, None, refl, sym, ap, subst, ◌∙◌, arith, append_assoc}
+use Rattle.std.proofs.Common.{◌≡◌, ◌⊎◌, inl, inr, ℕ, true, false, List, [], ◌∷◌, ◌++◌, length, Option, Some, None, refl, sym, ap, subst, ◌∙◌, arith, append_assoc}
 use Rattle.std.specs.Option.{option_map, option_and_then}
 use Rattle.std.proofs.lemmas.Option.{option_and_then_some, cond_some}
 use Rattle.std.proofs.lemmas.Bool.{cond-true, cond-false, false≢true}
 use Rattle.pv_tree.specs.declared.place.Place.{Place}
-use Rattle.pv_tree.specs.declared.name.Name.{Name}
 use Rattle.pv_tree.specs.declared.words.Word.TheVariants as word
 use Rattle.pv_tree.specs.declared.lex.Kind.{Kind}
 use Rattle.pv_tree.specs.declared.lex.Kind.TheVariants as kind
@@ -14,11 +13,10 @@ use Rattle.pv_tree.specs.declared.parse.declarations.Step.TheVariants as step
 use Rattle.pv_tree.specs.declared.tree.BlockKind.{BlockKind}
 use Rattle.pv_tree.specs.declared.tree.BlockKind.TheVariants.{Fb}
 use Rattle.pv_word.specs.declared.types.Ty.{Ty}
-use Rattle.pv_tree.specs.Shape.{StmtShape, assign, VarShape, BlockShape}
+use Rattle.pv_tree.specs.Shape.{StmtShape, assign, BlockShape}
 use Rattle.pv_tree.specs.Statements.{SpellsStatement, SpellsStatements}
-use Rattle.pv_tree.specs.Declarations.{SpellsVariables}
-use Rattle.pv_tree.specs.Reading.{SpellsName, IsBegin, SpellsBlock, IsWellFormedBlock, HasHeaderLine, TokensReadBlock, most_vars}
-use Rattle.pv_tree.specs.Readers.{FoundName, found_name, name_in, FoundVars, found_vars, variables_in, step_of, FoundStmts, found_stmts, statements_in, is_word, begins_statement, is_begin, behind_begin, is_closing, behind_closing, is_opening, FoundBlock, block_of, found_block, closed, body_in, block_in, ended, is_ended, whole_block_in}
+use Rattle.pv_tree.specs.Reading.{IsBegin, SpellsBlock, IsWellFormedBlock, HasHeaderLine, TokensReadBlock, most_vars}
+use Rattle.pv_tree.specs.Readers.{FoundName, name_in, FoundVars, found_vars, variables_in, step_of, FoundStmts, found_stmts, is_word, is_begin, behind_begin, is_closing, behind_closing, is_opening, FoundBlock, block_of, found_block, closed, body_in, block_in, ended, is_ended, whole_block_in}
 use Rattle.pv_tree.proofs.ExpressionsSound.{none_some, some_same, option_map_found, chosen}
 use Rattle.pv_tree.proofs.Expressions.{ending_from, ended_at}
 use Rattle.pv_tree.proofs.Statements.{statements_read, statements_found}

@@ -8,7 +8,7 @@ use Rattle.pv_tree.specs.declared.lex.Token.{Token}
 use Rattle.pv_tree.specs.declared.lex.Kind.{Kind}
 use Rattle.pv_tree.specs.declared.lex.Kind.TheVariants as k
 use Rattle.pv_tree.specs.declared.lex.Stretch.{Stretch}
-use Rattle.pv_tree.specs.Tokens.{IsOfForm, IsNext, token_at, AreTokensFrom, AreTokens}
+use Rattle.pv_tree.specs.Tokens.{IsOfForm, IsNext, token_at, AreTokensFrom, AreTokens, LiesIn}
 use Rattle.pv_tree.specs.Tokens.AreTokensFrom.{finished, dropped, taken}
 use Rattle.pv_tree.specs.Stretches.{stretch, stretch_of, tokens_of}
 use Rattle.pv_tree.proofs.Stretching.{some-is, none-is}
@@ -167,10 +167,6 @@ pub AreTokens-ends : (file : ℕ) (text : List ℕ) (tokens : List Token) → Ar
 AreTokens-ends file text tokens d =
     let r = AreTokensFrom-some d in
     (r.0, r.1 ∙ ap (λ (m : ℕ). r.0 ++ token_at file m k.End 0 ∷ []) (zero-add (length text)))
-
--- a token of this file that lies in the text, which ends at this place
-abbrev pub LiesIn : ℕ → ℕ → Token → Type 0
-LiesIn file end token = (token.place.file ≡ file) × (token.place.offset + token.len ≤ end)
 
 lie : {file at : ℕ} {text : List ℕ} {tokens : List Token} → AreTokensFrom file at text tokens → All (LiesIn file (at + length text)) tokens
 lie {file} {at} (finished e) =

@@ -1,5 +1,5 @@
 -- Sections of variables: what spells them is read as them, and what is read is spelled so.
-use Rattle.std.proofs.Common.{◌≡◌, ◌⊎◌, inl, inr, ℕ, zero, suc, ◌+◌, ◌-◌, ◌<◌, ◌≤◌, List, [], ◌∷◌, ◌++◌, length, Option, Some, None, refl, sym, ap, subst, ◌∙◌, arith, append_assoc, length-append}
+use Rattle.std.proofs.Common.{◌≡◌, ℕ, suc, ◌+◌, ◌-◌, ◌<◌, ◌≤◌, List, [], ◌∷◌, ◌++◌, length, Option, Some, None, refl, sym, ap, ◌∙◌, arith, append_assoc, length-append}
 use Rattle.std.specs.Option.{option_map}
 use Rattle.std.specs.List.{flat_map}
 use Rattle.std.proofs.lemmas.List.{append-nil}
@@ -9,14 +9,12 @@ use Rattle.pv_tree.specs.declared.lex.Kind.TheVariants as kind
 use Rattle.pv_tree.specs.declared.lex.Token.{Token}
 use Rattle.pv_tree.specs.declared.parse.declarations.Stage.{Stage}
 use Rattle.pv_tree.specs.declared.parse.declarations.Stage.TheVariants as stage
-use Rattle.pv_tree.specs.declared.parse.declarations.Step.{Step}
 use Rattle.pv_tree.specs.declared.parse.declarations.Step.TheVariants as step
 use Rattle.pv_tree.specs.declared.tree.Section.{Section}
 use Rattle.pv_tree.specs.declared.tree.Section.TheVariants.{Input, Output, Static}
 use Rattle.pv_tree.specs.Shape.{VarShape}
 use Rattle.pv_tree.specs.Declarations.{declared_by, Declares, SpellsNames, SpellsDeclaration, SpellsDeclarations, IsOpeningOf, SpellsSection, SpellsSections, SpellsVariables}
-use Rattle.pv_tree.specs.Readers.{FoundVars, found_vars, with_var, one_more_var, step_of, stepped, variables_in}
-use Rattle.pv_tree.proofs.ExpressionsSound.{none_some, some_same, option_map_found}
+use Rattle.pv_tree.specs.Readers.{FoundVars, found_vars, one_more_var, step_of, stepped, variables_in}
 
 abbrev pub flat : List (List VarShape) → List VarShape
 flat groups = flat_map (λ group. group) groups

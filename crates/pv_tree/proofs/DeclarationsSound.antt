@@ -1,7 +1,5 @@
 -- What is read as variables spells them.
-use Rattle.std.proofs.Common.{◌≡◌, ◌⊎◌, inl, inr, ℕ, zero, suc, ◌+◌, ◌<◌, ◌≤◌, List, [], ◌∷◌, ◌++◌, length, Option, Some, None, refl, sym, ap, subst, ◌∙◌, arith, append_assoc, length-append}
-use Rattle.std.specs.Option.{option_map}
-use Rattle.std.specs.List.{flat_map}
+use Rattle.std.proofs.Common.{◌≡◌, ℕ, zero, suc, ◌≤◌, List, [], ◌∷◌, ◌++◌, length, Some, refl, sym, ap, subst, ◌∙◌, arith, append_assoc}
 use Rattle.pv_tree.specs.declared.words.Word.TheVariants as word
 use Rattle.pv_tree.specs.declared.lex.Kind.{Kind}
 use Rattle.pv_tree.specs.declared.lex.Kind.TheVariants as kind
@@ -13,8 +11,8 @@ use Rattle.pv_tree.specs.declared.parse.declarations.Step.TheVariants as step
 use Rattle.pv_tree.specs.declared.tree.Section.{Section}
 use Rattle.pv_tree.specs.declared.tree.Section.TheVariants.{Input, Output, Static}
 use Rattle.pv_tree.specs.Shape.{VarShape}
-use Rattle.pv_tree.specs.Declarations.{declared_by, Declares, SpellsNames, SpellsDeclaration, SpellsDeclarations, IsOpeningOf, SpellsSection, SpellsSections, SpellsVariables}
-use Rattle.pv_tree.specs.Readers.{FoundVars, found_vars, with_var, one_more_var, step_of, stepped, variables_in}
+use Rattle.pv_tree.specs.Declarations.{declared_by, Declares, SpellsNames, SpellsDeclarations, IsOpeningOf, SpellsSections, SpellsVariables}
+use Rattle.pv_tree.specs.Readers.{FoundVars, with_var, one_more_var, step_of, stepped, variables_in}
 use Rattle.pv_tree.proofs.ExpressionsSound.{none_some, some_same, option_map_found}
 use Rattle.pv_tree.proofs.Declarations.{flat}
 

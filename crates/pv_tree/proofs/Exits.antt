@@ -1,6 +1,5 @@
 -- Answers of readers of tokens, as their contracts state them.
-use Rattle.std.proofs.Common.{◌≡◌, ℕ, List, Option, Some, None, Result, Ok, Err, refl, sym, ap, subst, ◌∙◌, IfOk, IfErr}
-use Rattle.std.specs.Option.{option_map, option_and_then}
+use Rattle.std.proofs.Common.{◌≡◌, Option, Some, None, Result, Ok, Err, sym, subst, IfOk, IfErr}
 use Rattle.std.specs.Result.{IsErrAnd}
 use Rattle.pv_tree.specs.declared.fault.ReadFault.{ReadFault}
 use Rattle.pv_tree.specs.declared.fault.ReadFault.TheVariants.{NotOfForm, NoMemory}

@@ -1,22 +1,19 @@
 -- What is read as an expression spells it, is well formed and has no more levels than there is room for.
-use Rattle.std.proofs.Common.{◌≡◌, ◌⊎◌, inl, inr, ℕ, ℤ, zero, suc, ◌+◌, ◌<◌, ◌≤◌, max, nat_lt, Bool, true, false, List, [], ◌∷◌, ◌++◌, Option, Some, None, refl, sym, ap, subst, ◌∙◌, arith, append_assoc}
-use Rattle.std.specs.Option.{option_map, option_and_then}
+use Rattle.std.proofs.Common.{◌≡◌, ◌⊎◌, inl, inr, ℕ, zero, suc, ◌+◌, ◌<◌, ◌≤◌, max, nat_lt, Bool, true, false, List, [], ◌∷◌, ◌++◌, Option, Some, None, refl, sym, ap, subst, ◌∙◌, arith, append_assoc}
+use Rattle.std.specs.Option.{option_map}
 use Rattle.std.specs.Prelude.{if◌then◌else◌}
 use Rattle.std.proofs.lemmas.Option.{option_and_then_some, cond_some}
 use Rattle.std.proofs.lemmas.Bool.{ltb-true, false≢true}
-use Rattle.pv_word.specs.declared.types.Ty.TheVariants.{Bool as BoolType}
-use Rattle.pv_tree.specs.declared.place.Place.{Place}
 use Rattle.pv_tree.specs.declared.words.Word.TheVariants as word
 use Rattle.pv_tree.specs.declared.lex.Kind.{Kind}
 use Rattle.pv_tree.specs.declared.lex.Kind.TheVariants as kind
 use Rattle.pv_tree.specs.declared.lex.Token.{Token}
 use Rattle.pv_tree.specs.declared.parse.expressions.Start.{Start}
 use Rattle.pv_tree.specs.declared.parse.expressions.Start.TheVariants as start
-use Rattle.pv_tree.specs.declared.tree.UnaryOp.TheVariants.{Not}
 use Rattle.pv_tree.specs.declared.tree.BinaryOp.{BinaryOp}
 use Rattle.pv_tree.specs.declared.tree.BinaryOp.TheVariants.{And, Or}
-use Rattle.pv_tree.specs.Shape.{ExprShape, lit, read, unary, binary, paren}
-use Rattle.pv_tree.specs.Expressions.{IsTruth, IsSignOf, word_operand, SpellsExpression, IsWellFormed, strength_of, strength, levels}
+use Rattle.pv_tree.specs.Shape.{ExprShape, binary}
+use Rattle.pv_tree.specs.Expressions.{SpellsExpression, IsWellFormed, strength_of, strength, levels}
 use Rattle.pv_tree.specs.Readers.{FoundExpr, start_of, started, enclosed, negated, joined, is_sign, chain, readers, factor_in, is_close}
 use Rattle.pv_tree.proofs.Chains.{is_sign_from}
 

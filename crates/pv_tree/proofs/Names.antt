@@ -1,6 +1,6 @@
 -- Names of blocks: what spells one is read as it, and what is read is spelled so.
-use Rattle.std.proofs.Common.{◌≡◌, ◌⊎◌, inl, inr, ℕ, true, false, List, [], ◌∷◌, ◌++◌, Option, Some, None, refl, sym, ap, subst, ◌∙◌}
-use Rattle.std.specs.Option.{option_map, option_and_then}
+use Rattle.std.proofs.Common.{◌≡◌, ◌⊎◌, inl, inr, ℕ, true, List, [], ◌∷◌, ◌++◌, Option, Some, refl, sym, ap, subst, ◌∙◌}
+use Rattle.std.specs.Option.{option_and_then}
 use Rattle.std.proofs.lemmas.Option.{option_and_then_some, cond_some}
 use Rattle.std.proofs.lemmas.Bool.{cond-true, false≢true}
 use Rattle.pv_tree.specs.declared.name.Name.{Name}
@@ -11,7 +11,7 @@ use Rattle.pv_tree.specs.declared.lex.Token.{Token}
 use Rattle.pv_tree.specs.declared.parse.names.Label.{Label}
 use Rattle.pv_tree.specs.declared.parse.names.Label.TheVariants as label
 use Rattle.pv_tree.specs.Expressions.{text_of, plain_name}
-use Rattle.pv_tree.specs.Reading.{quoted_name, SpellsName, by_word, by_quotes, by_number, by_two, TokensReadName}
+use Rattle.pv_tree.specs.Reading.{SpellsName, by_word, by_quotes, by_number, by_two, TokensReadName}
 use Rattle.pv_tree.specs.Readers.{FoundName, found_name, label_of, is_number, number_behind, labelled, name_in, ended, is_ended, whole_name_in}
 use Rattle.pv_tree.proofs.ExpressionsSound.{none_some, some_same}
 use Rattle.pv_tree.proofs.Expressions.{ending_from, ended_at}

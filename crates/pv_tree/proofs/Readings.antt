@@ -1,5 +1,5 @@
 -- What texts read as: at most one tree.
-use Rattle.std.proofs.Common.{◌≡◌, ℕ, ◌≤◌, List, length, Option, Some, refl, sym, subst}
+use Rattle.std.proofs.Common.{◌≡◌, ℕ, ◌≤◌, List, length, Some, subst}
 use Rattle.pv_tree.specs.declared.lex.Token.{Token}
 use Rattle.pv_tree.specs.declared.name.Name.{Name}
 use Rattle.pv_tree.specs.Shape.{ExprShape, BlockShape}

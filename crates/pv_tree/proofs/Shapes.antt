@@ -1,5 +1,5 @@
 -- What trees of one shape have in common, and what the trees that are read are.
-use Rattle.std.proofs.Common.{◌≡◌, ◌⊎◌, inl, inr, ℕ, ℤ, pos, List, [], ◌∷◌, ◌++◌, map, Option, Some, None, All, Contains, refl, sym, ap, subst, ◌∙◌}
+use Rattle.std.proofs.Common.{◌≡◌, ◌⊎◌, inl, inr, ℕ, ℤ, pos, List, [], ◌∷◌, ◌++◌, map, None, All, Contains, refl, sym, ap, subst, ◌∙◌}
 use Rattle.std.specs.List.{AllByRecursion, flat_map}
 use Rattle.std.proofs.lemmas.List.Elements.{All-nil, All-cons, All-head, All-tail}
 use Rattle.pv_word.specs.declared.types.Ty.TheVariants.{Bool as BoolType}
@@ -19,7 +19,7 @@ use Rattle.pv_tree.specs.Scope.{keys_of, AreApart, root_key, IsDeclared, IsDecla
 use Rattle.pv_tree.specs.Form.{IsBoolVar, HasTruths, HasTruthsIn, IsBoolBlock}
 use Rattle.pv_tree.specs.Expressions.{IsTruth, SpellsExpression}
 use Rattle.pv_tree.specs.Statements.{SpellsStatement, SpellsStatements}
-use Rattle.pv_tree.specs.Declarations.{declared_by, Declares, SpellsNames, SpellsDeclaration, SpellsDeclarations, SpellsSection, SpellsSections, SpellsVariables}
+use Rattle.pv_tree.specs.Declarations.{Declares, SpellsNames, SpellsDeclarations, SpellsSections, SpellsVariables}
 use Rattle.pv_tree.specs.Reading.{ReadsBlock, ReadsExpression}
 
 -- the keys of variables are those of their shapes
@@ -88,7 +88,7 @@ same_names a b e h =
     record {
       apart = subst AreApart keys h.apart;
       declared = all_declared (keys_of b.interface.vars.items) (statements_of b.body)
-          (subst (λ ks. AllByRecursion (KnownIn ks) (map stmt_shape (statements_of b.body))) keys (subst (AllByRecursion (KnownIn (keys_of a.interface.vars.items))) bodies known_a))
+          (subst (λ ks. AllByRecursion (KnownIn ks) (map stmt_shape (statements_of b.body))) keys (subst (AllByRecursion (KnownIn (keys_of a.interface.vars.items))) bodies known_a));
     }
 
 -- the literals of what is spelled are TRUE and FALSE
@@ -150,7 +150,7 @@ block_of_bool file text block r =
     let s = r.read.spelled in
     record {
       vars = bool_vars block.interface.vars.items (variables_bool text (map var_shape block.interface.vars.items) s.vars s.declares);
-      truths = all_truths text (statements_of block.body) s.body (subst (λ b. SpellsStatements text b s.body) (body-shape block.body) s.states)
+      truths = all_truths text (statements_of block.body) s.body (subst (λ b. SpellsStatements text b s.body) (body-shape block.body) s.states);
     }
 
 pub expression_of_bool : (file : ℕ) (text : List ℕ) (e : Expr) → ReadsExpression file text (expr_shape e) → HasTruths e

@@ -1,21 +1,20 @@
 -- Statements: what spells them is read as them, and what is read is spelled so.
-use Rattle.std.proofs.Common.{◌≡◌, ◌⊎◌, inl, inr, ℕ, zero, suc, ◌+◌, ◌<◌, ◌≤◌, Bool, true, false, ◌&&◌, List, [], ◌∷◌, ◌++◌, length, Option, Some, None, refl, sym, ap, subst, ◌∙◌, arith, append_assoc, length-append}
+use Rattle.std.proofs.Common.{◌≡◌, inl, inr, ℕ, zero, suc, ◌<◌, ◌≤◌, Bool, true, false, ◌&&◌, List, [], ◌∷◌, ◌++◌, length, Option, Some, None, refl, sym, ap, subst, ◌∙◌, arith, append_assoc, length-append}
 use Rattle.std.specs.Option.{option_map, option_and_then}
 use Rattle.std.specs.List.{AllByRecursion}
 use Rattle.std.proofs.lemmas.Option.{option_and_then_some, cond_some}
 use Rattle.std.proofs.lemmas.Bool.{cond-true, cond-false, false≢true}
 use Rattle.std.proofs.lemmas.List.{append-nil}
-use Rattle.pv_tree.specs.declared.place.Place.{Place}
 use Rattle.pv_tree.specs.declared.words.Word.TheVariants as word
 use Rattle.pv_tree.specs.declared.lex.Kind.{Kind}
 use Rattle.pv_tree.specs.declared.lex.Kind.TheVariants as kind
 use Rattle.pv_tree.specs.declared.lex.Token.{Token}
 use Rattle.pv_tree.specs.declared.tree.BinaryOp.{BinaryOp}
 use Rattle.pv_tree.specs.declared.tree.BinaryOp.TheVariants.{And, Or}
-use Rattle.pv_tree.specs.Shape.{ExprShape, StmtShape, assign}
+use Rattle.pv_tree.specs.Shape.{StmtShape, assign}
 use Rattle.pv_tree.specs.Expressions.{word_operand, levels}
 use Rattle.pv_tree.specs.Statements.{SpellsStatement, SpellsStatements, IsWellFormedStatement, statement_levels, most_levels}
-use Rattle.pv_tree.specs.Readers.{FoundExpr, Stops, is_sign, readers, is_word, is_assign, is_semicolon, behind_semicolon, Target, target, target_in, assigned, assignment_in, begins_statement, FoundStmt, found_stmt, FoundStmts, found_stmts, with_stmt, statements_in}
+use Rattle.pv_tree.specs.Readers.{FoundExpr, is_sign, readers, is_word, is_assign, is_semicolon, behind_semicolon, Target, target, assigned, assignment_in, begins_statement, FoundStmt, found_stmt, FoundStmts, found_stmts, with_stmt, statements_in}
 use Rattle.pv_tree.proofs.Chains.{chain-stops}
 use Rattle.pv_tree.proofs.ExpressionsComplete.{reads}
 use Rattle.pv_tree.proofs.ExpressionsSound.{sound, chosen, none_some, some_same, option_map_found}

@@ -1,6 +1,6 @@
 -- Sections of declared variables: which tokens spell them. Variables that follow each other may share a declaration
 -- and a section, and a section may have none.
-use Rattle.std.specs.Prelude.{◌≡◌, ℕ, List, [], ◌∷◌, ◌++◌, Option, None}
+use Rattle.std.specs.Prelude.{◌≡◌, ℕ, List, [], ◌∷◌, ◌++◌, None}
 use Rattle.std.specs.List.{flat_map}
 use Rattle.pv_word.specs.declared.types.Ty.TheVariants.{Bool as BoolType}
 use Rattle.pv_tree.specs.declared.words.Word.TheVariants as word

@@ -1,6 +1,6 @@
 -- Readers of lists of tokens: what stands at the front of the tokens, and the tokens behind it, or nothing where nothing
 -- of the kind stands there. Private contracts say that the code computes these; no public contract cites them.
-use Rattle.std.specs.Prelude.{◌≡◌, ℕ, ℤ, zero, suc, pos, ◌+◌, max, nat_lt, Bool, true, false, ◌&&◌, length, List, [], ◌∷◌, ◌++◌, Option, Some, None, Result, Ok, Err, if◌then◌else◌}
+use Rattle.std.specs.Prelude.{◌≡◌, ℕ, zero, suc, pos, ◌+◌, max, nat_lt, Bool, true, false, ◌&&◌, length, List, [], ◌∷◌, ◌++◌, Option, Some, None, Result, Ok, Err, if◌then◌else◌}
 use Rattle.std.specs.Option.{option_map, option_and_then}
 use Rattle.pv_word.specs.declared.types.Ty.TheVariants.{Bool as BoolType}
 use Rattle.pv_tree.specs.declared.fault.ReadFault.{ReadFault}
@@ -23,7 +23,6 @@ use Rattle.pv_tree.specs.declared.tree.BlockKind.TheVariants.{Fb}
 use Rattle.pv_tree.specs.declared.tree.UnaryOp.TheVariants.{Not}
 use Rattle.pv_tree.specs.declared.tree.BinaryOp.{BinaryOp}
 use Rattle.pv_tree.specs.declared.tree.BinaryOp.TheVariants.{And, Or}
-use Rattle.pv_tree.specs.declared.tree.Section.{Section}
 use Rattle.pv_tree.specs.declared.tree.Section.TheVariants.{Input, Output, Static}
 use Rattle.pv_tree.specs.Shape.{ExprShape, lit, read, unary, binary, paren, StmtShape, assign, VarShape, BlockShape}
 use Rattle.pv_tree.specs.Expressions.{text_of, plain_name, word_operand}

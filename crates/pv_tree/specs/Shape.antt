@@ -1,6 +1,6 @@
 -- Trees as plain data: what a tree says and keeps, without where it lies in memory. Two trees are the same where
 -- these are equal.
-use Rattle.std.specs.Prelude.{ℕ, ℤ, List, map, Option}
+use Rattle.std.specs.Prelude.{ℤ, List, map, Option}
 use Rattle.pv_word.specs.declared.types.Ty.{Ty}
 use Rattle.pv_tree.specs.declared.place.Place.{Place}
 use Rattle.pv_tree.specs.declared.name.Name.{Name}

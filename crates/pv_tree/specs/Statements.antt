@@ -1,5 +1,5 @@
 -- Statements of SCL: which tokens spell them, which are well formed, and how deep they nest.
-use Rattle.std.specs.Prelude.{◌≡◌, ℕ, ◌+◌, ◌≤◌, List, [], ◌∷◌, ◌++◌}
+use Rattle.std.specs.Prelude.{◌≡◌, ℕ, ◌+◌, List, [], ◌∷◌, ◌++◌}
 use Rattle.pv_tree.specs.declared.words.Word.TheVariants as word
 use Rattle.pv_tree.specs.declared.lex.Kind.TheVariants as kind
 use Rattle.pv_tree.specs.declared.lex.Token.{Token}

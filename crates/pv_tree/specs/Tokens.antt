@@ -19,11 +19,11 @@ is_letter b = is_ascii_alphabetic b || b == 95
 abbrev pub is_word_byte : ℕ → Bool
 is_word_byte b = is_ascii_alphanumeric b || b == 95
 
--- I, Q or M: the area of an address
+-- I, Q or M in either case: the area of an address
 abbrev pub is_area : ℕ → Bool
 is_area b = b == 73 || b == 105 || b == 81 || b == 113 || b == 77 || b == 109
 
--- B, W or D: the width of an address
+-- B, W or D in either case: the width of an address
 abbrev pub is_width : ℕ → Bool
 is_width b = b == 66 || b == 98 || b == 87 || b == 119 || b == 68 || b == 100
 
@@ -118,3 +118,7 @@ pub data AreTokensFrom (file : ℕ) : ℕ → List ℕ → List Token → Type 0
 -- the tokens of the whole text of this file, End at its end
 abbrev pub AreTokens : ℕ → List ℕ → List Token → Type 0
 AreTokens file text tokens = AreTokensFrom file 0 text tokens
+
+-- a token of this file that lies in a text of this length
+abbrev pub LiesIn : ℕ → ℕ → Token → Type 0
+LiesIn file len token = (token.place.file ≡ file) × (token.place.offset + token.len ≤ len)

@@ -1,14 +1,15 @@
 //! Laws of readings.
-ghost use Rattle.std.specs.Prelude.{◌≡◌, ℕ, List};
+ghost use Rattle.std.specs.Prelude.{◌≡◌, ℕ, List, [], ◌∷◌, ◌++◌, length, All};
 ghost use Rattle.pv_tree.specs.declared.lex.Token.{Token};
 ghost use Rattle.pv_tree.specs.declared.name.Name.{Name};
 ghost use Rattle.pv_tree.specs.declared.tree.Expr.{Expr};
 ghost use Rattle.pv_tree.specs.declared.tree.Block.{Block};
 ghost use Rattle.pv_tree.specs.Shape.{ExprShape, BlockShape, expr_shape, block_shape};
-ghost use Rattle.pv_tree.specs.Tokens.{AreTokens};
 ghost use Rattle.pv_tree.specs.Scope.{IsDeclared, KeepsNames};
 ghost use Rattle.pv_tree.specs.Form.{HasTruths, IsBoolBlock};
 ghost use Rattle.pv_tree.specs.Reading.{ReadsBlock, ReadsExpression, ReadsName};
+ghost use Rattle.pv_tree.specs.declared.lex.Kind.TheVariants.{End};
+ghost use Rattle.pv_tree.specs.Tokens.{AreTokens, LiesIn, token_at};
 
 /// A law: a text has at most one list of tokens.
 pub fn text_determines_tokens()
@@ -33,4 +34,11 @@ pub fn shape_decides_names()
 pub fn readings_are_of_bool()
     ensures block { (file : ℕ) (text : List ℕ) (block : Block) → ReadsBlock file text (block_shape block) → IsBoolBlock block }
     ensures expression { (file : ℕ) (text : List ℕ) (e : Expr) → ReadsExpression file text (expr_shape e) → HasTruths e }
+{}
+
+/// A law: the tokens of a text lie in it, and the last of them is `End` at the text's end.
+pub fn tokens_lie_in_their_text()
+    ensures inside { (file : ℕ) (text : List ℕ) (tokens : List Token) → AreTokens file text tokens → All (LiesIn file (length text)) tokens }
+    ensures last { (file : ℕ) (text : List ℕ) (tokens : List Token) → AreTokens file text tokens
+        → (front : List Token) × (tokens ≡ front ++ token_at file (length text) End 0 ∷ []) }
 {}

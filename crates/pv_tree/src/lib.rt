@@ -17,6 +17,7 @@ mod words;
 pub use fault::ReadFault;
 pub use laws::{
     readings_are_of_bool, shape_decides_names, text_determines_tokens, text_determines_tree,
+    tokens_lie_in_their_text,
 };
 pub use name::Name;
 pub use parse::{read_block, read_expression, read_name};

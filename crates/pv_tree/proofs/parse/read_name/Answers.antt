@@ -1,9 +1,8 @@
-use Rattle.std.proofs.Common.{◌≡◌, sym, subst, refl, arith}
+use Rattle.std.proofs.Common.{sym, subst, arith}
 use Rattle.pv_tree.specs.Tokens.{AreTokens}
-use Rattle.pv_tree.specs.Shape.{block_shape, expr_shape}
-use Rattle.pv_tree.specs.Reading.{ReadsBlock, ReadsExpression, ReadsName}
+use Rattle.pv_tree.specs.Reading.{ReadsName}
 use Rattle.pv_tree.proofs.Exits.{found_by, refused_by}
-use Rattle.pv_tree.proofs.Readings.{block_reads, block_is_read, no_block, expression_reads, expression_is_read, name_reads, name_is_read}
+use Rattle.pv_tree.proofs.Readings.{name_reads, name_is_read}
 use Rattle.pv_tree.proofs.parse.read_name.Goals as goal
 
 pub returns-clause-found : goal.returns-clause-found

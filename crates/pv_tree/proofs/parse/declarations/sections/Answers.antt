@@ -1,9 +1,7 @@
-use Rattle.std.proofs.Common.{◌≡◌, ◌<◌, ◌≤◌, ◌∷◌, [], ◌++◌, length, map, vec_len, sym, ap, ◌∙◌, arith}
+use Rattle.std.proofs.Common.{◌≡◌, ◌<◌, ◌∷◌, [], ◌++◌, length, map, vec_len, sym, ◌∙◌, arith}
 use Rattle.std.proofs.lemmas.List.{map_push, length-map}
-use Rattle.pv_tree.specs.declared.parse.declarations.Step.TheVariants as step
 use Rattle.pv_tree.specs.Shape.{var_shape}
-use Rattle.pv_tree.proofs.Declarations.{Stands, stands_first, stands_to, stands_wrong, stands_full, stands_behind, stands_more, stands_empty}
-use Rattle.pv_tree.proofs.DeclarationsSound.{sections_found}
+use Rattle.pv_tree.proofs.Declarations.{stands_first, stands_to, stands_wrong, stands_full, stands_behind, stands_more, stands_empty}
 use Rattle.pv_tree.proofs.parse.declarations.sections.Goals as goal
 
 pub loop-token-init : goal.loop-token-init

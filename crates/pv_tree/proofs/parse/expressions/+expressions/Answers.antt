@@ -1,4 +1,4 @@
-use Rattle.std.proofs.Common.{◌≡◌, ◌-◌, Option, Some, None, sym, ap, ◌∙◌, arith}
+use Rattle.std.proofs.Common.{◌-◌, Option, Some, sym, ap, ◌∙◌, arith}
 use Rattle.std.specs.Option.{option_map, option_and_then}
 use Rattle.pv_tree.specs.declared.parse.expressions.Start.TheVariants as start
 use Rattle.pv_tree.specs.declared.tree.BinaryOp.TheVariants.{And, Or}

@@ -1,6 +1,6 @@
-use Rattle.std.proofs.Common.{◌≡◌, refl, subst, sym}
+use Rattle.std.proofs.Common.{refl, subst}
 use Rattle.std.proofs.lemmas.Bool.{false≢true}
-use Rattle.pv_tree.proofs.Headers.{HeaderFrom, header_at_first, header_ends, header_here, header_next}
+use Rattle.pv_tree.proofs.Headers.{HeaderFrom, header_at_first, header_ends, header_here}
 use Rattle.pv_tree.proofs.parse.head.has_header_line.Goals as goal
 
 pub returns-then-ends_head : goal.returns-then-ends_head

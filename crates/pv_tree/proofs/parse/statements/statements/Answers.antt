@@ -1,8 +1,7 @@
-use Rattle.std.proofs.Common.{◌≡◌, ◌∷◌, [], ◌++◌, map, sym, subst, true, false}
+use Rattle.std.proofs.Common.{◌≡◌, ◌∷◌, [], ◌++◌, map, sym}
 use Rattle.std.proofs.lemmas.List.{map_push}
 use Rattle.pv_tree.specs.Shape.{stmt_shape}
-use Rattle.pv_tree.specs.Readers.{begins_statement}
-use Rattle.pv_tree.proofs.Statements.{Stands, stands_next, stands_shorter, stands_last, stands_failed}
+use Rattle.pv_tree.proofs.Statements.{stands_next, stands_shorter, stands_last, stands_failed}
 use Rattle.pv_tree.proofs.Exits.{exit, fails_so}
 use Rattle.pv_tree.proofs.parse.statements.statements.Goals as goal
 
