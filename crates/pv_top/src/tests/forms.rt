@@ -91,7 +91,6 @@ fn forms_at_the_edges(rt: HostRuntime) -> Result<(), Fail> {
     sources::levels(alloc, &rt)?;
     sources::invariants(alloc, &rt)?;
     sources::many_variables(alloc, &rt)?;
-    sources::large(alloc, &rt)?;
     cases::whole(alloc, &rt)?;
     cases::members(alloc, &rt)?;
     traces::whole(alloc, &rt)?;

@@ -348,31 +348,3 @@ pub fn many_variables(alloc: Global, rt: &impl Abort) -> Result<(), Fail> {
     }
     Ok(())
 }
-
-/// Sources and invariants of 4,194,304 bytes and of one more, filled with blanks.
-pub fn large(alloc: Global, rt: &impl Abort) -> Result<(), Fail> {
-    for (size, of_large_source, of_large_text) in [
-        (4194304, BROKEN_2, BROKEN_2),
-        (4194305, NO_SOURCE, NO_CASE),
-    ] {
-        let source = padded(alloc, SOURCE, size)?;
-        let (status, taken) = of_source(alloc, source.as_bytes())?;
-        assert_eq!(rt; status, of_large_source.0, "{size}");
-        assert_eq!(rt; taken.as_slice(), of_large_source.1.as_bytes(), "{size}");
-        let invariant = padded(alloc, "NOT q", size)?;
-        let case = case_of(alloc, "Demo", &invariant)?;
-        let (status, taken) = of_case(alloc, case.as_slice())?;
-        assert_eq!(rt; status, of_large_text.0, "{size}");
-        assert_eq!(rt; taken.as_slice(), of_large_text.1.as_bytes(), "{size}");
-    }
-    Ok(())
-}
-
-/// The text with blanks behind it, so many bytes in all.
-fn padded(alloc: Global, text: &str, size: usize) -> Result<String, Fail> {
-    let mut text = String::from_str(alloc, text)?;
-    for _ in text.len()..size {
-        text.push_str(" ")?;
-    }
-    Ok(text)
-}
