@@ -37,6 +37,8 @@ const SOURCE: &str = "FUNCTION_BLOCK Demo VAR_INPUT a, b : BOOL; END_VAR VAR_OUT
 
 const TRACE: &str = "PLCVTRACE 1\nparams\nscan 0 1\nscan 1 0\nend\n";
 
+// Rows with one answer stand in one text, with `|` between them: a long text costs the proof less than a long array.
+
 /// What a replay of these three files says.
 fn replayed(
     alloc: Global,

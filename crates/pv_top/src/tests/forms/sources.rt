@@ -1,6 +1,6 @@
 //! Sources, most of them with the trace TRACE: the inputs `a` and `b` are 0 and 1, then 1 and 0.
 use super::{
-    BROKEN_1, BROKEN_2, KEPT, NO_CASE, NO_SOURCE, NO_TRACE, SOURCE, TRACE, case_of, of_case,
+    BROKEN_1, BROKEN_2, KEPT, NO_CASE, NO_SOURCE, NO_TRACE, SOURCE, TRACE, Want, case_of, of_case,
     of_source, repeated, replayed,
 };
 use std::alloc::Global;
@@ -9,86 +9,51 @@ use std::test::Fail;
 
 /// Whole sources.
 pub fn whole(alloc: Global, rt: &impl Abort) -> Result<(), Fail> {
-    let rows = [
-        (SOURCE, BROKEN_2),
-        ("", NO_SOURCE),
-        (" \t\r\n", NO_SOURCE),
-        (
-            "FUNCTION_BLOCK Demo\r\nVAR_INPUT\r\na, b : BOOL;\r\nEND_VAR\r\nVAR_OUTPUT\r\nq : BOOL;\r\nEND_VAR\r\nBEGIN\r\nq := a;\r\nEND_FUNCTION_BLOCK\r\n",
-            BROKEN_2,
-        ),
-        (
-            "\tFUNCTION_BLOCK\tDemo\tVAR_INPUT\ta\t,\tb\t:\tBOOL\t;\tEND_VAR\u{c}VAR\tq\t:\tBOOL\t;\tEND_VAR\tq\t:=\ta\t;\tEND_FUNCTION_BLOCK\t",
-            BROKEN_2,
-        ),
-        (
-            "FUNCTION_BLOCK Demo\u{b}VAR_INPUT a, b : BOOL; END_VAR VAR q : BOOL; END_VAR q := a; END_FUNCTION_BLOCK",
-            NO_SOURCE,
-        ),
-        (
-            "function_block demo var_input A, B : bool; end_var var_output Q : bool; end_var begin q := a; end_function_block",
-            BROKEN_2,
-        ),
-        (
-            "Function_Block DEMO Var_Input a,b:Bool;End_Var Var q:BOOL;End_Var Q:=A;End_Function_Block",
-            BROKEN_2,
-        ),
-        (
-            "FUNCTION_BLOCK\"Demo\"VAR_INPUT a,b:BOOL;END_VAR VAR q:BOOL;END_VAR q:=a;END_FUNCTION_BLOCK",
-            BROKEN_2,
-        ),
-        // The inputs are those of all sections VAR_INPUT, in the order of the declarations.
-        (
-            "FUNCTION_BLOCK Demo VAR_INPUT b : BOOL; END_VAR VAR q : BOOL; END_VAR VAR_INPUT a : BOOL; END_VAR q := b; END_FUNCTION_BLOCK",
-            BROKEN_2,
-        ),
-        // Without an input each line of the trace has too many values.
-        (
-            "FUNCTION_BLOCK Demo VAR q : BOOL; END_VAR q := q; END_FUNCTION_BLOCK",
-            NO_TRACE,
-        ),
-        (
-            "FUNCTION_BLOCK Demo BEGIN END_FUNCTION_BLOCK",
-            NO_SOURCE,
-        ),
-        (
-            "FUNCTION_BLOCK VAR_INPUT a, b : BOOL; END_VAR VAR q : BOOL; END_VAR END_FUNCTION_BLOCK",
-            NO_SOURCE,
-        ),
-        (
-            "FUNCTION_BLOCK Demo VAR_INPUT a, b : BOOL; END_VAR VAR q : BOOL; END_VAR q := a;",
-            NO_SOURCE,
-        ),
-        (
-            "FUNCTION_BLOCK Demo VAR_INPUT a, b : BOOL; END_VAR VAR q : BOOL; END_VAR END_FUNCTION_BLOCK;",
-            NO_SOURCE,
-        ),
-        (
-            "FUNCTION_BLOCK Demo VAR_INPUT a, b : BOOL; END_VAR VAR q : BOOL; END_VAR END_FUNCTION_BLOCK FUNCTION_BLOCK x END_FUNCTION_BLOCK",
-            NO_SOURCE,
-        ),
-        (
-            "FUNCTION_BLOCK Demo VAR_INPUT a, b : BOOL; END_VAR VAR q : BOOL; END_VAR END_FUNCTION",
-            NO_SOURCE,
-        ),
-        (
-            "FUNCTION Demo VAR_INPUT a, b : BOOL; END_VAR VAR q : BOOL; END_VAR END_FUNCTION",
-            NO_SOURCE,
-        ),
-        (
-            "FUNCTION_BLOCK Demo\nTITLE = demo\nVAR_INPUT a, b : BOOL; END_VAR VAR q : BOOL; END_VAR END_FUNCTION_BLOCK",
-            NO_SOURCE,
-        ),
-        (
-            "FUNCTION_BLOCK Demo { S7_optimized := 'TRUE' } VAR_INPUT a, b : BOOL; END_VAR VAR q : BOOL; END_VAR END_FUNCTION_BLOCK",
-            NO_SOURCE,
-        ),
-        (
-            "\u{feff}FUNCTION_BLOCK Demo VAR_INPUT a, b : BOOL; END_VAR VAR q : BOOL; END_VAR END_FUNCTION_BLOCK",
-            NO_SOURCE,
-        ),
-    ];
-    for (source, want) in rows {
+    check_whole(alloc, rt, SOURCE, BROKEN_2)?;
+    check_whole(
+        alloc,
+        rt,
+        "|\
+        \u{20}\t\r\n|\
+        FUNCTION_BLOCK Demo\u{b}VAR_INPUT a, b : BOOL; END_VAR VAR q : BOOL; END_VAR q := a; END_FUNCTION_BLOCK|\
+        FUNCTION_BLOCK Demo BEGIN END_FUNCTION_BLOCK|\
+        FUNCTION_BLOCK VAR_INPUT a, b : BOOL; END_VAR VAR q : BOOL; END_VAR END_FUNCTION_BLOCK|\
+        FUNCTION_BLOCK Demo VAR_INPUT a, b : BOOL; END_VAR VAR q : BOOL; END_VAR q := a;|\
+        FUNCTION_BLOCK Demo VAR_INPUT a, b : BOOL; END_VAR VAR q : BOOL; END_VAR END_FUNCTION_BLOCK;|\
+        FUNCTION_BLOCK Demo VAR_INPUT a, b : BOOL; END_VAR VAR q : BOOL; END_VAR END_FUNCTION_BLOCK FUNCTION_BLOCK x END_FUNCTION_BLOCK|\
+        FUNCTION_BLOCK Demo VAR_INPUT a, b : BOOL; END_VAR VAR q : BOOL; END_VAR END_FUNCTION|\
+        FUNCTION Demo VAR_INPUT a, b : BOOL; END_VAR VAR q : BOOL; END_VAR END_FUNCTION|\
+        FUNCTION_BLOCK Demo\nTITLE = demo\nVAR_INPUT a, b : BOOL; END_VAR VAR q : BOOL; END_VAR END_FUNCTION_BLOCK|\
+        FUNCTION_BLOCK Demo { S7_optimized := 'TRUE' } VAR_INPUT a, b : BOOL; END_VAR VAR q : BOOL; END_VAR END_FUNCTION_BLOCK|\
+        \u{feff}FUNCTION_BLOCK Demo VAR_INPUT a, b : BOOL; END_VAR VAR q : BOOL; END_VAR END_FUNCTION_BLOCK",
+        NO_SOURCE,
+    )?;
+    check_whole(
+        alloc,
+        rt,
+        "FUNCTION_BLOCK Demo\r\nVAR_INPUT\r\na, b : BOOL;\r\nEND_VAR\r\nVAR_OUTPUT\r\nq : BOOL;\r\nEND_VAR\r\nBEGIN\r\nq := a;\r\nEND_FUNCTION_BLOCK\r\n|\
+        \tFUNCTION_BLOCK\tDemo\tVAR_INPUT\ta\t,\tb\t:\tBOOL\t;\tEND_VAR\u{c}VAR\tq\t:\tBOOL\t;\tEND_VAR\tq\t:=\ta\t;\tEND_FUNCTION_BLOCK\t|\
+        function_block demo var_input A, B : bool; end_var var_output Q : bool; end_var begin q := a; end_function_block|\
+        Function_Block DEMO Var_Input a,b:Bool;End_Var Var q:BOOL;End_Var Q:=A;End_Function_Block|\
+        FUNCTION_BLOCK\"Demo\"VAR_INPUT a,b:BOOL;END_VAR VAR q:BOOL;END_VAR q:=a;END_FUNCTION_BLOCK|\
+        FUNCTION_BLOCK Demo VAR_INPUT b : BOOL; END_VAR VAR q : BOOL; END_VAR VAR_INPUT a : BOOL; END_VAR q := b; END_FUNCTION_BLOCK",
+        BROKEN_2,
+    )?;
+    check_whole(
+        alloc,
+        rt,
+        "FUNCTION_BLOCK Demo VAR q : BOOL; END_VAR q := q; END_FUNCTION_BLOCK",
+        NO_TRACE,
+    )
+}
+
+fn check_whole(
+    alloc: Global,
+    rt: &impl Abort,
+    sources: &str,
+    want: Want,
+) -> Result<(), Fail> {
+    for source in sources.split('|') {
         let (status, taken) = of_source(alloc, source.as_bytes())?;
         assert_eq!(rt; status, want.0, "{source}");
         assert_eq!(rt; taken.as_slice(), want.1.as_bytes(), "{source}");
@@ -100,60 +65,86 @@ const HEAD: &str = "FUNCTION_BLOCK Demo VAR_INPUT a, b : BOOL; END_VAR VAR_OUTPU
 
 /// Bodies behind HEAD.
 pub fn bodies(alloc: Global, rt: &impl Abort) -> Result<(), Fail> {
-    let rows = [
-        ("", KEPT),
-        ("q := a;", BROKEN_2),
-        ("Q:=A;", BROKEN_2),
-        ("q := TRUE;", BROKEN_1),
-        ("q := false;", KEPT),
-        ("q := NOT a AND FALSE;", KEPT),
-        ("q := NOT (a AND FALSE);", BROKEN_1),
-        ("q := b OR b AND FALSE;", BROKEN_1),
-        ("q := (b OR b) AND FALSE;", KEPT),
-        ("q := FALSE AND b OR b;", BROKEN_1),
-        ("q := a & NOT (b OR FALSE) and TRUE;", BROKEN_2),
-        ("q := NOT NOT a;", BROKEN_2),
-        ("q := s; s := b;", BROKEN_2),
-        ("s := b; q := s;", BROKEN_1),
-        ("b := FALSE; q := b;", KEPT),
-        ("q := q OR a; s := NOT q; q := NOT s AND b;", KEPT),
-        ("q := x;", NO_SOURCE),
-        ("x := a;", NO_SOURCE),
-        ("demo := a;", NO_SOURCE),
-        ("q := a", NO_SOURCE),
-        ("q := a;;", NO_SOURCE),
-        (";", NO_SOURCE),
-        ("BEGIN q := a;", NO_SOURCE),
-        ("q = a;", NO_SOURCE),
-        ("q : = a;", NO_SOURCE),
-        ("q := ;", NO_SOURCE),
-        ("q := a b;", NO_SOURCE),
-        ("q := a OR;", NO_SOURCE),
-        ("q := AND a;", NO_SOURCE),
-        ("q := a NOT b;", NO_SOURCE),
-        ("q := (a;", NO_SOURCE),
-        ("q := a);", NO_SOURCE),
-        ("q := ();", NO_SOURCE),
-        ("q := a XOR b;", NO_SOURCE),
-        ("q := a = b;", NO_SOURCE),
-        ("q := a := b;", NO_SOURCE),
-        ("q, s := a;", NO_SOURCE),
-        ("NOT q := a;", NO_SOURCE),
-        ("q := 1;", NO_SOURCE),
-        ("q := BOOL#1;", NO_SOURCE),
-        ("q := I0.0;", NO_SOURCE),
-        ("q := IW1;", NO_SOURCE),
-        ("#q := a;", NO_SOURCE),
-        ("q := #a;", NO_SOURCE),
-        ("\"q\" := a;", NO_SOURCE),
-        ("q := \"a\";", NO_SOURCE),
-        ("q := a\u{208};", NO_SOURCE),
-        ("q := a; // scan", NO_SOURCE),
-        ("q := a; (* scan *)", NO_SOURCE),
-        ("IF a THEN q := a; END_IF;", NO_SOURCE),
-        ("q := a; RETURN;", NO_SOURCE),
-    ];
-    for (body, want) in rows {
+    check_bodies(
+        alloc,
+        rt,
+        "|\
+        q := false;|\
+        q := NOT a AND FALSE;|\
+        q := (b OR b) AND FALSE;|\
+        b := FALSE; q := b;|\
+        q := q OR a; s := NOT q; q := NOT s AND b;",
+        KEPT,
+    )?;
+    check_bodies(
+        alloc,
+        rt,
+        "q := a;|\
+        Q:=A;|\
+        q := a & NOT (b OR FALSE) and TRUE;|\
+        q := NOT NOT a;|\
+        q := s; s := b;",
+        BROKEN_2,
+    )?;
+    check_bodies(
+        alloc,
+        rt,
+        "q := TRUE;|\
+        q := NOT (a AND FALSE);|\
+        q := b OR b AND FALSE;|\
+        q := FALSE AND b OR b;|\
+        s := b; q := s;",
+        BROKEN_1,
+    )?;
+    check_bodies(
+        alloc,
+        rt,
+        "q := x;|\
+        x := a;|\
+        demo := a;|\
+        q := a|\
+        q := a;;|\
+        ;|\
+        BEGIN q := a;|\
+        q = a;|\
+        q : = a;|\
+        q := ;|\
+        q := a b;|\
+        q := a OR;|\
+        q := AND a;|\
+        q := a NOT b;|\
+        q := (a;|\
+        q := a);|\
+        q := ();|\
+        q := a XOR b;|\
+        q := a = b;|\
+        q := a := b;|\
+        q, s := a;|\
+        NOT q := a;|\
+        q := 1;|\
+        q := BOOL#1;|\
+        q := I0.0;|\
+        q := IW1;|\
+        #q := a;|\
+        q := #a;|\
+        \"q\" := a;|\
+        q := \"a\";|\
+        q := a\u{208};|\
+        q := a; // scan|\
+        q := a; (* scan *)|\
+        IF a THEN q := a; END_IF;|\
+        q := a; RETURN;",
+        NO_SOURCE,
+    )
+}
+
+fn check_bodies(
+    alloc: Global,
+    rt: &impl Abort,
+    bodies: &str,
+    want: Want,
+) -> Result<(), Fail> {
+    for body in bodies.split('|') {
         let source = repeated(alloc, HEAD, body, 1, " END_FUNCTION_BLOCK")?;
         let (status, taken) = of_source(alloc, source.as_slice())?;
         assert_eq!(rt; status, want.0, "{body}");
@@ -166,44 +157,65 @@ const FRONT: &str = "FUNCTION_BLOCK Demo VAR_INPUT a, b : BOOL; END_VAR VAR_OUTP
 
 /// Declarations behind FRONT, with or without a body.
 pub fn declarations(alloc: Global, rt: &impl Abort) -> Result<(), Fail> {
-    let rows = [
-        ("VAR END_VAR q := a;", BROKEN_2),
-        ("VAR x, y : BOOL; z : BOOL; END_VAR VAR w : BOOL; END_VAR VAR_OUTPUT v : BOOL; END_VAR q := a;", BROKEN_2),
-        ("VAR IW1x, I1, IW, FB1x, FB1_0, RET_VAL, BOOL_TO_INT, Title, _x, x__y : BOOL; END_VAR IW1x := a; q := iw1X;", BROKEN_2),
-        ("VAR_INPUT c : BOOL; END_VAR", NO_TRACE),
-        ("VAR A : BOOL; END_VAR", NO_SOURCE),
-        ("VAR q : BOOL; END_VAR", NO_SOURCE),
-        ("VAR x, X : BOOL; END_VAR", NO_SOURCE),
-        ("VAR x : BOOL END_VAR", NO_SOURCE),
-        ("VAR x BOOL; END_VAR", NO_SOURCE),
-        ("VAR x, : BOOL; END_VAR", NO_SOURCE),
-        ("VAR x y : BOOL; END_VAR", NO_SOURCE),
-        ("VAR : BOOL; END_VAR", NO_SOURCE),
-        ("VAR x : BOOL;; END_VAR", NO_SOURCE),
-        ("VAR x : BOOL;", NO_SOURCE),
-        ("VAR x : BOOL; END_VAR;", NO_SOURCE),
-        ("END_VAR", NO_SOURCE),
-        ("VAR x : INT; END_VAR", NO_SOURCE),
-        ("VAR x : ARRAY [0..1] OF BOOL; END_VAR", NO_SOURCE),
-        ("VAR x : BOOL := FALSE; END_VAR", NO_SOURCE),
-        ("VAR_TEMP x : BOOL; END_VAR", NO_SOURCE),
-        ("VAR_IN_OUT x : BOOL; END_VAR", NO_SOURCE),
-        ("CONST x := TRUE; END_CONST", NO_SOURCE),
-        ("BEGIN VAR x : BOOL; END_VAR", NO_SOURCE),
-        ("VAR \"x\" : BOOL; END_VAR", NO_SOURCE),
-        ("VAR x\u{208} : BOOL; END_VAR", NO_SOURCE),
-        ("VAR 1x : BOOL; END_VAR", NO_SOURCE),
-        ("VAR of : BOOL; END_VAR", NO_SOURCE),
-        ("VAR Network : BOOL; END_VAR", NO_SOURCE),
-        ("VAR mod : BOOL; END_VAR", NO_SOURCE),
-        ("VAR Abs : BOOL; END_VAR", NO_SOURCE),
-        ("VAR real : BOOL; END_VAR", NO_SOURCE),
-        ("VAR IW1 : BOOL; END_VAR", NO_SOURCE),
-        ("VAR ib 0 : BOOL; END_VAR", NO_SOURCE),
-        ("VAR FB1 : BOOL; END_VAR", NO_SOURCE),
-        ("VAR db 7 : BOOL; END_VAR", NO_SOURCE),
-    ];
-    for (vars, want) in rows {
+    check_declarations(
+        alloc,
+        rt,
+        "VAR END_VAR q := a;|\
+        VAR x, y : BOOL; z : BOOL; END_VAR VAR w : BOOL; END_VAR VAR_OUTPUT v : BOOL; END_VAR q := a;|\
+        VAR IW1x, I1, IW, FB1x, FB1_0, RET_VAL, BOOL_TO_INT, Title, _x, x__y : BOOL; END_VAR IW1x := a; q := iw1X;",
+        BROKEN_2,
+    )?;
+    check_declarations(
+        alloc,
+        rt,
+        "VAR_INPUT c : BOOL; END_VAR",
+        NO_TRACE,
+    )?;
+    check_declarations(
+        alloc,
+        rt,
+        "VAR A : BOOL; END_VAR|\
+        VAR q : BOOL; END_VAR|\
+        VAR x, X : BOOL; END_VAR|\
+        VAR x : BOOL END_VAR|\
+        VAR x BOOL; END_VAR|\
+        VAR x, : BOOL; END_VAR|\
+        VAR x y : BOOL; END_VAR|\
+        VAR : BOOL; END_VAR|\
+        VAR x : BOOL;; END_VAR|\
+        VAR x : BOOL;|\
+        VAR x : BOOL; END_VAR;|\
+        END_VAR|\
+        VAR x : INT; END_VAR|\
+        VAR x : ARRAY [0..1] OF BOOL; END_VAR|\
+        VAR x : BOOL := FALSE; END_VAR|\
+        VAR_TEMP x : BOOL; END_VAR|\
+        VAR_IN_OUT x : BOOL; END_VAR|\
+        CONST x := TRUE; END_CONST|\
+        BEGIN VAR x : BOOL; END_VAR|\
+        VAR \"x\" : BOOL; END_VAR|\
+        VAR x\u{208} : BOOL; END_VAR|\
+        VAR 1x : BOOL; END_VAR|\
+        VAR of : BOOL; END_VAR|\
+        VAR Network : BOOL; END_VAR|\
+        VAR mod : BOOL; END_VAR|\
+        VAR Abs : BOOL; END_VAR|\
+        VAR real : BOOL; END_VAR|\
+        VAR IW1 : BOOL; END_VAR|\
+        VAR ib 0 : BOOL; END_VAR|\
+        VAR FB1 : BOOL; END_VAR|\
+        VAR db 7 : BOOL; END_VAR",
+        NO_SOURCE,
+    )
+}
+
+fn check_declarations(
+    alloc: Global,
+    rt: &impl Abort,
+    rows: &str,
+    want: Want,
+) -> Result<(), Fail> {
+    for vars in rows.split('|') {
         let source = repeated(alloc, FRONT, vars, 1, " END_FUNCTION_BLOCK")?;
         let (status, taken) = of_source(alloc, source.as_slice())?;
         assert_eq!(rt; status, want.0, "{vars}");
