@@ -1,8 +1,11 @@
-//! The command `replay` from end to end, over files and a sink in memory.
+//! The commands from end to end, over files and a sink in memory. What is expected was worked out by hand from the rules.
 use crate::{Status, run};
 use pv_edge::{MemFiles, MemSink, Text, text};
 use std::alloc::{AllocError, Global};
-use std::test::Fail;
+
+mod forms;
+mod recheck;
+mod replay;
 
 const DEMO: &str = "FUNCTION_BLOCK Demo
 VAR_INPUT start, stop : BOOL; END_VAR
@@ -14,43 +17,23 @@ run := (start OR run) AND NOT stop;
 END_FUNCTION_BLOCK
 ";
 
-const COUNTER: &str = "FUNCTION_BLOCK Demo
-
-
-VAR n : INT; END_VAR
-
-BEGIN
-IF n < 100 THEN n := n + 1; END_IF;
-END_FUNCTION_BLOCK
-";
-
-const NO_SCANS: &str = "PLCVTRACE 1\nparams\nend\n";
-
 const PUSHED: &str = "PLCVTRACE 1\nparams\nscan 0 0\nscan 1 0\nend\n";
 
-/// The three files of a replay.
-fn files(
-    alloc: Global,
-    source: &str,
-    invariant: &str,
-    trace: &str,
-) -> Result<MemFiles, AllocError> {
+/// A case with this entry and this invariant, as they stand in its text.
+fn case_of(alloc: Global, entry: &str, invariant: &str) -> Result<Vec<u8>, AllocError> {
     let case = format!(in alloc;
-        "{{\"version\": 1, \"name\": \"t\", \"sources\": [{{\"file\": \"a.scl\", \"language\": \"scl\"}}], \"entry\": \"Demo\", \"pattern\": {{\"kind\": \"invariant\", \"a\": \"{invariant}\"}}, \"loopBound\": 16, \"depth\": 3, \"lemmas\": 100000, \"regionWords\": 1000000, \"reduce\": []}}"
+        "{{\"version\": 1, \"name\": \"t\", \"sources\": [{{\"file\": \"a.scl\", \"language\": \"scl\"}}], \"entry\": \"{entry}\", \"pattern\": {{\"kind\": \"invariant\", \"a\": \"{invariant}\"}}, \"loopBound\": 16, \"depth\": 3, \"lemmas\": 100000, \"regionWords\": 1000000, \"reduce\": []}}"
     )?;
+    Vec::from_slice(alloc, case.as_bytes())
+}
+
+/// Files of these names and bytes.
+fn files_of(alloc: Global, held: &[(&str, &[u8])]) -> Result<MemFiles, AllocError> {
     let mut files = Vec::new(alloc);
-    files.push((
-        text(alloc, b"c.json")?,
-        Vec::from_slice(alloc, case.as_bytes())?,
-    ))?;
-    files.push((
-        text(alloc, b"a.scl")?,
-        Vec::from_slice(alloc, source.as_bytes())?,
-    ))?;
-    files.push((
-        text(alloc, b"t.txt")?,
-        Vec::from_slice(alloc, trace.as_bytes())?,
-    ))?;
+    for (name, bytes) in held {
+        let name = text(alloc, name.as_bytes())?;
+        files.push((name, Vec::from_slice(alloc, bytes)?))?;
+    }
     Ok(MemFiles {
         files,
         calls: 0,
@@ -85,86 +68,14 @@ fn status_of(
     Ok(run(alloc, &list, files, out, &mut kept))
 }
 
-const REPLAY: [&str; 3] = ["replay", "c.json", "t.txt"];
-
-#[test]
-fn worked_rows(rt: HostRuntime) -> Result<(), Fail> {
-    let alloc = rt.alloc();
-    let rows = [
-        (
-            DEMO,
-            "NOT (run AND stop)",
-            NO_SCANS,
-            0,
-            "PLCV 1\ncase t\npattern invariant\nreplay kept\nscans 0\n",
-        ),
-        (
-            DEMO,
-            "NOT run",
-            PUSHED,
-            1,
-            "PLCV 1\ncase t\npattern invariant\nreplay broken\nscan 2\ncause pattern\n",
-        ),
-        (
-            DEMO,
-            "NOT (run AND stop)",
-            PUSHED,
-            0,
-            "PLCV 1\ncase t\npattern invariant\nreplay kept\nscans 2\n",
-        ),
-        (COUNTER, "NOT run", PUSHED, 3, "plcv: form a.scl\n"),
-        (DEMO, "NOT walk", PUSHED, 3, "plcv: form a.scl\n"),
-        (
-            DEMO,
-            "NOT run",
-            "PLCVTRACE 1\nparams\nscan 0\nend\n",
-            8,
-            "plcv: form t.txt\n",
-        ),
-        (DEMO, "NOT run\\", PUSHED, 4, "plcv: form c.json\n"),
-    ];
-    for (source, invariant, trace, status, line) in rows {
-        let mut files = files(alloc, source, invariant, trace)?;
-        let mut out = sink(alloc, 5);
-        assert_eq!(rt; status_of(alloc, &REPLAY, &mut files, &mut out)?, status);
-        assert_eq!(rt; out.taken.as_slice(), line.as_bytes());
-    }
-    Ok(())
-}
-
-#[test]
-fn other_words(rt: HostRuntime) -> Result<(), Fail> {
-    let alloc = rt.alloc();
-    let mut files = files(alloc, DEMO, "NOT run", PUSHED)?;
-    let mut out = sink(alloc, 100);
-    assert_eq!(rt; status_of(alloc, &[], &mut files, &mut out)?, 5);
-    assert_eq!(rt; out.taken.as_slice(), b"plcv: words\n".as_slice());
-    assert_eq!(rt; status_of(alloc, &["--help"], &mut files, &mut out)?, 5);
-    Ok(())
-}
-
-#[test]
-fn failing_reads_and_writes(rt: HostRuntime) -> Result<(), Fail> {
-    let alloc = rt.alloc();
-    let lines = [
-        (1, "plcv: read c.json\n"),
-        (2, "plcv: read a.scl\n"),
-        (3, "plcv: read t.txt\n"),
-    ];
-    for (call, line) in lines {
-        let mut files = files(alloc, DEMO, "NOT run", PUSHED)?;
-        files.fail_at.push(call)?;
-        let mut out = sink(alloc, 100);
-        assert_eq!(rt; status_of(alloc, &REPLAY, &mut files, &mut out)?, 6);
-        assert_eq!(rt; out.taken.as_slice(), line.as_bytes());
-    }
-    let report = b"PLCV 1\ncase t\npattern invariant\nreplay broken\nscan 2\ncause pattern\n";
-    for taken in 0..report.len() {
-        let mut files = files(alloc, DEMO, "NOT run", PUSHED)?;
-        let mut out = sink(alloc, 1);
-        out.fail_at.push(taken as u64 + 1)?;
-        assert_eq!(rt; status_of(alloc, &REPLAY, &mut files, &mut out)?, 7);
-        assert_eq!(rt; out.taken.as_slice(), &report[..taken]);
-    }
-    Ok(())
+/// The status and the whole output of the words over these files.
+fn said(
+    alloc: Global,
+    words: &[&str],
+    held: &[(&str, &[u8])],
+) -> Result<(Status, Vec<u8>), AllocError> {
+    let mut files = files_of(alloc, held)?;
+    let mut out = sink(alloc, 5);
+    let status = status_of(alloc, words, &mut files, &mut out)?;
+    Ok((status, out.taken))
 }
