@@ -68,13 +68,23 @@ fn status_of(
     Ok(run(alloc, &list, files, out, &mut kept))
 }
 
+/// The case and its source, and one file more.
+fn files_with(
+    alloc: Global,
+    case: &[u8],
+    source: &[u8],
+    name: &str,
+    bytes: &[u8],
+) -> Result<MemFiles, AllocError> {
+    files_of(alloc, &[("c.json", case), ("a.scl", source), (name, bytes)])
+}
+
 /// The status and the whole output of the words over these files.
 fn said(
     alloc: Global,
     words: &[&str],
-    held: &[(&str, &[u8])],
+    mut files: MemFiles,
 ) -> Result<(Status, Vec<u8>), AllocError> {
-    let mut files = files_of(alloc, held)?;
     let mut out = sink(alloc, 5);
     let status = status_of(alloc, words, &mut files, &mut out)?;
     Ok((status, out.taken))

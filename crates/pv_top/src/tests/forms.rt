@@ -1,5 +1,5 @@
 //! Sources, cases and traces at the edges of their forms.
-use super::{case_of, said};
+use super::{case_of, files_with, said};
 use crate::Status;
 use std::alloc::{AllocError, Global};
 use std::process::Abort;
@@ -33,7 +33,8 @@ const NO_CASE: Want = (4, "plcv: form c.json\n");
 const NO_TRACE: Want = (8, "plcv: form t.txt\n");
 
 /// A block of two inputs and one output that breaks the invariant `NOT q` in the second scan of TRACE.
-const SOURCE: &str = "FUNCTION_BLOCK Demo VAR_INPUT a, b : BOOL; END_VAR VAR_OUTPUT q : BOOL; END_VAR BEGIN q := a; END_FUNCTION_BLOCK";
+const SOURCE: &str =
+    "FUNCTION_BLOCK Demo VAR_INPUT a, b : BOOL; END_VAR VAR_OUTPUT q : BOOL; END_VAR BEGIN q := a; END_FUNCTION_BLOCK";
 
 const TRACE: &str = "PLCVTRACE 1\nparams\nscan 0 1\nscan 1 0\nend\n";
 
@@ -46,8 +47,8 @@ fn replayed(
     case: &[u8],
     trace: &[u8],
 ) -> Result<(Status, Vec<u8>), AllocError> {
-    let held = [("c.json", case), ("a.scl", source), ("t.txt", trace)];
-    said(alloc, &["replay", "c.json", "t.txt"], &held)
+    let files = files_with(alloc, case, source, "t.txt", trace)?;
+    said(alloc, &["replay", "c.json", "t.txt"], files)
 }
 
 /// What a replay of this source says, with the invariant `NOT q`.
@@ -102,7 +103,10 @@ fn forms_at_the_edges(rt: HostRuntime) -> Result<(), Fail> {
 
 /// A byte of 200 that isn't part of UTF-8.
 fn single_bytes(alloc: Global, rt: &impl Abort) -> Result<(), Fail> {
-    let (status, taken) = of_source(alloc, b"FUNCTION_BLOCK Demo\xc8 VAR_INPUT a, b : BOOL; END_VAR VAR q : BOOL; END_VAR END_FUNCTION_BLOCK")?;
+    let (status, taken) = of_source(
+        alloc,
+        b"FUNCTION_BLOCK Demo\xc8 VAR_INPUT a, b : BOOL; END_VAR VAR q : BOOL; END_VAR END_FUNCTION_BLOCK",
+    )?;
     assert_eq!(rt; status, NO_SOURCE.0);
     assert_eq!(rt; taken.as_slice(), NO_SOURCE.1.as_bytes());
     let (status, taken) = of_case(alloc, b"\xc8")?;

@@ -1,6 +1,7 @@
 //! The command `recheck`.
-use super::{DEMO, PUSHED, case_of, files_of, said, sink, status_of};
+use super::{DEMO, PUSHED, case_of, files_with, said, sink, status_of};
 use crate::Status;
+use pv_edge::MemFiles;
 use std::alloc::{AllocError, Global};
 use std::test::Fail;
 
@@ -17,6 +18,23 @@ const SATISFIED: (Status, &str) = (
     "PLCV 1\ncase t\npattern invariant\nverdict satisfied\nk 0\n",
 );
 
+/// The three files of a recheck.
+fn files(
+    alloc: Global,
+    source: &str,
+    invariant: &str,
+    certificate: &str,
+) -> Result<MemFiles, AllocError> {
+    let case = case_of(alloc, "Demo", invariant)?;
+    files_with(
+        alloc,
+        case.as_slice(),
+        source.as_bytes(),
+        "k.txt",
+        certificate.as_bytes(),
+    )
+}
+
 /// What a recheck of this certificate says.
 fn rechecked(
     alloc: Global,
@@ -24,13 +42,11 @@ fn rechecked(
     invariant: &str,
     certificate: &str,
 ) -> Result<(Status, Vec<u8>), AllocError> {
-    let case = case_of(alloc, "Demo", invariant)?;
-    let held = [
-        ("c.json", case.as_slice()),
-        ("a.scl", source.as_bytes()),
-        ("k.txt", certificate.as_bytes()),
-    ];
-    said(alloc, &RECHECK, &held)
+    said(
+        alloc,
+        &RECHECK,
+        files(alloc, source, invariant, certificate)?,
+    )
 }
 
 #[test]
@@ -145,7 +161,11 @@ fn rows_of_certificates(rt: HostRuntime) -> Result<(), Fail> {
             PUSHED,
             (8, "plcv: certificate: line 1 NotACertificate\n"),
         ),
-        (INVARIANT, "", (8, "plcv: certificate: line 1 NotACertificate\n")),
+        (
+            INVARIANT,
+            "",
+            (8, "plcv: certificate: line 1 NotACertificate\n"),
+        ),
         ("NOT walk", "", (3, "plcv: form a.scl\n")),
         ("NOT run\\", "", (4, "plcv: form c.json\n")),
     ];
@@ -163,20 +183,16 @@ fn refusals_in_order(rt: HostRuntime) -> Result<(), Fail> {
     let (status, taken) = rechecked(alloc, "", INVARIANT, "")?;
     assert_eq!(rt; status, 3);
     assert_eq!(rt; taken.as_slice(), b"plcv: form a.scl\n".as_slice());
-    let case = case_of(alloc, "Demo", INVARIANT)?;
-    let held = [("c.json", case.as_slice()), ("a.scl", DEMO.as_bytes())];
-    let (status, taken) = said(alloc, &RECHECK, &held)?;
+    let held = files(alloc, DEMO, INVARIANT, CERTIFICATE)?;
+    let (status, taken) = said(alloc, &["recheck", "c.json", "missing.txt"], held)?;
     assert_eq!(rt; status, 6);
-    assert_eq!(rt; taken.as_slice(), b"plcv: read k.txt\n".as_slice());
-    // A certificate is no trace, and a missing source comes before it.
-    let held = [
-        ("c.json", case.as_slice()),
-        ("k.txt", CERTIFICATE.as_bytes()),
-    ];
-    let (status, taken) = said(alloc, &["replay", "c.json", "k.txt"], &held)?;
-    assert_eq!(rt; status, 6);
-    assert_eq!(rt; taken.as_slice(), b"plcv: read a.scl\n".as_slice());
-    let (status, taken) = said(alloc, &["recheck", "c.json"], &held)?;
+    assert_eq!(rt; taken.as_slice(), b"plcv: read missing.txt\n".as_slice());
+    let held = files(alloc, DEMO, INVARIANT, CERTIFICATE)?;
+    let (status, taken) = said(alloc, &["replay", "c.json", "k.txt"], held)?;
+    assert_eq!(rt; status, 8);
+    assert_eq!(rt; taken.as_slice(), b"plcv: form k.txt\n".as_slice());
+    let held = files(alloc, DEMO, INVARIANT, CERTIFICATE)?;
+    let (status, taken) = said(alloc, &["recheck", "c.json"], held)?;
     assert_eq!(rt; status, 5);
     assert_eq!(rt; taken.as_slice(), b"plcv: words\n".as_slice());
     Ok(())
@@ -185,13 +201,7 @@ fn refusals_in_order(rt: HostRuntime) -> Result<(), Fail> {
 #[test]
 fn a_failing_sink(rt: HostRuntime) -> Result<(), Fail> {
     let alloc = rt.alloc();
-    let case = case_of(alloc, "Demo", INVARIANT)?;
-    let held = [
-        ("c.json", case.as_slice()),
-        ("a.scl", DEMO.as_bytes()),
-        ("k.txt", CERTIFICATE.as_bytes()),
-    ];
-    let mut files = files_of(alloc, &held)?;
+    let mut files = files(alloc, DEMO, INVARIANT, CERTIFICATE)?;
     let mut out = sink(alloc, 10);
     out.fail_at.push(3)?;
     assert_eq!(rt; status_of(alloc, &RECHECK, &mut files, &mut out)?, 7);

@@ -1,5 +1,5 @@
 //! The command `replay`.
-use super::{DEMO, PUSHED, case_of, files_of, sink, status_of};
+use super::{DEMO, PUSHED, case_of, files_with, sink, status_of};
 use pv_edge::MemFiles;
 use std::alloc::{AllocError, Global};
 use std::test::Fail;
@@ -24,13 +24,12 @@ fn files(
     trace: &str,
 ) -> Result<MemFiles, AllocError> {
     let case = case_of(alloc, "Demo", invariant)?;
-    files_of(
+    files_with(
         alloc,
-        &[
-            ("c.json", case.as_slice()),
-            ("a.scl", source.as_bytes()),
-            ("t.txt", trace.as_bytes()),
-        ],
+        case.as_slice(),
+        source.as_bytes(),
+        "t.txt",
+        trace.as_bytes(),
     )
 }
 

@@ -28,12 +28,7 @@ pub fn whole(alloc: Global, rt: &impl Abort) -> Result<(), Fail> {
     )
 }
 
-fn check_whole(
-    alloc: Global,
-    rt: &impl Abort,
-    cases: &str,
-    want: Want,
-) -> Result<(), Fail> {
+fn check_whole(alloc: Global, rt: &impl Abort, cases: &str, want: Want) -> Result<(), Fail> {
     for case in cases.split('|') {
         let (status, taken) = of_case(alloc, case.as_bytes())?;
         assert_eq!(rt; status, want.0, "{case}");
@@ -43,7 +38,8 @@ fn check_whole(
 }
 
 /// The ten members, where `depth` is 65 and `version` is 1.
-const MEMBERS: &str = "{\"version\": 1, \"name\": \"t\", \"sources\": [{\"file\": \"a.scl\", \"language\": \"scl\"}], \"entry\": \"Demo\", \"pattern\": {\"kind\": \"invariant\", \"a\": \"NOT q\"}, \"loopBound\": 16, \"depth\": 65, \"lemmas\": 100000, \"regionWords\": 1000000, \"reduce\": []";
+const MEMBERS: &str =
+    "{\"version\": 1, \"name\": \"t\", \"sources\": [{\"file\": \"a.scl\", \"language\": \"scl\"}], \"entry\": \"Demo\", \"pattern\": {\"kind\": \"invariant\", \"a\": \"NOT q\"}, \"loopBound\": 16, \"depth\": 65, \"lemmas\": 100000, \"regionWords\": 1000000, \"reduce\": []";
 
 /// Members that stand a second time behind the ten: the last one counts.
 pub fn members(alloc: Global, rt: &impl Abort) -> Result<(), Fail> {
@@ -116,13 +112,19 @@ pub fn members(alloc: Global, rt: &impl Abort) -> Result<(), Fail> {
         alloc,
         rt,
         ", \"depth\": 3, \"name\": \"Az09_-789012345678901234567890123456789012345678901234567890123\"}",
-        ( 1, "PLCV 1\ncase Az09_-789012345678901234567890123456789012345678901234567890123\npattern invariant\nreplay broken\nscan 2\ncause pattern\n", ),
+        (
+            1,
+            "PLCV 1\ncase Az09_-789012345678901234567890123456789012345678901234567890123\npattern invariant\nreplay broken\nscan 2\ncause pattern\n",
+        ),
     )?;
     check_members(
         alloc,
         rt,
         ", \"depth\": 3, \"name\": \"0123456789012345678901234567890123456789012345678901234567890123\"}",
-        ( 1, "PLCV 1\ncase 0123456789012345678901234567890123456789012345678901234567890123\npattern invariant\nreplay broken\nscan 2\ncause pattern\n", ),
+        (
+            1,
+            "PLCV 1\ncase 0123456789012345678901234567890123456789012345678901234567890123\npattern invariant\nreplay broken\nscan 2\ncause pattern\n",
+        ),
     )?;
     check_members(
         alloc,
@@ -130,20 +132,10 @@ pub fn members(alloc: Global, rt: &impl Abort) -> Result<(), Fail> {
         ", \"depth\": 3, \"sources\": [{\"file\": \"A.scl\", \"language\": \"scl\"}]}",
         (6, "plcv: read A.scl\n"),
     )?;
-    check_members(
-        alloc,
-        rt,
-        ", \"depth\": 3, \"entry\": \"\"}",
-        NO_SOURCE,
-    )
+    check_members(alloc, rt, ", \"depth\": 3, \"entry\": \"\"}", NO_SOURCE)
 }
 
-fn check_members(
-    alloc: Global,
-    rt: &impl Abort,
-    rows: &str,
-    want: Want,
-) -> Result<(), Fail> {
+fn check_members(alloc: Global, rt: &impl Abort, rows: &str, want: Want) -> Result<(), Fail> {
     for back in rows.split('|') {
         let case = repeated(alloc, MEMBERS, "", 0, back)?;
         let (status, taken) = of_case(alloc, case.as_slice())?;

@@ -47,12 +47,7 @@ pub fn whole(alloc: Global, rt: &impl Abort) -> Result<(), Fail> {
     )
 }
 
-fn check_whole(
-    alloc: Global,
-    rt: &impl Abort,
-    sources: &str,
-    want: Want,
-) -> Result<(), Fail> {
+fn check_whole(alloc: Global, rt: &impl Abort, sources: &str, want: Want) -> Result<(), Fail> {
     for source in sources.split('|') {
         let (status, taken) = of_source(alloc, source.as_bytes())?;
         assert_eq!(rt; status, want.0, "{source}");
@@ -61,7 +56,8 @@ fn check_whole(
     Ok(())
 }
 
-const HEAD: &str = "FUNCTION_BLOCK Demo VAR_INPUT a, b : BOOL; END_VAR VAR_OUTPUT q : BOOL; END_VAR VAR s : BOOL; END_VAR BEGIN ";
+const HEAD: &str =
+    "FUNCTION_BLOCK Demo VAR_INPUT a, b : BOOL; END_VAR VAR_OUTPUT q : BOOL; END_VAR VAR s : BOOL; END_VAR BEGIN ";
 
 /// Bodies behind HEAD.
 pub fn bodies(alloc: Global, rt: &impl Abort) -> Result<(), Fail> {
@@ -138,12 +134,7 @@ pub fn bodies(alloc: Global, rt: &impl Abort) -> Result<(), Fail> {
     )
 }
 
-fn check_bodies(
-    alloc: Global,
-    rt: &impl Abort,
-    bodies: &str,
-    want: Want,
-) -> Result<(), Fail> {
+fn check_bodies(alloc: Global, rt: &impl Abort, bodies: &str, want: Want) -> Result<(), Fail> {
     for body in bodies.split('|') {
         let source = repeated(alloc, HEAD, body, 1, " END_FUNCTION_BLOCK")?;
         let (status, taken) = of_source(alloc, source.as_slice())?;
@@ -153,7 +144,8 @@ fn check_bodies(
     Ok(())
 }
 
-const FRONT: &str = "FUNCTION_BLOCK Demo VAR_INPUT a, b : BOOL; END_VAR VAR_OUTPUT q : BOOL; END_VAR ";
+const FRONT: &str =
+    "FUNCTION_BLOCK Demo VAR_INPUT a, b : BOOL; END_VAR VAR_OUTPUT q : BOOL; END_VAR ";
 
 /// Declarations behind FRONT, with or without a body.
 pub fn declarations(alloc: Global, rt: &impl Abort) -> Result<(), Fail> {
@@ -165,12 +157,7 @@ pub fn declarations(alloc: Global, rt: &impl Abort) -> Result<(), Fail> {
         VAR IW1x, I1, IW, FB1x, FB1_0, RET_VAL, BOOL_TO_INT, Title, _x, x__y : BOOL; END_VAR IW1x := a; q := iw1X;",
         BROKEN_2,
     )?;
-    check_declarations(
-        alloc,
-        rt,
-        "VAR_INPUT c : BOOL; END_VAR",
-        NO_TRACE,
-    )?;
+    check_declarations(alloc, rt, "VAR_INPUT c : BOOL; END_VAR", NO_TRACE)?;
     check_declarations(
         alloc,
         rt,
@@ -209,12 +196,7 @@ pub fn declarations(alloc: Global, rt: &impl Abort) -> Result<(), Fail> {
     )
 }
 
-fn check_declarations(
-    alloc: Global,
-    rt: &impl Abort,
-    rows: &str,
-    want: Want,
-) -> Result<(), Fail> {
+fn check_declarations(alloc: Global, rt: &impl Abort, rows: &str, want: Want) -> Result<(), Fail> {
     for vars in rows.split('|') {
         let source = repeated(alloc, FRONT, vars, 1, " END_FUNCTION_BLOCK")?;
         let (status, taken) = of_source(alloc, source.as_slice())?;
@@ -242,7 +224,11 @@ pub fn names(alloc: Global, rt: &impl Abort) -> Result<(), Fail> {
         ("FB 1", "1", NO_SOURCE),
         ("FB", "FB", NO_SOURCE),
         ("FB 1_0", "FB 1_0", NO_SOURCE),
-        ("FB 18446744073709551616", "FB 18446744073709551616", NO_SOURCE),
+        (
+            "FB 18446744073709551616",
+            "FB 18446744073709551616",
+            NO_SOURCE,
+        ),
         ("IW1", "IW1", NO_SOURCE),
         ("and", "and", NO_SOURCE),
         ("\u{208}", "\u{208}", NO_SOURCE),
@@ -271,7 +257,13 @@ pub fn names(alloc: Global, rt: &impl Abort) -> Result<(), Fail> {
 }
 
 /// A text in which these stand so many times around the word.
-fn nested(alloc: Global, open: &str, times: usize, word: &str, close: &str) -> Result<String, Fail> {
+fn nested(
+    alloc: Global,
+    open: &str,
+    times: usize,
+    word: &str,
+    close: &str,
+) -> Result<String, Fail> {
     let mut text = String::new(alloc);
     for _ in 0..times {
         text.push_str(open)?;
@@ -342,7 +334,10 @@ pub fn invariants(alloc: Global, rt: &impl Abort) -> Result<(), Fail> {
 
 /// A block of so many variables. The last one takes the input `b`, and `q` what it was before.
 fn wide(alloc: Global, variables: usize) -> Result<String, Fail> {
-    let mut source = String::from_str(alloc, "FUNCTION_BLOCK Demo VAR_INPUT a, b : BOOL; END_VAR VAR q, last : BOOL;")?;
+    let mut source = String::from_str(
+        alloc,
+        "FUNCTION_BLOCK Demo VAR_INPUT a, b : BOOL; END_VAR VAR q, last : BOOL;",
+    )?;
     for number in 4..variables {
         source.push_str(&format!(in alloc; "v{number}:BOOL;")?)?;
     }

@@ -65,12 +65,7 @@ pub fn whole(alloc: Global, rt: &impl Abort) -> Result<(), Fail> {
     )
 }
 
-fn check_whole(
-    alloc: Global,
-    rt: &impl Abort,
-    traces: &str,
-    want: Want,
-) -> Result<(), Fail> {
+fn check_whole(alloc: Global, rt: &impl Abort, traces: &str, want: Want) -> Result<(), Fail> {
     for trace in traces.split('|') {
         let (status, taken) = of_trace(alloc, trace.as_bytes())?;
         assert_eq!(rt; status, want.0, "{trace}");
