@@ -1,6 +1,10 @@
 mod CaseLemmas
 mod WordsLemmas
 mod ProjectLemmas
+mod ShapeLemmas
+mod ShapeAnswers
+mod OneProject
+mod OneAnswer
 mod StopLemmas
 mod RecheckLemmas
 mod SayLemmas

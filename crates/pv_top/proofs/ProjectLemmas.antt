@@ -51,7 +51,7 @@ keys_shape : (vars : List Var) → map (λ v. v.name.key) (map var_shape vars) �
 keys_shape [] = refl
 keys_shape (v ∷ vars) = ap (λ keys. v.name.key ∷ keys) (keys_shape vars)
 
-same_keys : (a b : Block) → block_shape a ≡ block_shape b → keys_of a.interface.vars.items ≡ keys_of b.interface.vars.items
+pub same_keys : (a b : Block) → block_shape a ≡ block_shape b → keys_of a.interface.vars.items ≡ keys_of b.interface.vars.items
 same_keys a b e = sym (keys_shape a.interface.vars.items) ∙ (ap (λ (s : BlockShape). map (λ v. v.name.key) s.vars) e ∙ keys_shape b.interface.vars.items)
 
 pub undeclared : (case : CaseData) (source : List ℕ) (b : Block) (e : Expr) → ReadsBlock 0 source (block_shape b) → ReadsExpression 0 case.invariant (expr_shape e) → (IsDeclared (keys_of b.interface.vars.items) e → ⊥) → HasNone case source

@@ -9,6 +9,7 @@ ghost use Rattle.pv_top.specs.Calls.{Says, Delivers, Promises};
 mod answer;
 mod case;
 mod inputs;
+pub mod laws;
 mod recheck;
 mod replay;
 mod words;
