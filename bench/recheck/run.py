@@ -2,7 +2,7 @@
 """Times `plcv recheck` on blocks and certificates of a size and of twice that size.
 
 Usage: run.py [n]: blocks of n and 2n variables and assignments (10,000; a block has at most 20,000 variables), and certificates of
-2 and 4 MiB of one small block. Each certificate has a line for each literal that unit propagation finds, so its log goes through the
+about 2 and 4 MiB of one small block. Each certificate has a line for each literal that unit propagation finds, so its log goes through the
 whole circuit. What the checker of logs takes is what the same certificate takes less than that whose first line is at fault: the
 rest of the work is the same. The script `plcv` at the top builds the program where it is missing."""
 import json
@@ -101,8 +101,8 @@ def recheck(place, made, text):
     lines[5] = "0 " + lines[5].split(" ", 1)[1]
     (place / "valid.txt").write_text(text)
     (place / "faulty.txt").write_text("\n".join(lines))
-    valid = measured([PROGRAM, "recheck", place / "case.json", place / "valid.txt"])
-    faulty = measured([PROGRAM, "recheck", place / "case.json", place / "faulty.txt"], statuses=(8,))
+    valid = measured([PROGRAM, "recheck", place / "case.json", place / "valid.txt"], runs=20)
+    faulty = measured([PROGRAM, "recheck", place / "case.json", place / "faulty.txt"], statuses=(8,), runs=20)
     if valid[2] != SATISFIED or faulty[2] != "plcv: certificate: line 6 BadId\n":
         sys.exit(valid[2] + faulty[2])
     return valid, faulty
