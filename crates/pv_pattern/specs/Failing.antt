@@ -13,6 +13,6 @@ fails_at cells pattern beginning (done frame) = not (holds cells pattern beginni
 abbrev pub fails : Block → Pattern → Scan → Bool
 fails block pattern s = fails_at (cells_of block) pattern s.beginning s.end
 
--- the scan is done, and the pattern holds
+-- the scan does not fail
 abbrev pub Keeps : Block → Pattern → Scan → Type 0
 Keeps block pattern s = fails block pattern s ≡ false

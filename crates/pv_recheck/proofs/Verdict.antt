@@ -27,7 +27,7 @@ use Rattle.pv_pattern.specs.Failing.{fails_at, Keeps}
 use Rattle.pv_pattern.specs.Sources.{source}
 use Rattle.pv_pattern.proofs.RunsOf.{no_failing_run, some_failing_scan}
 use Rattle.pv_step.specs.Circuits.{circuit_of}
-use Rattle.pv_step.specs.Conditions.{IsOverBool}
+use Rattle.pv_mean.specs.Conditions.{IsOverBool}
 use Rattle.pv_step.specs.Bits.{number_of_bit, Carries, Begins}
 use Rattle.pv_step.proofs.ScanLaws.{fail_is, is_circuit}
 use Rattle.pv_frames.proofs.StepValues.{none-fails}

@@ -3,7 +3,7 @@ ghost use Rattle.std.specs.Prelude.{◌≡◌, ◌↔◌, ◌<◌, ◌≤◌, �
 ghost use Rattle.pv_gate.specs.Node.{Names, gate_count};
 ghost use Rattle.pv_frames.specs.Formulas.{step_clauses};
 ghost use Rattle.pv_mean.specs.Cells.{cells_of};
-ghost use Rattle.pv_step.specs.Conditions.{HasNames};
+ghost use Rattle.pv_mean.specs.Conditions.{HasNames};
 ghost use Rattle.pv_cert.specs.declared.proof.Query.{Query};
 ghost use Rattle.pv_recheck.specs.Form.{IsUnbuilt};
 ghost use Rattle.pv_recheck.specs.Validity.{step_formula, IsValid};

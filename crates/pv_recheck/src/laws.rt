@@ -9,7 +9,7 @@ ghost use Rattle.pv_mean.specs.Frames.{Input, input_types};
 ghost use Rattle.pv_mean.specs.Runs.{run};
 ghost use Rattle.pv_pattern.specs.Patterns.{invariant};
 ghost use Rattle.pv_pattern.specs.Failing.{Keeps};
-ghost use Rattle.pv_step.specs.Conditions.{IsOverBool};
+ghost use Rattle.pv_mean.specs.Conditions.{IsOverBool};
 ghost use Rattle.pv_recheck.specs.declared.fault.Kind.{Kind};
 ghost use Rattle.pv_recheck.specs.Form.{IsUnbuilt};
 ghost use Rattle.pv_recheck.specs.Validity.{IsValid};

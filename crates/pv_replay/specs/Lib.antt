@@ -1,5 +1,4 @@
 pub mod Traces
 pub mod Programs
 pub mod Ends
-pub mod Replayable
 pub mod Machines

@@ -14,7 +14,7 @@ ghost use Rattle.pv_replay.specs.Ends.{IsEnd};
 ghost use Rattle.pv_replay.specs.Machines.{IsMachineOf, IsReady, end_after};
 ghost use Rattle.pv_mean.specs.Boolean.{StartsInBool};
 ghost use Rattle.pv_pattern.specs.Patterns.{invariant as inv};
-ghost use Rattle.pv_replay.specs.Replayable.{IsReplayable};
+ghost use Rattle.pv_mean.specs.Conditions.{IsOverBool};
 
 use crate::end::End;
 use crate::program::{Assignment, Term, execute, place, program_of, term_of, value_of};
@@ -37,7 +37,7 @@ impl Machine {
     /// or a variable's start value is none of BOOL.
     pub fn make(alloc: Global, block: &Block, invariant: &Expr) -> Result<Machine, ReadFault>
         ensures found { IfOk result (λ m. IsMachineOf block.now invariant.now m) }
-        ensures refused { IfErr result (λ fault. fault ≡ NotOfForm → IsReplayable block.now invariant.now → ⊥) }
+        ensures refused { IfErr result (λ fault. fault ≡ NotOfForm → IsOverBool block.now invariant.now → ⊥) }
     {
         let scope = scope_of(alloc, block)?;
         let cells = cells(alloc, block)?;
@@ -120,7 +120,7 @@ pub fn replay_block(
 ) -> Result<End, ReadFault>
     ensures found { IfOk result (λ end. (inputs : List (List ℤ)) × AreScans (input_len (cells_of block.now)) inputs
         × (trace.now ≡ trace_text inputs) × IsEnd block.now (inv invariant.now) (run block.now inputs) end) }
-    ensures refused { IfErr result (λ fault. fault ≡ NotOfForm → IsReplayable block.now invariant.now → (inputs : List (List ℤ))
+    ensures refused { IfErr result (λ fault. fault ≡ NotOfForm → IsOverBool block.now invariant.now → (inputs : List (List ℤ))
         → AreScans (input_len (cells_of block.now)) inputs → trace.now ≡ trace_text inputs → ⊥) }
 {
     let machine = Machine::make(alloc, block, invariant)?;

@@ -23,7 +23,7 @@ use Rattle.pv_mean.specs.Scans.{done, scan, next_image}
 use Rattle.pv_mean.proofs.FrameLaws.{length-begin, length-image_of, image_of-begin, input_of-begin}
 use Rattle.pv_mean.proofs.TypeLaws.{done_normally}
 use Rattle.pv_step.specs.Circuits.{Circuit, Literals, begin_nodes, begin_literals, begin_wires, end_wires, invariant_gate, circuit_of}
-use Rattle.pv_step.specs.Conditions.{HasNames, IsOverBool}
+use Rattle.pv_mean.specs.Conditions.{HasNames, IsOverBool}
 use Rattle.pv_step.specs.Bits.{number_of_bit, numbers_of, Carries, Begins, IsCircuit}
 use Rattle.pv_step.proofs.Growth.{input_count-grows, grows_expression}
 use Rattle.pv_step.proofs.Beginning.{length-begin_literals, input_count-begin, keys_count, keys_same}

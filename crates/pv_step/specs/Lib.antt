@@ -1,4 +1,3 @@
-pub mod Conditions
 pub mod Circuits
 pub mod Made
 pub mod Bits

@@ -10,7 +10,7 @@ ghost use Rattle.pv_mean.specs.Values.{number, value};
 ghost use Rattle.pv_mean.specs.Boolean.{IsOfBool};
 ghost use Rattle.pv_mean.specs.Scans.{done, scan, next_image};
 ghost use Rattle.pv_step.specs.Circuits.{circuit_of};
-ghost use Rattle.pv_step.specs.Conditions.{HasNames, IsOverBool};
+ghost use Rattle.pv_mean.specs.Conditions.{HasNames, IsOverBool};
 ghost use Rattle.pv_step.specs.Bits.{numbers_of, Begins, IsCircuit};
 
 /// Where the inputs have the values of the cells at a scan's beginning, the circuit's literals have

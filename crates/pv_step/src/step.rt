@@ -7,7 +7,7 @@ ghost use Rattle.pv_gate.specs.Node.{Names, gate_count};
 ghost use Rattle.pv_mean.specs.Cells.{cells_of};
 ghost use Rattle.pv_mean.specs.Frames.{image_of, input_of};
 ghost use Rattle.pv_step.specs.Circuits.{begin_nodes, begin_literals, circuit_of};
-ghost use Rattle.pv_step.specs.Conditions.{HasNames};
+ghost use Rattle.pv_mean.specs.Conditions.{HasNames};
 ghost use Rattle.pv_step.specs.Bits.{IsCircuit};
 ghost use Rattle.pv_step.specs.Made.{IsStepCircuit};
 

@@ -15,8 +15,7 @@ use Rattle.pv_tree.proofs.Shapes.{same_names, same_declared}
 use Rattle.std.proofs.lemmas.List.{length-map}
 use Rattle.pv_mean.specs.Cells.{cell_of, cells_of}
 use Rattle.pv_mean.proofs.ReadingLaws.{block_is_boolean, literals_are_boolean}
-use Rattle.pv_replay.specs.Replayable.{IsReplayable}
-use Rattle.pv_step.specs.Conditions.{HasNames, IsOverBool}
+use Rattle.pv_mean.specs.Conditions.{HasNames, IsOverBool}
 use Rattle.pv_top.specs.Cases.{CaseData}
 use Rattle.pv_top.specs.Projects.{IsProject}
 
@@ -61,14 +60,6 @@ undeclared case source b e reads read breaks block a is =
     (subst P (same_keys block b (block-unique 0 source (block_shape block) (block_shape b) is.reads reads)) is.declared))
 
 -- ---- a project is what the commands ask for
-
-pub replayable : (case : CaseData) (source : List ℕ) (block : Block) (a : Expr) → IsProject case source block a → IsReplayable block a
-replayable case source block a is = record {
-  names = is.names;
-  declared = is.declared;
-  boolean = block_is_boolean 0 source block is.reads;
-  literals = literals_are_boolean 0 case.invariant a is.invariant;
-}
 
 pub over_bool : (case : CaseData) (source : List ℕ) (block : Block) (a : Expr) → IsProject case source block a → IsOverBool block a
 over_bool case source block a is = record {

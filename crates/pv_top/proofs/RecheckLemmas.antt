@@ -3,7 +3,7 @@ use Rattle.std.proofs.Common.{◌≡◌, ℕ, List, Option, Some, None, Result, 
 use Rattle.pv_edge.specs.Files.{FileMap}
 use Rattle.pv_tree.specs.declared.tree.Expr.{Expr}
 use Rattle.pv_tree.specs.declared.tree.Block.{Block}
-use Rattle.pv_step.specs.Conditions.{IsOverBool}
+use Rattle.pv_mean.specs.Conditions.{IsOverBool}
 use Rattle.pv_recheck.specs.declared.fault.RecheckFault.{RecheckFault}
 use Rattle.pv_recheck.specs.declared.fault.RecheckFault.TheVariants.{Unbuilt as UnbuiltCertificate, TooManyGates as Gates, Fault}
 use Rattle.pv_recheck.specs.Validity.{IsValid}

@@ -2,7 +2,7 @@
 ghost use Rattle.std.specs.Prelude.{◌≡◌, ◌≤◌, true, length, IfOk, IfErr, IfSome, OnOk};
 ghost use Rattle.pv_edge.specs.Faults.{HasRisen};
 ghost use Rattle.pv_mean.specs.Cells.{cells_of};
-ghost use Rattle.pv_step.specs.Conditions.{IsOverBool};
+ghost use Rattle.pv_mean.specs.Conditions.{IsOverBool};
 ghost use Rattle.pv_top.specs.Answers.{is_unread, answer_in};
 ghost use Rattle.pv_top.specs.Rechecks.{HoldsProof, IsCheckStop, StopsCertificate, SaysRecheck};
 

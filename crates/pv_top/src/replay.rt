@@ -1,7 +1,7 @@
 //! The command `replay CASE TRACE`.
 ghost use Rattle.std.specs.Prelude.{◌≡◌, ◌≤◌, true, IfOk, IfErr, IfSome};
 ghost use Rattle.pv_edge.specs.Faults.{HasRisen};
-ghost use Rattle.pv_replay.specs.Replayable.{IsReplayable};
+ghost use Rattle.pv_mean.specs.Conditions.{IsOverBool};
 ghost use Rattle.pv_top.specs.Answers.{is_unread, answer_in};
 ghost use Rattle.pv_top.specs.Replays.{Replayed, StopsTrace, SaysReplay};
 
@@ -43,7 +43,7 @@ fn end_in<F: Files>(
     invariant: &Expr,
     file: &str,
 ) -> Result<End, Stop>
-    requires { IsReplayable block.now invariant.now }
+    requires { IsOverBool block.now invariant.now }
     ensures files { F.told files.new ≡ F.told files.old }
     ensures found { IfOk result (Replayed (F.told files.old) file.now block.now invariant.now) }
     ensures stopped { IfErr result (StopsTrace (F.told files.old) file.now block.now) }

@@ -3,6 +3,7 @@ use super::{DEMO, PUSHED, case_of, files_with, said, sink, status_of};
 use crate::Status;
 use pv_edge::MemFiles;
 use std::alloc::{AllocError, Global};
+use std::process::Abort;
 use std::test::Fail;
 
 const RECHECK: [&str; 3] = ["recheck", "c.json", "k.txt"];
@@ -52,127 +53,101 @@ fn rechecked(
 #[test]
 fn rows_of_a_latch(rt: HostRuntime) -> Result<(), Fail> {
     let alloc = rt.alloc();
-    let lines = [
-        ("12 0 11 8 9 5 0", SATISFIED),
-        ("12 0 11 9 8 5 0", SATISFIED),
-        (
-            "12 0 11 8 9 6 0",
-            (8, "plcv: certificate: line 6 LastNotFalse\n"),
-        ),
-        ("13 0 11 8 9 5 0", (8, "plcv: certificate: line 6 BadId\n")),
-        (
-            "12 0 11 8 9 12 0",
-            (8, "plcv: certificate: line 6 UnknownHint\n"),
-        ),
-        (
-            "12 0 11 2 9 5 0",
-            (8, "plcv: certificate: line 6 NotUnit\n"),
-        ),
-        (
-            "12 7 7 0 11 0",
-            (8, "plcv: certificate: line 6 Tautology\n"),
-        ),
-        (
-            "12 8 0 11 8 9 5 0",
-            (8, "plcv: certificate: line 6 Tautology\n"),
-        ),
-        ("12 7 0 11 0", (8, "plcv: certificate: line 5 NoEmpty\n")),
-        (
-            "12 0 11 8 9 5 00",
-            (8, "plcv: certificate: line 6 NotACertificate\n"),
-        ),
-        (
-            "12 0 11 8 9 5 0\r",
-            (8, "plcv: certificate: line 6 NotACertificate\n"),
-        ),
-    ];
-    for (line, want) in lines {
-        let certificate = format!(in alloc;
-            "PLCVCERT 1\nverdict satisfied 0\nquery step 0\nchain\nlog 1\n{line}\nend\n"
-        )?;
-        let (status, taken) = rechecked(alloc, DEMO, INVARIANT, &certificate)?;
-        assert_eq!(rt; status, want.0, "{line}");
-        assert_eq!(rt; taken.as_slice(), want.1.as_bytes(), "{line}");
+    for line in "12 0 11 8 9 5 0|12 0 11 9 8 5 0".split('|') {
+        let (status, taken) = rechecked(alloc, DEMO, INVARIANT, &with_log(alloc, line)?)?;
+        assert_eq!(rt; status, SATISFIED.0, "{line}");
+        assert_eq!(rt; taken.as_slice(), SATISFIED.1.as_bytes(), "{line}");
     }
+    check_logs(
+        alloc,
+        &rt,
+        "12 0 11 8 9 6 0>line 6 LastNotFalse|\
+        13 0 11 8 9 5 0>line 6 BadId|\
+        12 0 11 8 9 12 0>line 6 UnknownHint|\
+        12 0 11 2 9 5 0>line 6 NotUnit|\
+        12 7 7 0 11 0>line 6 Tautology|\
+        12 8 0 11 8 9 5 0>line 6 Tautology|\
+        12 7 0 11 0>line 5 NoEmpty|\
+        12 0 11 8 9 5 00>line 6 NotACertificate|\
+        12 0 11 8 9 5 0\r>line 6 NotACertificate",
+    )
+}
+
+/// The certificate with this line as its log.
+fn with_log(alloc: Global, line: &str) -> Result<String, AllocError> {
+    format!(in alloc; "PLCVCERT 1\nverdict satisfied 0\nquery step 0\nchain\nlog 1\n{line}\nend\n")
+}
+
+/// Lines of a log, each with the fault of its certificate behind `>`.
+fn check_logs(alloc: Global, rt: &impl Abort, rows: &str) -> Result<(), Fail> {
+    for row in rows.split('|') {
+        let (line, fault) = row.split_once('>').unwrap_or((row, ""));
+        let certificate = with_log(alloc, line)?;
+        check_fault(alloc, rt, INVARIANT, &certificate, fault)?;
+    }
+    Ok(())
+}
+
+/// The certificate is refused with this fault.
+fn check_fault(
+    alloc: Global,
+    rt: &impl Abort,
+    invariant: &str,
+    certificate: &str,
+    fault: &str,
+) -> Result<(), Fail> {
+    let (status, taken) = rechecked(alloc, DEMO, invariant, certificate)?;
+    let want = format!(in alloc; "plcv: certificate: {fault}\n")?;
+    assert_eq!(rt; status, 8, "{certificate}");
+    assert_eq!(rt; taken.as_slice(), want.as_bytes(), "{certificate}");
     Ok(())
 }
 
 #[test]
 fn rows_of_certificates(rt: HostRuntime) -> Result<(), Fail> {
     let alloc = rt.alloc();
-    let rows = [
-        (
-            "NOT run",
-            CERTIFICATE,
-            (8, "plcv: certificate: line 6 BadId\n"),
-        ),
-        (
-            INVARIANT,
-            "PLCVCERT 1\nverdict satisfied 0\nquery step 0\nchain\nlog 1\n12 0 11",
-            (8, "plcv: certificate: line 6 NotACertificate\n"),
-        ),
-        (
-            INVARIANT,
-            "PLCVCERT 3\nverdict satisfied 0\nquery step 0\nchain\nlog 1\n12 0 11 8 9 5 0\nend\n",
-            (8, "plcv: certificate: line 1 NotACertificate\n"),
-        ),
-        (
-            INVARIANT,
-            "PLCVCERT 1\nverdict satisfied 0\nquery step 0\nchain\nlog 0\nend\n",
-            (8, "plcv: certificate: line 5 NoEmpty\n"),
-        ),
-        (
-            INVARIANT,
-            "PLCVCERT 1\nverdict satisfied 0\nquery step 0\nchain\nlog 1\n12 0 11 8 9 5 0\n",
-            (8, "plcv: certificate: line 7 NotACertificate\n"),
-        ),
-        (
-            INVARIANT,
-            "PLCVCERT 1\nverdict satisfied 0\nquery step 0\nchain\nlog 1\n12 0 11 8 9 5 0\nend",
-            (8, "plcv: certificate: line 7 NotACertificate\n"),
-        ),
-        (
-            INVARIANT,
-            "PLCVCERT 1\nverdict satisfied 0\nquery step 0\nchain\nlog 1\n12 0 11 8 9 5 0\nend\n\n",
-            (8, "plcv: certificate: line 8 NotACertificate\n"),
-        ),
-        (
-            INVARIANT,
-            "PLCVCERT 1\nverdict satisfied 0\nquery step 1\nchain\nlog 0\nend\n",
-            (8, "plcv: certificate: line 3 WrongQuery\n"),
-        ),
-        (
-            INVARIANT,
-            "PLCVCERT 1\nverdict satisfied 1\n",
-            (8, "plcv: form k.txt\n"),
-        ),
-        (
-            INVARIANT,
-            "PLCVCERT 3\nverdict violated 2\n",
-            (8, "plcv: form k.txt\n"),
-        ),
-        (
-            INVARIANT,
-            "PLCVCERT 1\nverdict satisfied 0\nquery step 0\nchain cone\nlog 0\nend\n",
-            (8, "plcv: form k.txt\n"),
-        ),
-        (
-            INVARIANT,
-            PUSHED,
-            (8, "plcv: certificate: line 1 NotACertificate\n"),
-        ),
-        (
-            INVARIANT,
-            "",
-            (8, "plcv: certificate: line 1 NotACertificate\n"),
-        ),
-        ("NOT walk", "", (3, "plcv: form a.scl\n")),
-        ("NOT run\\", "", (4, "plcv: form c.json\n")),
-    ];
-    for (invariant, certificate, want) in rows {
-        let (status, taken) = rechecked(alloc, DEMO, invariant, certificate)?;
-        assert_eq!(rt; status, want.0, "{certificate}");
-        assert_eq!(rt; taken.as_slice(), want.1.as_bytes(), "{certificate}");
+    check_fault(alloc, &rt, "NOT run", CERTIFICATE, "line 6 BadId")?;
+    check_certificates(
+        alloc,
+        &rt,
+        "PLCVCERT 1\nverdict satisfied 0\nquery step 0\nchain\nlog 1\n12 0 11>line 6 NotACertificate|\
+        PLCVCERT 3\nverdict satisfied 0\nquery step 0\nchain\nlog 1\n12 0 11 8 9 5 0\nend\n>line 1 NotACertificate|\
+        PLCVCERT 1\nverdict satisfied 0\nquery step 0\nchain\nlog 0\nend\n>line 5 NoEmpty|\
+        PLCVCERT 1\nverdict satisfied 0\nquery step 0\nchain\nlog 1\n12 0 11 8 9 5 0\n>line 7 NotACertificate|\
+        PLCVCERT 1\nverdict satisfied 0\nquery step 0\nchain\nlog 1\n12 0 11 8 9 5 0\nend>line 7 NotACertificate|\
+        PLCVCERT 1\nverdict satisfied 0\nquery step 0\nchain\nlog 1\n12 0 11 8 9 5 0\nend\n\n>line 8 NotACertificate|\
+        PLCVCERT 1\nverdict satisfied 0\nquery step 1\nchain\nlog 0\nend\n>line 3 WrongQuery|\
+        PLCVTRACE 1\nparams\nend\n>line 1 NotACertificate|\
+        >line 1 NotACertificate",
+    )?;
+    check_unbuilt(
+        alloc,
+        &rt,
+        "PLCVCERT 1\nverdict satisfied 1\n|\
+        PLCVCERT 3\nverdict violated 2\n|\
+        PLCVCERT 1\nverdict satisfied 0\nquery step 0\nchain cone\nlog 0\nend\n",
+    )
+}
+
+/// Certificates, each with its fault behind `>`.
+fn check_certificates(alloc: Global, rt: &impl Abort, rows: &str) -> Result<(), Fail> {
+    for row in rows.split('|') {
+        let (certificate, fault) = row.split_once('>').unwrap_or((row, ""));
+        check_fault(alloc, rt, INVARIANT, certificate, fault)?;
+    }
+    Ok(())
+}
+
+/// Certificates of a form that isn't built.
+fn check_unbuilt(alloc: Global, rt: &impl Abort, rows: &str) -> Result<(), Fail> {
+    for certificate in rows.split('|') {
+        let (status, taken) = rechecked(alloc, DEMO, INVARIANT, certificate)?;
+        assert_eq!(rt; status, 8, "{certificate}");
+        assert_eq!(rt;
+            taken.as_slice(),
+            b"plcv: form k.txt\n".as_slice(),
+            "{certificate}"
+        );
     }
     Ok(())
 }
@@ -183,6 +158,12 @@ fn refusals_in_order(rt: HostRuntime) -> Result<(), Fail> {
     let (status, taken) = rechecked(alloc, "", INVARIANT, "")?;
     assert_eq!(rt; status, 3);
     assert_eq!(rt; taken.as_slice(), b"plcv: form a.scl\n".as_slice());
+    let (status, taken) = rechecked(alloc, DEMO, "NOT walk", "")?;
+    assert_eq!(rt; status, 3);
+    assert_eq!(rt; taken.as_slice(), b"plcv: form a.scl\n".as_slice());
+    let (status, taken) = rechecked(alloc, DEMO, "NOT run\\", "")?;
+    assert_eq!(rt; status, 4);
+    assert_eq!(rt; taken.as_slice(), b"plcv: form c.json\n".as_slice());
     let held = files(alloc, DEMO, INVARIANT, CERTIFICATE)?;
     let (status, taken) = said(alloc, &["recheck", "c.json", "missing.txt"], held)?;
     assert_eq!(rt; status, 6);

@@ -1,12 +1,12 @@
 use Rattle.std.proofs.Common.{refl, ◌∙◌}
 use Rattle.pv_top.specs.Cases.{data_of}
 use Rattle.pv_top.specs.Replays.{SaysReplay}
-use Rattle.pv_top.proofs.ProjectLemmas.{replayable}
+use Rattle.pv_top.proofs.ProjectLemmas.{over_bool}
 use Rattle.pv_top.proofs.StopLemmas.{passed_on, reads_both, trace_stop_says, report_says}
 use Rattle.pv_top.proofs.replay.replay.Goals as goal
 
 pub end_in-requires : goal.end_in-requires
-end_in-requires g c = replayable (data_of c.in_ok-case.case) c.in_ok-block.ensures.found.bytes c.in_ok-block.block c.in_ok-block.invariant c.in_ok-block.ensures.found.is
+end_in-requires g c = over_bool (data_of c.in_ok-case.case) c.in_ok-block.ensures.found.bytes c.in_ok-block.block c.in_ok-block.invariant c.in_ok-block.ensures.found.is
 
 pub returns-in_err-end-clause-says : goal.returns-in_err-end-clause-says
 returns-in_err-end-clause-says g c =

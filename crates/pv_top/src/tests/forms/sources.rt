@@ -206,43 +206,53 @@ fn check_declarations(alloc: Global, rt: &impl Abort, rows: &str, want: Want) ->
     Ok(())
 }
 
-/// The name of the block and the entry of the case.
+/// The name of the block and the entry of the case, with `>` between them.
 pub fn names(alloc: Global, rt: &impl Abort) -> Result<(), Fail> {
-    let rows = [
-        ("Demo", "dEMO", BROKEN_2),
-        ("Demo", " \\tDemo\\n", BROKEN_2),
-        ("\"Demo\"", "demo", BROKEN_2),
-        ("Demo", "\\\"DEMO\\\"", BROKEN_2),
-        ("\"M \u{208}\"", "\\\"m \u{208}\\\"", BROKEN_2),
-        ("\"and\"", "\\\"AND\\\"", BROKEN_2),
-        ("\"IW1\"", "\\\"iw1\\\"", BROKEN_2),
-        ("FB 1", "FB1", BROKEN_2),
-        ("fb1", "FB 1", BROKEN_2),
-        ("FB1_0", "fb1_0", BROKEN_2),
-        ("FB 1", "FB 01", NO_SOURCE),
-        ("FB 1", "FB 2", NO_SOURCE),
-        ("FB 1", "1", NO_SOURCE),
-        ("FB", "FB", NO_SOURCE),
-        ("FB 1_0", "FB 1_0", NO_SOURCE),
-        (
-            "FB 18446744073709551616",
-            "FB 18446744073709551616",
-            NO_SOURCE,
-        ),
-        ("IW1", "IW1", NO_SOURCE),
-        ("and", "and", NO_SOURCE),
-        ("\u{208}", "\u{208}", NO_SOURCE),
-        ("\"Demo", "Demo", NO_SOURCE),
-        ("\"De\nmo\"", "\\\"De\\nmo\\\"", NO_SOURCE),
-        ("Demo", "Demo2", NO_SOURCE),
-        ("Demo", "Demo Demo", NO_SOURCE),
-        ("Demo", "Demo;", NO_SOURCE),
-        ("Demo", "#Demo", NO_SOURCE),
-        ("Demo", "Demo (* *)", NO_SOURCE),
-    ];
-    let back = " VAR_INPUT a, b : BOOL; END_VAR VAR q : BOOL; END_VAR q := a; END_FUNCTION_BLOCK";
-    for (name, entry, want) in rows {
-        let source = repeated(alloc, "FUNCTION_BLOCK ", name, 1, back)?;
+    check_names(
+        alloc,
+        rt,
+        "Demo>dEMO|\
+        Demo> \\tDemo\\n|\
+        \"Demo\">demo|\
+        Demo>\\\"DEMO\\\"|\
+        \"M \u{208}\">\\\"m \u{208}\\\"|\
+        \"and\">\\\"AND\\\"|\
+        \"IW1\">\\\"iw1\\\"|\
+        FB 1>FB1|\
+        fb1>FB 1|\
+        FB1_0>fb1_0",
+        BROKEN_2,
+    )?;
+    check_names(
+        alloc,
+        rt,
+        "FB 1>FB 01|\
+        FB 1>FB 2|\
+        FB 1>1|\
+        FB>FB|\
+        FB 1_0>FB 1_0|\
+        FB 18446744073709551616>FB 18446744073709551616|\
+        IW1>IW1|\
+        and>and|\
+        \u{208}>\u{208}|\
+        \"Demo>Demo|\
+        \"De\nmo\">\\\"De\\nmo\\\"|\
+        Demo>Demo2|\
+        Demo>Demo Demo|\
+        Demo>Demo;|\
+        Demo>#Demo|\
+        Demo>Demo (* *)",
+        NO_SOURCE,
+    )
+}
+
+const NAMED: &str =
+    " VAR_INPUT a, b : BOOL; END_VAR VAR q : BOOL; END_VAR q := a; END_FUNCTION_BLOCK";
+
+fn check_names(alloc: Global, rt: &impl Abort, rows: &str, want: Want) -> Result<(), Fail> {
+    for row in rows.split('|') {
+        let (name, entry) = around(row);
+        let source = repeated(alloc, "FUNCTION_BLOCK ", name, 1, NAMED)?;
         let case = case_of(alloc, entry, "NOT q")?;
         let (status, taken) = replayed(
             alloc,
@@ -250,10 +260,15 @@ pub fn names(alloc: Global, rt: &impl Abort) -> Result<(), Fail> {
             case.as_slice(),
             TRACE.as_bytes(),
         )?;
-        assert_eq!(rt; status, want.0, "{name} {entry}");
-        assert_eq!(rt; taken.as_slice(), want.1.as_bytes(), "{name} {entry}");
+        assert_eq!(rt; status, want.0, "{row}");
+        assert_eq!(rt; taken.as_slice(), want.1.as_bytes(), "{row}");
     }
     Ok(())
+}
+
+/// What stands before and behind the `>` of a row.
+fn around(row: &str) -> (&str, &str) {
+    row.split_once('>').unwrap_or((row, ""))
 }
 
 /// A text in which these stand so many times around the word.
@@ -277,57 +292,71 @@ fn nested(
 
 /// Values of 63 and 64 levels, since an assignment is one level more than its value.
 pub fn levels(alloc: Global, rt: &impl Abort) -> Result<(), Fail> {
-    let rows = [
-        ("a OR ", 62, "", BROKEN_2),
-        ("a OR ", 63, "", NO_SOURCE),
-        ("", 62, " AND a", BROKEN_2),
-        ("", 63, " AND a", NO_SOURCE),
-        ("NOT ", 62, "", BROKEN_2),
-        ("NOT ", 63, "", NO_SOURCE),
-        ("(", 62, ")", BROKEN_2),
-        ("(", 63, ")", NO_SOURCE),
-        ("NOT (", 31, ")", BROKEN_1),
-        ("NOT (", 32, ")", NO_SOURCE),
-        ("(", 100000, ")", NO_SOURCE),
-    ];
-    for (open, times, close, want) in rows {
+    check_levels(alloc, rt, 62, "a OR >|> AND a|NOT >|(>)", BROKEN_2)?;
+    check_levels(alloc, rt, 63, "a OR >|> AND a|NOT >|(>)", NO_SOURCE)?;
+    check_levels(alloc, rt, 31, "NOT (>)", BROKEN_1)?;
+    check_levels(alloc, rt, 32, "NOT (>)", NO_SOURCE)?;
+    check_levels(alloc, rt, 100000, "(>)", NO_SOURCE)
+}
+
+/// The value `a` with the row's texts so many times before and behind it.
+fn check_levels(
+    alloc: Global,
+    rt: &impl Abort,
+    times: usize,
+    rows: &str,
+    want: Want,
+) -> Result<(), Fail> {
+    for row in rows.split('|') {
+        let (open, close) = around(row);
         let value = nested(alloc, open, times, "a", close)?;
         let body = format!(in alloc; "q := {value};")?;
         let source = repeated(alloc, HEAD, &body, 1, " END_FUNCTION_BLOCK")?;
         let (status, taken) = of_source(alloc, source.as_slice())?;
-        assert_eq!(rt; status, want.0, "{open} {times}");
-        assert_eq!(rt; taken.as_slice(), want.1.as_bytes(), "{open} {times}");
+        assert_eq!(rt; status, want.0, "{row} {times}");
+        assert_eq!(rt; taken.as_slice(), want.1.as_bytes(), "{row} {times}");
     }
     Ok(())
 }
 
 /// Invariants of 64 and 65 levels, and other texts of an invariant.
 pub fn invariants(alloc: Global, rt: &impl Abort) -> Result<(), Fail> {
-    let rows = [
-        ("q OR ", 63, "", BROKEN_1),
-        ("q OR ", 64, "", NO_SOURCE),
-        ("NOT ", 63, "", BROKEN_2),
-        ("NOT ", 64, "", NO_SOURCE),
-        ("(", 63, ")", BROKEN_1),
-        ("(", 64, ")", NO_SOURCE),
-        ("TRUE OR ", 1, "", KEPT),
-        ("NOT (a AND ", 1, "\\t) ", BROKEN_2),
-        ("b and not \\u0061 or ", 1, " & b", BROKEN_2),
-        ("", 1, ";", NO_SOURCE),
-        ("x OR ", 1, "", NO_SOURCE),
-        ("#", 1, "", NO_SOURCE),
-        ("", 1, " (* *)", NO_SOURCE),
-        ("q := ", 1, "", NO_SOURCE),
-        ("\\\"", 1, "\\\"", NO_SOURCE),
-        ("\"", 1, "\"", NO_CASE),
-        ("\n", 1, "", NO_CASE),
-    ];
-    for (open, times, close, want) in rows {
+    check_invariants(alloc, rt, 63, "q OR >|(>)", BROKEN_1)?;
+    check_invariants(alloc, rt, 63, "NOT >", BROKEN_2)?;
+    check_invariants(alloc, rt, 64, "q OR >|(>)|NOT >", NO_SOURCE)?;
+    check_invariants(alloc, rt, 1, "TRUE OR >", KEPT)?;
+    check_invariants(
+        alloc,
+        rt,
+        1,
+        "NOT (a AND >\\t) |b and not \\u0061 or > & b",
+        BROKEN_2,
+    )?;
+    check_invariants(
+        alloc,
+        rt,
+        1,
+        ">;|x OR >|#>|> (* *)|q := >|\\\">\\\"",
+        NO_SOURCE,
+    )?;
+    check_invariants(alloc, rt, 1, "\">\"|\n>", NO_CASE)
+}
+
+/// The invariant `q` with the row's texts so many times before and behind it.
+fn check_invariants(
+    alloc: Global,
+    rt: &impl Abort,
+    times: usize,
+    rows: &str,
+    want: Want,
+) -> Result<(), Fail> {
+    for row in rows.split('|') {
+        let (open, close) = around(row);
         let invariant = nested(alloc, open, times, "q", close)?;
         let case = case_of(alloc, "Demo", &invariant)?;
         let (status, taken) = of_case(alloc, case.as_slice())?;
-        assert_eq!(rt; status, want.0, "{open} {times}");
-        assert_eq!(rt; taken.as_slice(), want.1.as_bytes(), "{open} {times}");
+        assert_eq!(rt; status, want.0, "{row} {times}");
+        assert_eq!(rt; taken.as_slice(), want.1.as_bytes(), "{row} {times}");
     }
     Ok(())
 }

@@ -1,4 +1,4 @@
--- What a block and an invariant over it keep so that they have a step circuit.
+-- What a block and an invariant over it keep so that they can be replayed and have a step circuit.
 use Rattle.pv_tree.specs.declared.tree.Expr.{Expr}
 use Rattle.pv_tree.specs.declared.tree.Block.{Block}
 use Rattle.pv_tree.specs.Scope.{keys_of, IsDeclared, KeepsNames}
