@@ -1,4 +1,4 @@
-mod TraceLemmas
+pub mod TraceLemmas
 mod ProgramLemmas
 mod PlaceLemmas
-mod MachineLemmas
+pub mod MachineLemmas

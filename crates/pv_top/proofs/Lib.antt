@@ -5,6 +5,7 @@ mod ShapeLemmas
 mod ShapeAnswers
 mod OneProject
 mod OneAnswer
+mod Exact
 mod StopLemmas
 mod RecheckLemmas
 mod SayLemmas

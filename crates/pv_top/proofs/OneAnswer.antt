@@ -1,5 +1,5 @@
 -- By the same words on the same files one answer is true.
-use Rattle.std.proofs.Common.{◌≡◌, ◌≢◌, inl, inr, ℕ, ℤ, List, [], ◌∷◌, ◌++◌, length, get_or, Some, Result, Ok, Err, string_bytes, refl, sym, ap, subst, ◌∙◌, arith}
+use Rattle.std.proofs.Common.{◌≡◌, ◌≢◌, inl, inr, ℕ, ℤ, List, [], ◌∷◌, length, get_or, Some, Result, Ok, Err, string_bytes, refl, sym, ap, subst, ◌∙◌, arith}
 use Rattle.std.specs.Prelude.{codes}
 use Rattle.pv_edge.specs.Files.{FileMap}
 use Rattle.pv_tree.specs.declared.tree.Expr.{Expr}
@@ -9,10 +9,12 @@ use Rattle.pv_mean.specs.Cells.{cells_of}
 use Rattle.pv_mean.specs.Frames.{input_len}
 use Rattle.pv_mean.specs.Scans.{Scan}
 use Rattle.pv_mean.specs.Runs.{run}
-use Rattle.pv_pattern.specs.Patterns.{Pattern, invariant}
+use Rattle.pv_pattern.specs.Patterns.{invariant}
 use Rattle.pv_replay.specs.declared.end.End.{End}
-use Rattle.pv_replay.specs.Traces.{AreScans, trace_text}
+use Rattle.pv_replay.specs.Traces.{AreScans, scans_text, trace_text}
 use Rattle.pv_replay.specs.Ends.{IsEnd}
+use Rattle.pv_replay.proofs.MachineLemmas.{one_end}
+use Rattle.pv_replay.proofs.TraceLemmas.{one_reading, behind_head}
 use Rattle.pv_recheck.specs.declared.fault.RecheckFault.{RecheckFault}
 use Rattle.pv_recheck.specs.declared.fault.RecheckFault.TheVariants.{Unbuilt as UnbuiltCertificate, TooManyGates as Gates, Fault, NoMemory}
 use Rattle.pv_recheck.specs.Answers.{Answers, IsUnlessNoMemory}
@@ -24,7 +26,7 @@ use Rattle.pv_top.specs.declared.answer.Refusal.{Refusal}
 use Rattle.pv_top.specs.declared.answer.Refusal.TheVariants.{Words, Unread, Unbuilt, Faulty, TooManyGates}
 use Rattle.pv_top.specs.declared.answer.Outcome.{Outcome}
 use Rattle.pv_top.specs.declared.answer.Outcome.TheVariants.{Replay, Satisfied}
-use Rattle.pv_top.specs.Answers.{status_of, text_of, status_of_end, status_of_outcome, status_of_refusal, report_text, fault_line}
+use Rattle.pv_top.specs.Answers.{status_of, text_of, status_of_end, status_of_outcome, status_of_refusal, report_text, form_line, fault_line}
 use Rattle.pv_top.specs.Cases.{CaseData}
 use Rattle.pv_top.specs.Inputs.{HoldsCase, HoldsNoCase, HoldsNoProject, Reads, Holds}
 use Rattle.pv_top.specs.Replays.{Replayed, HoldsNoTrace, RefusesReplay, ReportsReplay, SaysReplay}
@@ -34,25 +36,22 @@ use Rattle.pv_top.proofs.ShapeLemmas.{same_cells, same_run, same_end, same_circu
 use Rattle.pv_top.proofs.ShapeAnswers.{same_answer}
 use Rattle.pv_top.proofs.OneProject.{same_bytes, SameCase, one_case_held, some_case_held, SameProject, one_project_held, some_project_held}
 
-abbrev form_line : List ℕ → List ℕ
-form_line file = codes "plcv: form " ++ file ++ codes "\n"
-
 -- two statuses are one, and two texts
-abbrev AreSame : ℕ → ℕ → List ℕ → List ℕ → Type 0
+abbrev pub AreSame : ℕ → ℕ → List ℕ → List ℕ → Type 0
 AreSame s t u v = (s ≡ t) × (u ≡ v)
 
 -- what is said of a case and its source, and behind them of the second file as Judged says
-data Said (files : FileMap) (case_file : List ℕ) (Judged : CaseData → Block → Expr → ℕ → List ℕ → Type 0) (status : ℕ) (text : List ℕ) : Type 0 where
+pub data Said (files : FileMap) (case_file : List ℕ) (Judged : CaseData → Block → Expr → ℕ → List ℕ → Type 0) (status : ℕ) (text : List ℕ) : Type 0 where
   no_case : HoldsNoCase (Some files) case_file → status ≡ 4 → text ≡ form_line case_file → Said files case_file Judged status text
   no_project : (case : CaseData) → HoldsCase (Some files) case_file case → HoldsNoProject (Some files) case → status ≡ 3 → text ≡ form_line case.file → Said files case_file Judged status text
   judged : (case : CaseData) (block : Block) (a : Expr) → Reads (Some files) case_file case block a → Judged case block a status text → Said files case_file Judged status text
 
 -- the second file is judged in one way
-abbrev IsOne : (CaseData → Block → Expr → ℕ → List ℕ → Type 0) → Type 0
+abbrev pub IsOne : (CaseData → Block → Expr → ℕ → List ℕ → Type 0) → Type 0
 IsOne Judged = (x y : CaseData) (b c : Block) (a d : Expr) (s t : ℕ) (u v : List ℕ) → SameCase x y → SameProject b c a d → Judged x b a s u → Judged y c d t v → AreSame s t u v
 
 module _ (files : FileMap) (case_file : List ℕ) where
-  one_said : (Judged : CaseData → Block → Expr → ℕ → List ℕ → Type 0) (s t : ℕ) (u v : List ℕ) → IsOne Judged → Said files case_file Judged s u → Said files case_file Judged t v → AreSame s t u v
+  pub one_said : (Judged : CaseData → Block → Expr → ℕ → List ℕ → Type 0) (s t : ℕ) (u v : List ℕ) → IsOne Judged → Said files case_file Judged s u → Said files case_file Judged t v → AreSame s t u v
   one_said Judged s t u v one (no_case none is_s is_u) (no_case other is_t is_v) = (is_s ∙ sym is_t, is_u ∙ sym is_v)
   one_said Judged s t u v one (no_case none is_s is_u) (no_project y held other is_t is_v) = absurd (some_case_held files case_file y none held)
   one_said Judged s t u v one (no_case none is_s is_u) (judged y c d reads also) = absurd (some_case_held files case_file y none reads.case_held)
@@ -70,16 +69,15 @@ module _ (files : FileMap) (case_file : List ℕ) where
 
 -- ---- replays
 
--- the laws of replays: scans have one end, and the text of a trace tells its scans
-pub record Laws : Type 0 where
-  pub one_end : (block : Block) (pattern : Pattern) (scans : List Scan) (end other : End) → IsEnd block pattern scans end → IsEnd block pattern scans other → end ≡ other
-  pub one_reading : (width : ℕ) (scans others : List (List ℤ)) → AreScans width scans → AreScans width others → trace_text scans ≡ trace_text others → scans ≡ others
+-- the text of a trace tells its scans
+same_inputs : (width : ℕ) (scans others : List (List ℤ)) → AreScans width scans → AreScans width others → trace_text scans ≡ trace_text others → scans ≡ others
+same_inputs width scans others ok also e = one_reading width scans others ok also (behind_head (scans_text scans) (scans_text others) e)
 
-data JudgedTrace (files : FileMap) (trace_file : List ℕ) (case : CaseData) (block : Block) (a : Expr) (status : ℕ) (text : List ℕ) : Type 0 where
+pub data JudgedTrace (files : FileMap) (trace_file : List ℕ) (case : CaseData) (block : Block) (a : Expr) (status : ℕ) (text : List ℕ) : Type 0 where
   no_trace : HoldsNoTrace (Some files) trace_file block → status ≡ 8 → text ≡ form_line trace_file → JudgedTrace files trace_file case block a status text
   ends : (end : End) → Replayed (Some files) trace_file block a end → status ≡ status_of_end end → text ≡ report_text case.name (Replay end) → JudgedTrace files trace_file case block a status text
 
-module _ (laws : Laws) (files : FileMap) (file : List ℕ) (b c : Block) (a d : Expr) (same : SameProject b c a d) where
+module _ (files : FileMap) (file : List ℕ) (b c : Block) (a d : Expr) (same : SameProject b c a d) where
   some_trace : (end : End) → Replayed (Some files) file b a end → HoldsNoTrace (Some files) file c → ⊥
   some_trace end is none =
       let P : List Cell → Type 0 = λ cells. AreScans (input_len cells) is.inputs in
@@ -89,25 +87,25 @@ module _ (laws : Laws) (files : FileMap) (file : List ℕ) (b c : Block) (a d : 
   one_replayed end other is also =
       let P : List Cell → Type 0 = λ cells. AreScans (input_len cells) is.inputs in
       let texts = same_bytes files file file (trace_text is.inputs) (trace_text also.inputs) refl is.held also.held in
-      let inputs : is.inputs ≡ also.inputs = laws.one_reading (input_len (cells_of c)) is.inputs also.inputs (subst P (same_cells b c same.block) is.scans) also.scans texts in
+      let inputs : is.inputs ≡ also.inputs = same_inputs (input_len (cells_of c)) is.inputs also.inputs (subst P (same_cells b c same.block) is.scans) also.scans texts in
       let Q : List Scan → Type 0 = λ scans. IsEnd c (invariant d) scans end in
-      laws.one_end c (invariant d) (run c also.inputs) end other
+      one_end c (invariant d) (run c also.inputs) end other
       (subst Q (same_run b c same.block is.inputs ∙ ap (run c) inputs) (same_end b c a d same.block same.invariant (run b is.inputs) end is.ends))
       also.ends
 
-module _ (laws : Laws) (files : FileMap) (case_file file : List ℕ) where
-  one_trace : IsOne (JudgedTrace files file)
+module _ (files : FileMap) (case_file file : List ℕ) where
+  pub one_trace : IsOne (JudgedTrace files file)
   one_trace x y b c a d s t u v same project (no_trace none is_s is_u) (no_trace other is_t is_v) = (is_s ∙ sym is_t, is_u ∙ sym is_v)
   one_trace x y b c a d s t u v same project (no_trace none is_s is_u) (ends end is is_t is_v) =
-      absurd (some_trace laws files file c b d a (record { block = sym project.block; invariant = sym project.invariant }) end is none)
-  one_trace x y b c a d s t u v same project (ends end is is_s is_u) (no_trace other is_t is_v) = absurd (some_trace laws files file b c a d project end is other)
+      absurd (some_trace files file c b d a (record { block = sym project.block; invariant = sym project.invariant }) end is none)
+  one_trace x y b c a d s t u v same project (ends end is is_s is_u) (no_trace other is_t is_v) = absurd (some_trace files file b c a d project end is other)
   one_trace x y b c a d s t u v same project (ends end is is_s is_u) (ends other also is_t is_v) =
-      let one = one_replayed laws files file b c a d project end other is also in (
+      let one = one_replayed files file b c a d project end other is also in (
         is_s ∙ ap status_of_end one ∙ sym is_t,
         is_u ∙ ap (λ name. report_text name (Replay end)) same.name ∙ ap (λ e. report_text y.name (Replay e)) one ∙ sym is_v,
       )
 
-  reported : (name : List ℕ) (outcome : Outcome) → ReportsReplay (Some files) case_file file name outcome → Said files case_file (JudgedTrace files file) (status_of_outcome outcome) (report_text name outcome)
+  pub reported : (name : List ℕ) (outcome : Outcome) → ReportsReplay (Some files) case_file file name outcome → Said files case_file (JudgedTrace files file) (status_of_outcome outcome) (report_text name outcome)
   reported name (Replay end) is = judged is.case is.block is.a is.reads (ends end is.replayed refl (ap (λ n. report_text n (Replay end)) is.named))
   reported name (Satisfied k) is = absurd is
 
@@ -121,41 +119,41 @@ module _ (laws : Laws) (files : FileMap) (case_file file : List ℕ) where
   refused (Faulty line kind) is read = absurd is
   refused TooManyGates is read = absurd is
 
-  said_replay : (answer : Answer) → SaysReplay (Some files) case_file file answer → status_of answer ≢ 6 → Said files case_file (JudgedTrace files file) (status_of answer) (text_of answer)
+  pub said_replay : (answer : Answer) → SaysReplay (Some files) case_file file answer → status_of answer ≢ 6 → Said files case_file (JudgedTrace files file) (status_of answer) (text_of answer)
   said_replay (Report report) is read = reported (string_bytes report.case) report.outcome is
   said_replay (RefusalOf refusal) is read = refused refusal is read
 
 -- ---- rechecks
 
-abbrev check_status : Result (Unit {0}) RecheckFault → ℕ
+abbrev pub check_status : Result (Unit {0}) RecheckFault → ℕ
 check_status (Ok done) = 0
 check_status (Err UnbuiltCertificate) = 8
 check_status (Err Gates) = 3
 check_status (Err (Fault at kind)) = 8
 check_status (Err NoMemory) = 9
 
-abbrev check_text : List ℕ → List ℕ → Result (Unit {0}) RecheckFault → List ℕ
+abbrev pub check_text : List ℕ → List ℕ → Result (Unit {0}) RecheckFault → List ℕ
 check_text name file (Ok done) = report_text name (Satisfied 0)
 check_text name file (Err UnbuiltCertificate) = form_line file
 check_text name file (Err Gates) = fault_line TooManyGates
 check_text name file (Err (Fault at kind)) = fault_line (Faulty at kind)
 check_text name file (Err NoMemory) = []
 
-record JudgedCertificate (files : FileMap) (file : List ℕ) (case : CaseData) (block : Block) (a : Expr) (status : ℕ) (text : List ℕ) : Type 0 where
-  bytes : List ℕ
-  held : Holds (Some files) file bytes
-  result : Result (Unit {0}) RecheckFault
-  answer : Answers block a bytes result
-  some : result ≡ Err NoMemory → ⊥
-  status_is : status ≡ check_status result
-  text_is : text ≡ check_text case.name file result
+pub record JudgedCertificate (files : FileMap) (file : List ℕ) (case : CaseData) (block : Block) (a : Expr) (status : ℕ) (text : List ℕ) : Type 0 where
+  pub bytes : List ℕ
+  pub held : Holds (Some files) file bytes
+  pub result : Result (Unit {0}) RecheckFault
+  pub answer : Answers block a bytes result
+  pub some : result ≡ Err NoMemory → ⊥
+  pub status_is : status ≡ check_status result
+  pub text_is : text ≡ check_text case.name file result
 
 module _ (files : FileMap) (case_file file : List ℕ) where
   one_of : (r s : Result (Unit {0}) RecheckFault) → IsUnlessNoMemory r s → (r ≡ Err NoMemory → ⊥) → r ≡ s
   one_of r s (inl same) some = same
   one_of r s (inr none) some = absurd (some none)
 
-  one_certificate : IsOne (JudgedCertificate files file)
+  pub one_certificate : IsOne (JudgedCertificate files file)
   one_certificate x y b c a d s t u v same project is also =
       let P : List ℕ → Type 0 = λ text. Answers b a text is.result in
       let bytes = same_bytes files file file is.bytes also.bytes refl is.held also.held in
@@ -204,30 +202,30 @@ module _ (files : FileMap) (case_file file : List ℕ) where
   rejected (Faulty line kind) is read = faulty (Fault line kind) 8 (fault_line (Faulty line kind)) is (λ e. absurd cc) refl (λ case. refl)
   rejected TooManyGates is read = faulty Gates 3 (fault_line TooManyGates) is (λ e. absurd cc) refl (λ case. refl)
 
-  said_recheck : (answer : Answer) → SaysRecheck (Some files) case_file file answer → status_of answer ≢ 6 → Said files case_file (JudgedCertificate files file) (status_of answer) (text_of answer)
+  pub said_recheck : (answer : Answer) → SaysRecheck (Some files) case_file file answer → status_of answer ≢ 6 → Said files case_file (JudgedCertificate files file) (status_of answer) (text_of answer)
   said_recheck (Report report) is read = proved (string_bytes report.case) report.outcome is
   said_recheck (RefusalOf refusal) is read = rejected refusal is read
 
 -- ---- words
 
-other_word : (words : List (List ℕ)) (x y z w : List ℕ) → IsReplay words x y → IsRecheck words z w → ⊥
+pub other_word : (words : List (List ℕ)) (x y z w : List ℕ) → IsReplay words x y → IsRecheck words z w → ⊥
 other_word words x y z w is also = let six : 6 ≡ 7 = ap (λ (ws : List (List ℕ)). length (get_or ws 0 [])) (sym is ∙ also) in omega (arith, six)
 
-second_word : (words : List (List ℕ)) (verb x y z w : List ℕ) → words ≡ verb ∷ x ∷ y ∷ [] → words ≡ verb ∷ z ∷ w ∷ [] → x ≡ z
+pub second_word : (words : List (List ℕ)) (verb x y z w : List ℕ) → words ≡ verb ∷ x ∷ y ∷ [] → words ≡ verb ∷ z ∷ w ∷ [] → x ≡ z
 second_word words verb x y z w is also = ap (λ (ws : List (List ℕ)). get_or ws 1 []) (sym is ∙ also)
 
-third_word : (words : List (List ℕ)) (verb x y z w : List ℕ) → words ≡ verb ∷ x ∷ y ∷ [] → words ≡ verb ∷ z ∷ w ∷ [] → y ≡ w
+pub third_word : (words : List (List ℕ)) (verb x y z w : List ℕ) → words ≡ verb ∷ x ∷ y ∷ [] → words ≡ verb ∷ z ∷ w ∷ [] → y ≡ w
 third_word words verb x y z w is also = ap (λ (ws : List (List ℕ)). get_or ws 2 []) (sym is ∙ also)
 
 -- ---- answers
 
-module _ (laws : Laws) (files : FileMap) (words : List (List ℕ)) where
+module _ (files : FileMap) (words : List (List ℕ)) where
   one_replay : (x y z w : List ℕ) (a b : Answer) → IsReplay words x y → IsReplay words z w → SaysReplay (Some files) x y a → SaysReplay (Some files) z w b → status_of a ≢ 6 → status_of b ≢ 6 → AreSame (status_of a) (status_of b) (text_of a) (text_of b)
   one_replay x y z w a b is also says said read also_read =
       let P : List ℕ → Type 0 = λ f. SaysReplay (Some files) f y a in
       let Q : List ℕ → Type 0 = λ f. SaysReplay (Some files) z f a in
       let moved = subst Q (third_word words (codes "replay") x y z w is also) (subst P (second_word words (codes "replay") x y z w is also) says) in
-      one_said files z (JudgedTrace files w) (status_of a) (status_of b) (text_of a) (text_of b) (one_trace laws files z w) (said_replay laws files z w a moved read) (said_replay laws files z w b said also_read)
+      one_said files z (JudgedTrace files w) (status_of a) (status_of b) (text_of a) (text_of b) (one_trace files z w) (said_replay files z w a moved read) (said_replay files z w b said also_read)
 
   one_recheck : (x y z w : List ℕ) (a b : Answer) → IsRecheck words x y → IsRecheck words z w → SaysRecheck (Some files) x y a → SaysRecheck (Some files) z w b → status_of a ≢ 6 → status_of b ≢ 6 → AreSame (status_of a) (status_of b) (text_of a) (text_of b)
   one_recheck x y z w a b is also says said read also_read =
@@ -236,13 +234,13 @@ module _ (laws : Laws) (files : FileMap) (words : List (List ℕ)) where
       let moved = subst Q (third_word words (codes "recheck") x y z w is also) (subst P (second_word words (codes "recheck") x y z w is also) says) in
       one_said files z (JudgedCertificate files w) (status_of a) (status_of b) (text_of a) (text_of b) (one_certificate files z w) (said_recheck files z w a moved read) (said_recheck files z w b said also_read)
 
-pub one_answer : Laws → (files : FileMap) (words : List (List ℕ)) (a b : Answer) → Says (Some files) words a → Says (Some files) words b → status_of a ≢ 6 → status_of b ≢ 6 → (status_of a ≡ status_of b) × (text_of a ≡ text_of b)
-one_answer laws files words a b (no_command none is) (no_command never also) read also_read = (ap status_of is ∙ sym (ap status_of also), ap text_of is ∙ sym (ap text_of also))
-one_answer laws files words a b (no_command none is) (of_replay z w also said) read also_read = absurd (none (z, w, inl also))
-one_answer laws files words a b (no_command none is) (of_recheck z w also said) read also_read = absurd (none (z, w, inr also))
-one_answer laws files words a b (of_replay x y is says) (no_command never also) read also_read = absurd (never (x, y, inl is))
-one_answer laws files words a b (of_replay x y is says) (of_replay z w also said) read also_read = one_replay laws files words x y z w a b is also says said read also_read
-one_answer laws files words a b (of_replay x y is says) (of_recheck z w also said) read also_read = absurd (other_word words x y z w is also)
-one_answer laws files words a b (of_recheck x y is says) (no_command never also) read also_read = absurd (never (x, y, inr is))
-one_answer laws files words a b (of_recheck x y is says) (of_replay z w also said) read also_read = absurd (other_word words z w x y also is)
-one_answer laws files words a b (of_recheck x y is says) (of_recheck z w also said) read also_read = one_recheck laws files words x y z w a b is also says said read also_read
+pub one_answer : (files : FileMap) (words : List (List ℕ)) (a b : Answer) → Says (Some files) words a → Says (Some files) words b → status_of a ≢ 6 → status_of b ≢ 6 → (status_of a ≡ status_of b) × (text_of a ≡ text_of b)
+one_answer files words a b (no_command none is) (no_command never also) read also_read = (ap status_of is ∙ sym (ap status_of also), ap text_of is ∙ sym (ap text_of also))
+one_answer files words a b (no_command none is) (of_replay z w also said) read also_read = absurd (none (z, w, inl also))
+one_answer files words a b (no_command none is) (of_recheck z w also said) read also_read = absurd (none (z, w, inr also))
+one_answer files words a b (of_replay x y is says) (no_command never also) read also_read = absurd (never (x, y, inl is))
+one_answer files words a b (of_replay x y is says) (of_replay z w also said) read also_read = one_replay files words x y z w a b is also says said read also_read
+one_answer files words a b (of_replay x y is says) (of_recheck z w also said) read also_read = absurd (other_word words x y z w is also)
+one_answer files words a b (of_recheck x y is says) (no_command never also) read also_read = absurd (never (x, y, inr is))
+one_answer files words a b (of_recheck x y is says) (of_replay z w also said) read also_read = absurd (other_word words z w x y also is)
+one_answer files words a b (of_recheck x y is says) (of_recheck z w also said) read also_read = one_recheck files words x y z w a b is also says said read also_read

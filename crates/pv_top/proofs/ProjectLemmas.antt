@@ -2,7 +2,7 @@
 use Rattle.std.proofs.Common.{◌≡◌, ℕ, ◌≤◌, List, [], ◌∷◌, length, map, arith, Result, Ok, Err, IfErr, refl, ap, sym, subst, ◌∙◌}
 use Rattle.std.specs.Result.{IsErrAnd}
 use Rattle.pv_tree.specs.declared.fault.ReadFault.{ReadFault}
-use Rattle.pv_tree.specs.declared.fault.ReadFault.TheVariants.{NotOfForm, NoMemory}
+use Rattle.pv_tree.specs.declared.fault.ReadFault.TheVariants.{NotOfForm}
 use Rattle.pv_tree.specs.declared.name.Name.{Name}
 use Rattle.pv_tree.specs.declared.tree.Var.{Var}
 use Rattle.pv_tree.specs.declared.tree.Expr.{Expr}
@@ -15,7 +15,7 @@ use Rattle.pv_tree.proofs.Shapes.{same_names, same_declared}
 use Rattle.std.proofs.lemmas.List.{length-map}
 use Rattle.pv_mean.specs.Cells.{cell_of, cells_of}
 use Rattle.pv_mean.proofs.ReadingLaws.{block_is_boolean, literals_are_boolean}
-use Rattle.pv_mean.specs.Conditions.{HasNames, IsOverBool}
+use Rattle.pv_mean.specs.Conditions.{IsOverBool}
 use Rattle.pv_top.specs.Cases.{CaseData}
 use Rattle.pv_top.specs.Projects.{IsProject}
 

@@ -1,12 +1,11 @@
 -- What a recheck says, by what its certificate's file holds.
-use Rattle.std.proofs.Common.{◌≡◌, ℕ, List, Option, Some, None, Result, Ok, Err, IfSome, string_bytes, inl, inr, refl, sym, subst}
+use Rattle.std.proofs.Common.{◌≡◌, ℕ, List, Option, Result, Ok, Err, IfSome, inr, refl, subst}
 use Rattle.pv_edge.specs.Files.{FileMap}
 use Rattle.pv_tree.specs.declared.tree.Expr.{Expr}
 use Rattle.pv_tree.specs.declared.tree.Block.{Block}
 use Rattle.pv_mean.specs.Conditions.{IsOverBool}
 use Rattle.pv_recheck.specs.declared.fault.RecheckFault.{RecheckFault}
 use Rattle.pv_recheck.specs.declared.fault.RecheckFault.TheVariants.{Unbuilt as UnbuiltCertificate, TooManyGates as Gates, Fault}
-use Rattle.pv_recheck.specs.Validity.{IsValid}
 use Rattle.pv_recheck.specs.Answers.{Answers}
 use Rattle.pv_recheck.proofs.Verdict.{runs_keep}
 use Rattle.pv_top.specs.declared.answer.Outcome.TheVariants.{Satisfied}

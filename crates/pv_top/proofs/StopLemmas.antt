@@ -1,6 +1,6 @@
 -- What a command says where it stops, by the file at which it does.
 use Rattle.std.specs.Result.{IsErrAnd}
-use Rattle.std.proofs.Common.{◌≡◌, ℕ, ℤ, List, Bool, true, false, Option, Some, None, Result, Ok, Err, IfOk, IfErr, IfSome, string_bytes, inl, inr, refl, sym, subst, ap, ◌∙◌}
+use Rattle.std.proofs.Common.{◌≡◌, ℕ, List, Bool, true, false, Option, Result, Ok, Err, IfErr, IfSome, inr, refl, sym, subst, ap, ◌∙◌}
 use Rattle.std.proofs.lemmas.Bool.{true≢false}
 use Rattle.pv_edge.specs.Files.{FileMap}
 use Rattle.pv_tree.specs.declared.fault.ReadFault.{ReadFault}
@@ -14,13 +14,11 @@ use Rattle.pv_top.specs.declared.answer.Report.{Report as ReportOf}
 use Rattle.pv_top.specs.declared.answer.Refusal.TheVariants.{Words, Unread, Unbuilt, Faulty, TooManyGates}
 use Rattle.pv_top.specs.declared.answer.Outcome.TheVariants.{Replay}
 use Rattle.pv_top.specs.declared.answer.Answer.{Answer}
-use Rattle.pv_top.specs.declared.answer.Answer.TheVariants.{Report}
 use Rattle.pv_top.specs.declared.answer.Stop.{Stop}
 use Rattle.pv_top.specs.declared.answer.Stop.TheVariants.{Refused, NoMemory}
 use Rattle.pv_top.specs.Answers.{answer_in}
 use Rattle.pv_top.specs.Cases.{CaseData, IsCaseText}
-use Rattle.pv_top.specs.Projects.{IsProject}
-use Rattle.pv_top.specs.Inputs.{Holds, HoldsCase, HoldsNoCase, HoldsProject, HoldsNoProject, Reads, IsFormStop, StopsCase, StopsSource}
+use Rattle.pv_top.specs.Inputs.{Holds, HoldsCase, HoldsProject, Reads, IsFormStop, StopsCase}
 use Rattle.pv_top.specs.Replays.{Replayed, StopsTrace, ReportsReplay, SaysReplay}
 
 -- what a refusal of a form says

@@ -47,10 +47,14 @@ report_text name (Replay (Kept n)) = codes "PLCV 1\ncase " ++ (name ++ (codes "\
 report_text name (Replay (Broken n)) = codes "PLCV 1\ncase " ++ (name ++ (codes "\npattern invariant\nreplay broken\nscan " ++ (decimal n ++ codes "\ncause pattern\n")))
 report_text name (Satisfied k) = codes "PLCV 1\ncase " ++ (name ++ (codes "\npattern invariant\nverdict satisfied\nk " ++ (decimal k ++ codes "\n")))
 
+-- the line of a file that isn't of its form
+abbrev pub form_line : List ℕ → List ℕ
+form_line file = codes "plcv: form " ++ file ++ codes "\n"
+
 abbrev pub fault_line : Refusal → List ℕ
 fault_line Words = codes "plcv: words\n"
 fault_line (Unread file) = codes "plcv: read " ++ string_bytes file ++ codes "\n"
-fault_line (Unbuilt part file) = codes "plcv: form " ++ string_bytes file ++ codes "\n"
+fault_line (Unbuilt part file) = form_line (string_bytes file)
 fault_line (Faulty line kind) = codes "plcv: certificate: line " ++ (decimal line ++ (codes " " ++ (kind_word kind ++ codes "\n")))
 fault_line TooManyGates = codes "plcv: TooLarge gates 1000000\n"
 

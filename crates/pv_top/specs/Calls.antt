@@ -1,16 +1,16 @@
 -- What a run of the program promises: each field of `Promises` is one.
-use Rattle.std.specs.Prelude.{◌≡◌, ◌≢◌, ◌⊎◌, ℕ, List, [], ◌∷◌, Option, codes}
+use Rattle.std.specs.Prelude.{◌≡◌, ◌≢◌, ◌⊎◌, ◌↔◌, ℕ, List, [], ◌∷◌, Option, Some, codes}
 use Rattle.pv_edge.specs.Faults.{HasRisen}
 use Rattle.pv_edge.specs.Files.{FileMap}
 use Rattle.pv_edge.specs.Sink.{Takes, TakesPart}
 use Rattle.pv_top.specs.declared.words.Command.{Command}
 use Rattle.pv_top.specs.declared.words.Command.TheVariants.{Replay, Recheck}
 use Rattle.pv_top.specs.declared.answer.Answer.{Answer}
-use Rattle.pv_top.specs.declared.answer.Answer.TheVariants.{Report, Refusal}
+use Rattle.pv_top.specs.declared.answer.Answer.TheVariants.{Refusal}
 use Rattle.pv_top.specs.declared.answer.Refusal.TheVariants.{Words}
 use Rattle.pv_top.specs.Answers.{status_of, text_of}
-use Rattle.pv_top.specs.Replays.{SaysReplay}
-use Rattle.pv_top.specs.Rechecks.{SaysRecheck}
+use Rattle.pv_top.specs.Replays.{SaysReplay, ReplaysExactly}
+use Rattle.pv_top.specs.Rechecks.{SaysRecheck, RechecksExactly}
 
 -- a run of the program, seen from outside: its words and its status, what the files are told to hold, what the sink has taken
 -- and the counts of faults, before and after
@@ -59,8 +59,25 @@ pub data Answers (call : Call) : Type 0 where
   answers : (answer : Answer) → Says call.told call.words answer → Delivers answer call.status call.taken call.taken_after → Answers call
   silent : call.status ≡ 9 → call.taken_after ≡ call.taken → Answers call
 
+-- no file was unreadable, the sink took the whole text, and memory sufficed
+pub record IsSettled (status : ℕ) : Type 0 where
+  pub readable : status ≢ 6
+  pub written : status ≢ 7
+  pub roomy : status ≢ 9
+
+-- the text stands behind what the sink had taken
+abbrev pub IsTakenIn : Call → List ℕ → Type 0
+IsTakenIn call text = Takes text call.taken call.taken_after
+
 pub record Promises (call : Call) : Type 0 where
   pub answer : Answers call
+  -- status 5 comes exactly where the words are no command's
+  pub no_command : IsSettled call.status → (call.status ≡ 5) ↔ (IsCommand call.words → ⊥)
+  -- where the files tell their bytes, each other status and the text come exactly where the files hold what they say
+  pub replay : (files : FileMap) (case_file trace_file : List ℕ) → call.told ≡ Some files → IsReplay call.words case_file trace_file → IsSettled call.status
+      → ReplaysExactly files case_file trace_file call.status (IsTakenIn call)
+  pub recheck : (files : FileMap) (case_file certificate_file : List ℕ) → call.told ≡ Some files → IsRecheck call.words case_file certificate_file → IsSettled call.status
+      → RechecksExactly files case_file certificate_file call.status (IsTakenIn call)
   -- a read fault and a write fault are told only where their count rose
   pub unread : call.status ≡ 6 → HasRisen call.reads call.reads_after
   pub unwritten : call.status ≡ 7 → HasRisen call.sink call.sink_after

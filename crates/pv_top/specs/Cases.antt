@@ -55,7 +55,7 @@ pub record IsSource (d : Data) (file : List ℕ) : Type 0 where
   pub text : HasText d (codes "file") file
   pub named : 1 ≤ length file
 
--- the pattern `invariant`: its expression holds in each scan
+-- the pattern `invariant` with the text of its expression
 pub record IsInvariant (d : Data) (expression : List ℕ) : Type 0 where
   pub members : HasMembers d 2
   pub kind : get (codes "kind") d ≡ Some (string (codes "invariant"))

@@ -1,5 +1,5 @@
 -- What the command `recheck CASE CERT` says.
-use Rattle.std.specs.Prelude.{◌≡◌, ◌<◌, ℕ, List, Option, Err, string_bytes}
+use Rattle.std.specs.Prelude.{◌≡◌, ◌↔◌, ◌⊎◌, ℕ, List, Option, Some, Result, Ok, Err, string_bytes}
 use Rattle.std.specs.List.{AllByRecursion}
 use Rattle.pv_edge.specs.Files.{FileMap}
 use Rattle.pv_word.specs.Types.{AreValues}
@@ -24,8 +24,9 @@ use Rattle.pv_top.specs.declared.answer.Refusal.{Refusal}
 use Rattle.pv_top.specs.declared.answer.Refusal.TheVariants.{Words, Unread, Unbuilt, Faulty, TooManyGates}
 use Rattle.pv_top.specs.declared.answer.Stop.{Stop}
 use Rattle.pv_top.specs.declared.answer.Stop.TheVariants.{Refused, NoMemory}
+use Rattle.pv_top.specs.Answers.{form_line, fault_line, report_text}
 use Rattle.pv_top.specs.Cases.{CaseData}
-use Rattle.pv_top.specs.Inputs.{Holds, Reads, IsUnreadable, IsNoCase, IsNoProject}
+use Rattle.pv_top.specs.Inputs.{Holds, HoldsCase, HoldsNoCase, HoldsNoProject, Reads, IsUnreadable, IsNoCase, IsNoProject}
 
 -- by each list of inputs, the run of the block has no scan that fails: each is done and keeps the invariant
 abbrev pub IsSatisfied : Block → Expr → Type 0
@@ -106,3 +107,26 @@ RefusesRecheck told case_file file TooManyGates = IsRefused told case_file file 
 abbrev pub SaysRecheck : Option FileMap → List ℕ → List ℕ → Answer → Type 0
 SaysRecheck told case_file file (Report report) = ReportsRecheck told case_file file (string_bytes report.case) report.outcome
 SaysRecheck told case_file file (RefusalOf refusal) = RefusesRecheck told case_file file refusal
+
+-- case and source are of the form, and the certificate's file holds bytes that the check answers so
+pub record IsJudged (files : FileMap) (case_file file : List ℕ) (result : Result (Unit {0}) RecheckFault) : Type 0 where
+  pub case : CaseData
+  pub block : Block
+  pub a : Expr
+  pub reads : Reads (Some files) case_file case block a
+  pub bytes : List ℕ
+  pub held : Holds (Some files) file bytes
+  pub answer : Answers block a bytes result
+
+-- what the files hold decides a recheck's status, and the text that is taken
+pub record RechecksExactly (files : FileMap) (case_file file : List ℕ) (status : ℕ) (IsTaken : List ℕ → Type 0) : Type 0 where
+  pub satisfied : (status ≡ 0) ↔ IsJudged files case_file file (Ok tt)
+  pub no_project : (status ≡ 3) ↔ (((case : CaseData) × HoldsCase (Some files) case_file case × HoldsNoProject (Some files) case) ⊎ IsJudged files case_file file (Err Gates))
+  pub no_case : (status ≡ 4) ↔ HoldsNoCase (Some files) case_file
+  pub refused : (status ≡ 8) ↔ (IsJudged files case_file file (Err UnbuiltCertificate) ⊎ ((line : ℕ) × (kind : Kind) × IsJudged files case_file file (Err (Fault line kind))))
+  pub report : (is : IsJudged files case_file file (Ok tt)) → IsTaken (report_text is.case.name (Satisfied 0))
+  pub project_line : (case : CaseData) → HoldsCase (Some files) case_file case → HoldsNoProject (Some files) case → IsTaken (form_line case.file)
+  pub case_line : HoldsNoCase (Some files) case_file → IsTaken (form_line case_file)
+  pub unbuilt_line : IsJudged files case_file file (Err UnbuiltCertificate) → IsTaken (form_line file)
+  pub gates_line : IsJudged files case_file file (Err Gates) → IsTaken (fault_line TooManyGates)
+  pub certificate_line : (line : ℕ) (kind : Kind) → IsJudged files case_file file (Err (Fault line kind)) → IsTaken (fault_line (Faulty line kind))

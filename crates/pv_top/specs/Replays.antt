@@ -1,5 +1,5 @@
 -- What the command `replay CASE TRACE` says.
-use Rattle.std.specs.Prelude.{◌≡◌, ℕ, ℤ, List, Option, string_bytes}
+use Rattle.std.specs.Prelude.{◌≡◌, ◌↔◌, ℕ, ℤ, List, Option, Some, string_bytes}
 use Rattle.pv_edge.specs.Files.{FileMap}
 use Rattle.pv_tree.specs.declared.tree.Expr.{Expr}
 use Rattle.pv_tree.specs.declared.tree.Block.{Block}
@@ -8,6 +8,7 @@ use Rattle.pv_mean.specs.Frames.{input_len}
 use Rattle.pv_mean.specs.Runs.{run}
 use Rattle.pv_pattern.specs.Patterns.{invariant}
 use Rattle.pv_replay.specs.declared.end.End.{End}
+use Rattle.pv_replay.specs.declared.end.End.TheVariants.{Kept, Broken}
 use Rattle.pv_replay.specs.Traces.{AreScans, trace_text}
 use Rattle.pv_replay.specs.Ends.{IsEnd}
 use Rattle.pv_top.specs.declared.answer.Answer.{Answer}
@@ -19,8 +20,9 @@ use Rattle.pv_top.specs.declared.answer.Outcome.{Outcome}
 use Rattle.pv_top.specs.declared.answer.Outcome.TheVariants.{Replay, Satisfied}
 use Rattle.pv_top.specs.declared.answer.Stop.{Stop}
 use Rattle.pv_top.specs.declared.answer.Stop.TheVariants.{Refused, NoMemory}
+use Rattle.pv_top.specs.Answers.{form_line, report_text}
 use Rattle.pv_top.specs.Cases.{CaseData}
-use Rattle.pv_top.specs.Inputs.{Holds, Reads, IsUnreadable, IsNoCase, IsNoProject}
+use Rattle.pv_top.specs.Inputs.{Holds, HoldsCase, HoldsNoCase, HoldsNoProject, Reads, IsUnreadable, IsNoCase, IsNoProject}
 
 -- the trace's file holds the scans of a trace of the block, and the run over them ends so
 pub record Replayed (told : Option FileMap) (trace_file : List ℕ) (block : Block) (a : Expr) (end : End) : Type 0 where
@@ -84,3 +86,15 @@ ReportsReplay told case_file trace_file name (Satisfied k) = ⊥
 abbrev pub SaysReplay : Option FileMap → List ℕ → List ℕ → Answer → Type 0
 SaysReplay told case_file trace_file (Report report) = ReportsReplay told case_file trace_file (string_bytes report.case) report.outcome
 SaysReplay told case_file trace_file (RefusalOf refusal) = RefusesReplay told case_file trace_file refusal
+
+-- what the files hold decides a replay's status, and the text that is taken
+pub record ReplaysExactly (files : FileMap) (case_file trace_file : List ℕ) (status : ℕ) (IsTaken : List ℕ → Type 0) : Type 0 where
+  pub kept : (status ≡ 0) ↔ ((name : List ℕ) × (scans : ℕ) × IsReplayed (Some files) case_file trace_file name (Kept scans))
+  pub broken : (status ≡ 1) ↔ ((name : List ℕ) × (scan : ℕ) × IsReplayed (Some files) case_file trace_file name (Broken scan))
+  pub no_project : (status ≡ 3) ↔ ((case : CaseData) × HoldsCase (Some files) case_file case × HoldsNoProject (Some files) case)
+  pub no_case : (status ≡ 4) ↔ HoldsNoCase (Some files) case_file
+  pub no_trace : (status ≡ 8) ↔ IsNoTrace (Some files) case_file trace_file
+  pub report : (name : List ℕ) (end : End) → IsReplayed (Some files) case_file trace_file name end → IsTaken (report_text name (Replay end))
+  pub project_line : (case : CaseData) → HoldsCase (Some files) case_file case → HoldsNoProject (Some files) case → IsTaken (form_line case.file)
+  pub case_line : HoldsNoCase (Some files) case_file → IsTaken (form_line case_file)
+  pub trace_line : IsNoTrace (Some files) case_file trace_file → IsTaken (form_line trace_file)

@@ -11,9 +11,9 @@ use pv_replay::End;
 use std::alloc::{AllocError, Global};
 use thiserror::Error;
 
-/// How the program ends: 0 the requirement holds, 1 it doesn't, 2 undecided, 3 a source is refused,
-/// 4 the case is refused, 5 the words are refused, 6 a read fault, 7 a write fault, 8 a trace or a
-/// certificate is refused, 9 want of memory.
+/// How the program ends: 0 the requirement holds, 1 it doesn't, 2 undecided, 3 a source is refused
+/// or its step circuit is too large, 4 the case is refused, 5 the words are refused, 6 a read fault,
+/// 7 a write fault, 8 a trace or a certificate is refused, 9 want of memory.
 pub type Status = u8;
 
 pub const WRITE_FAULT: Status = 7;

@@ -1,4 +1,4 @@
-use Rattle.std.proofs.Common.{◌≡◌, ◌∙◌, List, ℕ, Err, ap, sym, subst}
+use Rattle.std.proofs.Common.{◌∙◌, List, ℕ, Err, ap, sym, subst}
 use Rattle.std.proofs.lemmas.Bool.{true≢false}
 use Rattle.pv_tree.specs.declared.name.Name.{Name}
 use Rattle.pv_tree.specs.Shape.{ExprShape, expr_shape}

@@ -2,4 +2,4 @@ use Rattle.pv_top.proofs.OneAnswer.{one_answer}
 use Rattle.pv_top.proofs.laws.files_have_one_answer.Goals as goal
 
 pub returns : goal.returns
-returns c = one_answer (record { one_end = c.scans_have_one_end.ensures; one_reading = c.traces_have_one_reading.ensures })
+returns c = one_answer
