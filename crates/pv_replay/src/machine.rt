@@ -36,8 +36,8 @@ pub struct Machine {
 impl Machine {
     ghost use Rattle.pv_replay.specs.Machines.{IsMachineOf, IsReady, end_after};
 
-    /// The machine of a block. NotOfForm where a name of the block or of the invariant isn't declared,
-    /// or a variable's start value is none of BOOL.
+    /// The machine of a block and an invariant. NotOfForm where a variable is declared twice, a name
+    /// isn't declared, or a literal or start value is none of BOOL.
     pub fn make(alloc: Global, block: &Block, invariant: &Expr) -> Result<Machine, ReadFault>
         ensures found { IfOk result (λ m. IsMachineOf block.now invariant.now m) }
         ensures refused { IfErr result (λ fault. fault ≡ NotOfForm → IsOverBool block.now invariant.now → ⊥) }
@@ -113,8 +113,8 @@ fn start_frame(alloc: Global, cells: &[Cell]) -> Result<Vec<i128>, AllocError>
 
 /// Replays a trace on a block from the start image, up to the first scan that breaks the invariant.
 ///
-/// NotOfForm where a name of the block or of the invariant isn't declared, a start value is none of
-/// BOOL, or the bytes are no trace of the block.
+/// NotOfForm where a variable is declared twice, a name of the block or of the invariant isn't
+/// declared, a literal or start value is none of BOOL, or the bytes are no trace of the block.
 pub fn replay_block(
     alloc: Global,
     block: &Block,
