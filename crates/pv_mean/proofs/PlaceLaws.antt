@@ -1,5 +1,5 @@
 -- Where the values of an image and of an input stand at a scan's beginning.
-use Rattle.std.proofs.Common.{◌≡◌, ◌++◌, ℕ, suc, List, [], ◌∷◌, length, ℤ, pos, Bool, true, false, not, cond, get_or, refl, ap, sym, ◌∙◌}
+use Rattle.std.proofs.Common.{◌≡◌, ◌++◌, suc, List, [], ◌∷◌, length, pos, Bool, true, false, not, cond, get_or, ap, ◌∙◌}
 use Rattle.std.specs.Prelude.{filter}
 use Rattle.pv_mean.specs.declared.cell.Cell.{Cell}
 use Rattle.pv_mean.specs.Cells.{is_input}

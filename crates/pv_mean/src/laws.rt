@@ -1,5 +1,5 @@
 //! Laws of the definitions, each the contract of a function that does nothing.
-ghost use Rattle.std.specs.Prelude.{◌≡◌, ◌≢◌, ◌++◌, ◌∷◌, length, pos, ℕ, ℤ, List, Contains, map, slice_index_or, true, false};
+ghost use Rattle.std.specs.Prelude.{◌≡◌, ◌≢◌, ◌++◌, ◌∷◌, length, pos, ℕ, ℤ, List, Some, Contains, map, slice_index_or, true, false};
 ghost use Rattle.pv_word.specs.declared.types.Ty.TheVariants.{Bool};
 ghost use Rattle.pv_word.specs.Types.{AreValues};
 ghost use Rattle.pv_tree.specs.declared.place.Place.{Place};
@@ -47,6 +47,12 @@ pub fn assigned_cells_have_the_value()
 pub fn runs_follow()
     ensures { (block : Block) (image : Image) (inputs more : List Input)
         → run_from block image (inputs ++ more) ≡ run_from block image inputs ++ run_on block (end_image block image inputs) more }
+{}
+
+/// A run whose scans are all done has a scan for each input.
+pub fn done_runs_have_a_scan_for_each_input()
+    ensures { (block : Block) (image : Image) (inputs : List Input) (end : Image)
+        → end_image block image inputs ≡ Some end → length (run_from block image inputs) ≡ length inputs }
 {}
 
 /// The image that a frame leaves is as long as the start image.

@@ -26,7 +26,7 @@ use Rattle.pv_replay.specs.declared.end.End.{End}
 use Rattle.pv_replay.specs.declared.end.End.TheVariants.{Kept, Broken}
 use Rattle.pv_replay.specs.declared.machine.Machine.{Machine}
 use Rattle.pv_replay.specs.Traces.{IsBit, AreBits, IsScan, AreScans, scan_text, scans_text, trace_text}
-use Rattle.pv_replay.specs.Programs.{IsTerm, IsAssignment, AreBools, value_in, run_program}
+use Rattle.pv_replay.specs.Programs.{AreBools, value_in, run_program}
 use Rattle.pv_replay.specs.Ends.{IsEnd}
 use Rattle.pv_replay.specs.Machines.{IsMachineOf, IsReady, end_after}
 use Rattle.pv_replay.proofs.TraceLemmas.{next_is, none_left}
@@ -125,22 +125,12 @@ bits_in_bool (v ∷ vs) bits zero = bit_in_bool v bits.0
 bits_in_bool (v ∷ vs) bits (suc k) = bits_in_bool vs bits.1 k
 
 -- the start frame is one that the machine can go on with
-pub ready_at_start : (block : Block) (a : Expr) (m : Machine) (frame : List ℤ) → IsMachineOf block a m → frame ≡ map (λ c. c.start) m.cells.items → IsReady m frame
-ready_at_start block a m frame of is =
-    let cells = cells_of block in
-    let starts = map (λ (c : Cell). c.start) cells in
-    let same : frame ≡ starts = is ∙ ap (λ cs. map (λ (c : Cell). c.start) cs) of.cells in
-    let keys = keys_of block.interface.vars.items in
-    let len_keys : length keys ≡ length cells = sym (ap length (keys_same block.interface.vars.items)) ∙ length-map cells key_of_path in
-    let len : length frame ≡ length cells = ap length same ∙ length-map cells (λ (c : Cell). c.start) in
-    let P : ℕ → Type 0 = λ n. All (IsAssignment n) m.program.items in
-    let Q : ℕ → Type 0 = λ n. IsTerm n m.invariant in
+pub ready_at_start : (m : Machine) (frame : List ℤ) → frame ≡ map (λ c. c.start) m.cells.items → IsReady m frame
+ready_at_start m frame is =
     let R : List ℤ → Type 0 = λ f. AreBools f in
     record {
-      cells = len ∙ sym (ap length of.cells);
-      program = subst P (len_keys ∙ sym len) of.program.within;
-      invariant = subst Q (len_keys ∙ sym len) of.invariant.within;
-      bools = subst R (sym same) (starts_in_bool cells of.starts);
+      cells = ap length is ∙ length-map m.cells.items (λ (c : Cell). c.start);
+      bools = subst R (sym is) (starts_in_bool m.cells.items m.resolved.starts);
     }
 
 -- ---- the end

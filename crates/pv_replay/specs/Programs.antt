@@ -1,5 +1,7 @@
 -- A block whose names are numbers of cells, as the interpreter has it. No public clause cites this.
 use Rattle.std.specs.Prelude.{◌≡◌, ◌<◌, ℕ, List, [], ◌∷◌, length, map, ℤ, pos, slice_index_or, slice_set, position, bytes_eq, Some, All}
+use Rattle.std.specs.Coded.{×_prop}
+use Rattle.std.proofs.Props.{props}
 use Rattle.pv_word.specs.declared.types.Ty.TheVariants.{Bool}
 use Rattle.pv_word.specs.Types.{InRange, and_of, or_of, not_of}
 use Rattle.pv_tree.specs.declared.tree.Expr.{Expr}
@@ -8,6 +10,7 @@ use Rattle.pv_tree.specs.declared.tree.Stmt.TheVariants.{Assign}
 use Rattle.pv_tree.specs.declared.tree.Operand.{Operand}
 use Rattle.pv_mean.specs.declared.cell.Cell.{Cell}
 use Rattle.pv_mean.specs.Cells.{key_of_path}
+use Rattle.pv_mean.specs.Boolean.{StartsInBool}
 use Rattle.pv_mean.specs.Frames.{Frame}
 use Rattle.pv_mean.specs.Values.{number, value}
 use Rattle.pv_mean.specs.Statements.{normal, run_one, run_list}
@@ -43,6 +46,23 @@ AreBools frame = (k : ℕ) → InRange Bool (slice_index_or frame k (pos 0))
 pub record IsAssignment (n : ℕ) (a : Assignment) : Type 0 where
   pub target : a.target < n
   pub term : IsTerm n a.value
+
+-- the assignments and the term are over these cells, whose start values are of BOOL
+pub record IsResolved (cells : List Cell) (program : List Assignment) (t : Term) : Type 0 where
+  pub starts : All StartsInBool cells
+  pub assignments : All (IsAssignment (length cells)) program
+  pub term : IsTerm (length cells) t
+
+-- each of these facts has one proof at most, as a struct's invariant must
+pub IsTerm-prop : (n : ℕ) (t : Term) → IsProp (IsTerm n t)
+IsTerm-prop n (Constant v) = hlevel props
+IsTerm-prop n (Load k) = hlevel props
+IsTerm-prop n (Not' p t) = IsTerm-prop n t
+IsTerm-prop n (And' p s q t) = ×_prop (IsTerm-prop n s) (IsTerm-prop n t)
+IsTerm-prop n (Or' p s q t) = ×_prop (IsTerm-prop n s) (IsTerm-prop n t)
+
+pub IsResolved-prop : (cells : List Cell) (program : List Assignment) (t : Term) → IsProp (IsResolved cells program t)
+IsResolved-prop cells program t = hlevel (props, IsTerm-prop)
 
 -- the frame after the assignments
 abbrev pub run_program : List Assignment → Frame → Frame

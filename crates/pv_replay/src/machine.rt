@@ -9,9 +9,8 @@ ghost use Rattle.pv_mean.specs.Cells.{cells_of};
 ghost use Rattle.pv_mean.specs.Frames.{input_len, begin, image_of};
 ghost use Rattle.pv_mean.specs.Runs.{run, run_from};
 ghost use Rattle.pv_replay.specs.Traces.{AreScans, scans_text, trace_text};
-ghost use Rattle.pv_replay.specs.Programs.{AreBools, value_in, run_program};
+ghost use Rattle.pv_replay.specs.Programs.{AreBools, value_in, run_program, IsResolved, IsResolved-prop};
 ghost use Rattle.pv_replay.specs.Ends.{IsEnd};
-ghost use Rattle.pv_replay.specs.Machines.{IsMachineOf, IsReady, end_after};
 ghost use Rattle.pv_mean.specs.Boolean.{StartsInBool};
 ghost use Rattle.pv_pattern.specs.Patterns.{invariant as inv};
 ghost use Rattle.pv_mean.specs.Conditions.{IsOverBool};
@@ -24,17 +23,21 @@ use pv_tree::{Block, Expr, ReadFault, scope_of};
 use pv_word::Ty;
 use std::alloc::{AllocError, Global};
 
-/// A block and an invariant over it.
+/// A block and an invariant over it, whose names are numbers of cells.
 #[derive(Drop)]
 pub struct Machine {
     cells: Vec<Cell>,
     program: Vec<Assignment>,
     invariant: Term,
+    /// What is loaded or assigned is one of these cells, and all values are of BOOL.
+    ghost resolved: { IsResolved cells.items program.items invariant } by { IsResolved-prop cells.items program.items invariant },
 }
 
 impl Machine {
-    /// The machine of a block. NotOfForm where a name of the block or of the invariant isn't declared,
-    /// or a variable's start value is none of BOOL.
+    ghost use Rattle.pv_replay.specs.Machines.{IsMachineOf, IsReady, end_after};
+
+    /// The machine of a block and an invariant. NotOfForm where a variable is declared twice, a name
+    /// isn't declared, or a literal or start value is none of BOOL.
     pub fn make(alloc: Global, block: &Block, invariant: &Expr) -> Result<Machine, ReadFault>
         ensures found { IfOk result (λ m. IsMachineOf block.now invariant.now m) }
         ensures refused { IfErr result (λ fault. fault ≡ NotOfForm → IsOverBool block.now invariant.now → ⊥) }
@@ -110,8 +113,8 @@ fn start_frame(alloc: Global, cells: &[Cell]) -> Result<Vec<i128>, AllocError>
 
 /// Replays a trace on a block from the start image, up to the first scan that breaks the invariant.
 ///
-/// NotOfForm where a name of the block or of the invariant isn't declared, a start value is none of
-/// BOOL, or the bytes are no trace of the block.
+/// NotOfForm where a variable is declared twice, a name of the block or of the invariant isn't
+/// declared, a literal or start value is none of BOOL, or the bytes are no trace of the block.
 pub fn replay_block(
     alloc: Global,
     block: &Block,

@@ -30,7 +30,8 @@ pub struct Assignment {
     pub value: Term,
 }
 
-/// The assignments of a block, in order. NotOfForm where a name isn't declared.
+/// The assignments of a block, in order. NotOfForm where a name isn't declared or a literal is none
+/// of BOOL.
 pub fn program_of(alloc: Global, scope: &Scope, block: &Block) -> Result<Vec<Assignment>, ReadFault>
     ensures found { IfOk result (λ program. IsProgramOf scope.now (statements_of block.now.body) program.items) }
     ensures refused { IfErr result (λ fault. fault ≡ NotOfForm → All (IsDeclaredIn scope.now) (statements_of block.now.body) → All HasBoolLiterals (statements_of block.now.body) → ⊥) }
@@ -78,7 +79,7 @@ fn source_of_statement(statement: &Stmt) -> &Expr
     value
 }
 
-/// The term of an expression. NotOfForm where a name isn't declared.
+/// The term of an expression. NotOfForm where a name isn't declared or a literal is none of BOOL.
 pub fn term_of(alloc: Global, scope: &Scope, expr: &Expr) -> Result<Term, ReadFault>
     ensures found { IfOk result (λ term. IsTermOf scope.now expr.now term) }
     ensures refused { IfErr result (λ fault. fault ≡ NotOfForm → IsDeclared scope.now expr.now → BoolLiterals expr.now → ⊥) }

@@ -6,7 +6,7 @@ use Rattle.pv_replay.proofs.machine.replay_block.Goals as goal
 
 pub run-requires-clause-ready : goal.run-requires-clause-ready
 run-requires-clause-ready c =
-    ready_at_start c.args.block.now c.args.invariant.now c.in_ok-machine.machine c.deref_mut-3.result.now c.in_ok-machine.ensures.found
+    ready_at_start c.in_ok-machine.machine c.deref_mut-3.result.now
     (c.deref_mut-3.ensures.value ∙ c.in_ok-frame.ensures ∙ ap (λ cs. map (λ (x : Cell). x.start) cs) c.deref-2.ensures.value)
 
 pub returns-clause-found : goal.returns-clause-found
