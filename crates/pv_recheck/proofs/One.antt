@@ -20,7 +20,7 @@ use Rattle.pv_recheck.specs.declared.fault.RecheckFault.{RecheckFault}
 use Rattle.pv_recheck.specs.declared.fault.RecheckFault.TheVariants.{Unbuilt, TooManyGates, Fault, NoMemory}
 use Rattle.pv_recheck.specs.Form.{IsLine, IsUnbuilt}
 use Rattle.pv_recheck.specs.Validity.{step_formula, IsStepProof, IsValid}
-use Rattle.pv_recheck.specs.Faults.{BeginsWithStep, first_log, log_line, LineFails, LogLacksEmpty, HasSecondAt, IsFaultAt}
+use Rattle.pv_recheck.specs.Faults.{BeginsWithStep, first_log, number_of_log_line, LineFails, LogLacksEmpty, HasSecondAt, IsFaultAt}
 use Rattle.pv_recheck.specs.Answers.{IsBeforeLog, ComesToLog, Answers, IsUnlessNoMemory}
 use Rattle.pv_recheck.proofs.Lines.{same_line, ahead}
 
@@ -35,7 +35,7 @@ module _ (b : Block) (a : Expr) where
   lines_one : (ps : List Proof) (at to : ℕ) (f g : LineFault) → LineFails b a ps at f → LineFails b a ps to g → (at ≡ to) × (Line f ≡ Line g)
   lines_one ps at to f g h k =
       let same = fails-once (step_formula b a).variables (step_formula b a).clauses (first_log ps) h.1 k.1 f g h.3 k.3 in
-      (h.2 ∙ ap log_line same.0 ∙ sym k.2, ap (λ x. Line x) same.1)
+      (h.2 ∙ ap number_of_log_line same.0 ∙ sym k.2, ap (λ x. Line x) same.1)
 
   line_lacks : (ps : List Proof) (at : ℕ) (f : LineFault) → LineFails b a ps at f → LogLacksEmpty b a ps → ⊥
   line_lacks ps at f h k = follows-not-fails (step_formula b a).variables (step_formula b a).clauses (first_log ps) h.1 f k.1.each h.3
