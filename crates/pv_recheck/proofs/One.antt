@@ -10,8 +10,7 @@ use Rattle.pv_log.specs.Follows.{ends_empty}
 use Rattle.pv_log.proofs.FollowLaws.{follows-not-fails, fails-once}
 use Rattle.pv_cert.specs.declared.proof.Proof.{Proof}
 use Rattle.pv_cert.specs.declared.certificate.Certificate.{Certificate}
-use Rattle.pv_cert.specs.declared.certificate.Claim.TheVariants.{Satisfied}
-use Rattle.pv_cert.specs.CertificateText.{text_of_lines, query_line, log_line as count_line, IsTextOf, FailsAt, NoFeed}
+use Rattle.pv_cert.specs.CertificateText.{satisfied_by, text_of_lines, query_line, log_line as count_line, IsTextOf, FailsAt, NoFeed}
 use Rattle.pv_cert.proofs.Texts.{feedless}
 use Rattle.pv_cert.proofs.Whole.{one-certificate, fails-once as one-stuck}
 use Rattle.pv_recheck.specs.declared.fault.Kind.{Kind}
@@ -118,7 +117,7 @@ module _ (b : Block) (a : Expr) where
   shown_right p at WrongQuery s (inr h) = h.2 refl
 
   pub valid_right : (bytes : List ℕ) (at : ℕ) (f : Kind) → IsValid b a bytes → IsFaultAt b a bytes at f → ⊥
-  valid_right bytes at f v h = shown_right v.proof at f v.is_proof (contents_of bytes (record { claim = Satisfied 0; proofs = v.proof ∷ [] }) at f v.is_text h)
+  valid_right bytes at f v h = shown_right v.proof at f v.is_proof (contents_of bytes (satisfied_by (v.proof ∷ [])) at f v.is_text h)
 
   -- its second line is the verdict, and its fourth a chain without words
   lines_built : (one two three four : List ℕ) (lines : List (List ℕ)) (bytes : List ℕ) → bytes ≡ text_of_lines (one ∷ two ∷ three ∷ four ∷ lines) → NoFeed one → NoFeed two → NoFeed three → NoFeed four
@@ -139,8 +138,7 @@ module _ (b : Block) (a : Expr) where
   valid_lines : (bytes : List ℕ) → IsValid b a bytes → IsLine 2 bytes (codes "verdict satisfied 0") × IsLine 4 bytes (codes "chain")
   valid_lines bytes v =
       let p = v.proof in
-      let c : Certificate = record { claim = Satisfied 0; proofs = p ∷ [] } in
-      let plain = feedless c v.is_text.valid in
+      let plain = feedless (satisfied_by (p ∷ [])) v.is_text.valid in
       lines_built (codes "PLCVCERT 1") (codes "verdict satisfied 0") (query_line p.query) (codes "chain") (count_line (length p.log) ∷ (map line_text p.log ++ [] ++ codes "end" ∷ [])) bytes v.is_text.text plain.0 plain.1.0 plain.1.1.0 plain.1.1.1.0
 
   pub valid_built : (bytes : List ℕ) → IsValid b a bytes → IsUnbuilt bytes → ⊥
