@@ -7,6 +7,7 @@ use Rattle.pv_log.specs.declared.line.Line.{Line}
 use Rattle.pv_log.specs.LineText.{line_text, HasText}
 use Rattle.pv_cert.specs.declared.proof.Query.{Query}
 use Rattle.pv_cert.specs.declared.proof.Proof.{Proof}
+use Rattle.pv_cert.specs.declared.trace.Trace.{Trace}
 use Rattle.pv_cert.specs.declared.certificate.Claim.{Claim}
 use Rattle.pv_cert.specs.declared.certificate.Claim.TheVariants.{Satisfied}
 use Rattle.pv_cert.specs.declared.certificate.Certificate.{Certificate}
@@ -15,7 +16,7 @@ use Rattle.pv_cert.specs.declared.fault.CertFault.TheVariants.{NotACertificate, 
 use Rattle.pv_cert.specs.declared.stage.Stage.{Stage}
 use Rattle.pv_cert.specs.declared.stage.Stage.TheVariants.{Version, Verdict, Ready, Reduced, Counted, Lines, Whole}
 use Rattle.pv_cert.specs.declared.stage.Draft.{Draft}
-use Rattle.pv_cert.specs.CertificateText.{text_of_lines, proof_lines, head_lines, certificate_lines, certificate_text, HasProofText, HasCertificateText, IsTextOf, BeginsOne, NoFeed, FailsAt, IsUnlessNoMemory}
+use Rattle.pv_cert.specs.CertificateText.{text_of_lines, proof_lines, head_lines, certificate_lines, certificate_text, satisfied_by, HasProofText, HasCertificateText, IsTextOf, BeginsOne, NoFeed, FailsAt, IsUnlessNoMemory}
 use Rattle.pv_cert.specs.Reading.{proof_of, settled, with_line, Takes, TakesAll, blank, HasRoom, Reached, StopsAt, ReadsAll, Reads}
 use Rattle.pv_cert.proofs.Texts.{all-append, all-behind, feedless, onto, cut-one, not-empty, IsCut, cut-short, cut-lines, text-append, text-push, no-lines}
 use Rattle.pv_cert.proofs.Steps.{IsGood, start-good, lead-all, goes, same-all, take-both, take-one, take-parts}
@@ -80,16 +81,16 @@ certificate-taken c h = (
 -- ---- what was read
 
 -- what was read whole is a certificate
-read-is_text : (bytes rest : List ℕ) (line : ℕ) (d : Draft) (c : Certificate) → Reached bytes [] line d Whole → c.claim ≡ Satisfied 0 → c.proofs ≡ d.proofs → IsTextOf bytes c
-read-is_text bytes rest line d c r claim proofs =
+read-is_text : (bytes rest : List ℕ) (line : ℕ) (d : Draft) (c : Certificate) → Reached bytes [] line d Whole → c.claim ≡ Satisfied 0 → c.trace ≡ None → c.next ≡ None → c.proofs ≡ d.proofs → IsTextOf bytes c
+read-is_text bytes rest line d c r claim trace next proofs =
     let g = lead-all r.before blank Version (d, Whole) start-good r.taken in
     record {
-      valid = record { claim = claim; proofs = subst (λ (l : List Proof). AllByRecursion HasProofText l) (sym proofs) g.0.proofs };
+      valid = record { claim = claim; trace = trace; next = next; proofs = subst (λ (l : List Proof). AllByRecursion HasProofText l) (sym proofs) g.0.proofs };
       text = r.split ∙ append-nil (text_of_lines r.before) ∙ ap text_of_lines (sym g.1 ∙ ap (λ (l : List Proof). head_lines ++ (flat_map proof_lines l ++ codes "end" ∷ [])) (sym proofs));
     }
 
 pub read-whole : (bytes : List ℕ) (c : Certificate) → ReadsAll bytes c → IsTextOf bytes c
-read-whole bytes c h = read-is_text bytes [] h.line h.draft c h.reached h.claim h.proofs
+read-whole bytes c h = read-is_text bytes [] h.line h.draft c h.reached h.claim h.trace h.next h.proofs
 
 -- what was read begins a certificate
 read-begins : (bytes rest : List ℕ) (line : ℕ) (d : Draft) (stage : Stage) (r : Reached bytes rest line d stage) → BeginsOne (text_of_lines r.before)
@@ -97,13 +98,13 @@ read-begins bytes rest line d stage r =
     let g = lead-all r.before blank Version (d, stage) start-good r.taken in
     let on = goes d stage g.0 in
     let e = lead-all on.more d stage (on.final, Whole) g.0 on.takes in
-    let c : Certificate = record { claim = Satisfied 0; proofs = on.final.proofs } in
+    let c = satisfied_by on.final.proofs in
     let lines : r.before ++ on.more ≡ certificate_lines c = ap (λ (ls : List (List ℕ)). ls ++ on.more) (sym g.1) ∙ sym e.1 in
     record {
       certificate = c;
       rest = text_of_lines on.more;
       is_text = record {
-        valid = record { claim = refl; proofs = e.0.proofs };
+        valid = record { claim = refl; trace = refl; next = refl; proofs = e.0.proofs };
         text = sym (text-append r.before on.more) ∙ ap text_of_lines lines;
       };
     }
@@ -158,6 +159,13 @@ stops-fails bytes line s = record {
 
 -- ---- a text is that of one certificate, and fails in one line
 
+-- a certificate that has a text is made of its proofs
+pub made-of-proofs : (c : Certificate) → HasCertificateText c → c ≡ satisfied_by c.proofs
+made-of-proofs c h =
+    ap (λ (k : Claim). record c { claim = k }) h.claim
+    ∙ ap (λ (t : Option Trace). record c { claim = Satisfied 0; trace = t }) h.trace
+    ∙ ap (λ (l : Option Line). record c { claim = Satisfied 0; trace = None; next = l }) h.next
+
 pub one-certificate : (bytes : List ℕ) (c other : Certificate) → IsTextOf bytes c → IsTextOf bytes other → c ≡ other
 one-certificate bytes c other s t =
     let cut = text-cut (certificate_lines c) [] bytes other (feedless c s.valid) (s.text ∙ sym (append-nil (certificate_text c))) t in
@@ -166,8 +174,7 @@ one-certificate bytes c other s t =
     let run = subst (λ (ls : List (List ℕ)). TakesAll blank Version ls (after other.proofs, Whole)) lines (certificate-taken other t.valid) in
     let same : (after c.proofs, Whole) ≡ (after other.proofs, Whole) = same-all (certificate_lines c) blank Version (after c.proofs, Whole) (after other.proofs, Whole) (certificate-taken c s.valid) run in
     let proofs : c.proofs ≡ other.proofs = same-proofs c.proofs other.proofs same in
-    let claim : c.claim ≡ other.claim = s.valid.claim ∙ sym t.valid.claim in
-    ap (λ (k : Claim). record c { claim = k }) claim ∙ ap (λ (l : List Proof). record other { proofs = l }) proofs
+    made-of-proofs c s.valid ∙ ap satisfied_by proofs ∙ sym (made-of-proofs other t.valid)
   where
     same-proofs : (ps qs : List Proof) → ◌≡◌ {A = Draft × Stage} (after ps, Whole) (after qs, Whole) → ps ≡ qs
     same-proofs ps qs e = ap (λ (u : Draft × Stage). u.0.proofs) e

@@ -1,5 +1,5 @@
 -- The text of a certificate that a pattern is satisfied with k = 0, and which bytes begin one.
-use Rattle.std.specs.Prelude.{◌≡◌, ℕ, ◌+◌, ◌^◌, ◌<◌, ◌≤◌, false, List, [], ◌∷◌, ◌++◌, length, map, codes, ◌⊎◌, Result, Err}
+use Rattle.std.specs.Prelude.{◌≡◌, ℕ, ◌+◌, ◌^◌, ◌<◌, ◌≤◌, false, List, [], ◌∷◌, ◌++◌, length, map, codes, ◌⊎◌, Result, Err, None}
 use Rattle.std.specs.List.{flat_map, AllByRecursion}
 use Rattle.std.specs.Fmt.{decimal}
 use Rattle.pv_log.specs.declared.line.Line.{Line}
@@ -42,6 +42,10 @@ certificate_lines c = head_lines ++ (flat_map proof_lines c.proofs ++ codes "end
 abbrev pub certificate_text : Certificate → List ℕ
 certificate_text c = text_of_lines (certificate_lines c)
 
+-- the certificate of 'satisfied' with k = 0 that has these proofs
+abbrev pub satisfied_by : List Proof → Certificate
+satisfied_by proofs = record { claim = Satisfied 0; trace = None; proofs = proofs; next = None }
+
 -- no reduction
 abbrev pub no_reduction : Chain
 no_reduction = record { constants = false; havoc = []; cone = false }
@@ -61,6 +65,8 @@ pub record HasProofText (p : Proof) : Type 0 where
 -- a certificate that has a text
 pub record HasCertificateText (c : Certificate) : Type 0 where
   pub claim : c.claim ≡ Satisfied 0
+  pub trace : c.trace ≡ None
+  pub next : c.next ≡ None
   pub proofs : AllByRecursion HasProofText c.proofs
 
 -- the bytes are the text of this certificate

@@ -1,5 +1,5 @@
 -- Reading a certificate line by line.
-use Rattle.std.specs.Prelude.{◌≡◌, ℕ, zero, suc, ◌+◌, ◌-◌, ◌^◌, ◌<◌, ◌≤◌, List, [], ◌∷◌, ◌++◌, length, codes, ◌⊎◌, Result, Ok, Err}
+use Rattle.std.specs.Prelude.{◌≡◌, ℕ, zero, suc, ◌+◌, ◌-◌, ◌^◌, ◌<◌, ◌≤◌, List, [], ◌∷◌, ◌++◌, length, codes, ◌⊎◌, Result, Ok, Err, None}
 use Rattle.std.specs.List.{AllByRecursion}
 use Rattle.pv_log.specs.declared.line.Line.{Line}
 use Rattle.pv_log.specs.LineText.{Spells}
@@ -73,6 +73,8 @@ pub record StopsAt (bytes : List ℕ) (line : ℕ) : Type 0 where
 -- what was read when all is read
 pub record ReadsAll (bytes : List ℕ) (c : Certificate) : Type 0 where
   pub claim : c.claim ≡ Satisfied 0
+  pub trace : c.trace ≡ None
+  pub next : c.next ≡ None
   pub draft : Draft
   pub proofs : c.proofs ≡ draft.proofs
   pub line : ℕ

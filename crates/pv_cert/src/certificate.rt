@@ -2,6 +2,8 @@ ghost use Rattle.std.specs.Prelude.{◌≡◌, List, [], ◌∷◌, ◌++◌, On
 ghost use Rattle.pv_cert.specs.declared.proof.Proof.{Proof};
 
 use crate::proof::Proof;
+use crate::trace::Trace;
+use pv_log::Line;
 use std::alloc::{AllocError, Global};
 use std::marker::Model;
 
@@ -67,12 +69,15 @@ impl Proofs {
     }
 }
 
-/// A verdict, and the proofs that show it. (The trace of a failing run and the lemma past a budget, which
-/// other verdicts have, are to come.)
+/// A verdict, and what shows it.
 #[derive(Debug, Drop)]
 pub struct Certificate {
     /// The verdict.
     pub claim: Claim,
+    /// The scans that show it, for the claims of a failing scan, of a reached one and of a depth.
+    pub trace: Option<Trace>,
     /// The proofs in the order of their queries.
     pub proofs: Proofs,
+    /// For `Region`, the lemma that found no room, where one was learnt.
+    pub next: Option<Line>,
 }

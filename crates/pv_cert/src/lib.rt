@@ -10,6 +10,7 @@ mod parts;
 mod proof;
 mod reader;
 mod stage;
+mod trace;
 mod writer;
 
 pub use certificate::{Certificate, Claim, Proofs};
@@ -18,6 +19,7 @@ pub use laws::text_determines_certificate;
 pub use parts::cut_line;
 pub use proof::{Chain, Proof, Query};
 pub use reader::read;
+pub use trace::{CellValues, Ending, Scans, Trace};
 pub use writer::write;
 
 #[cfg(test)]

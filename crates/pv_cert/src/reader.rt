@@ -172,7 +172,9 @@ fn read_lines(alloc: Global, bytes: &[u8]) -> Result<Certificate, CertFault>
     }
     Ok(Certificate {
         claim: Claim::Satisfied(0),
+        trace: None,
         proofs: draft.proofs,
+        next: None,
     })
 }
 

@@ -1,4 +1,4 @@
-use crate::{CertFault, Claim, Query, read, write};
+use crate::{CellValues, CertFault, Claim, Query, Scans, Trace, read, write};
 use std::test::Fail;
 
 const SEVEN: &str =
@@ -22,6 +22,8 @@ fn certificates_are_read_and_written(rt: HostRuntime) -> Result<(), Fail> {
 fn a_certificate_has_its_parts(rt: HostRuntime) -> Result<(), Fail> {
     let certificate = read(rt.alloc(), SEVEN.as_bytes())?;
     assert!(rt; certificate.claim == Claim::Satisfied(0));
+    assert!(rt; certificate.trace.is_none());
+    assert!(rt; certificate.next.is_none());
     for proof in certificate.proofs.as_slice() {
         assert!(rt; proof.query == Query::Step(0));
         for line in proof.log.as_slice() {
@@ -30,6 +32,31 @@ fn a_certificate_has_its_parts(rt: HostRuntime) -> Result<(), Fail> {
         }
     }
     assert_eq!(rt; certificate.proofs.as_slice().len(), 1);
+    Ok(())
+}
+
+#[test]
+fn a_trace_has_its_parts(rt: HostRuntime) -> Result<(), Fail> {
+    let mut inputs = Scans::new(rt.alloc());
+    for value in [-1, 1] {
+        let mut scan = CellValues::new(rt.alloc());
+        scan.push(0)?;
+        scan.push(value)?;
+        inputs.push(scan)?;
+    }
+    let trace = Trace {
+        image: None,
+        prev: Some(true),
+        params: CellValues::new(rt.alloc()),
+        inputs,
+    };
+    assert!(rt; trace.image.is_none());
+    assert!(rt; trace.prev == Some(true));
+    assert!(rt; trace.params.as_slice().is_empty());
+    assert_eq!(rt; trace.inputs.as_slice().len(), 2);
+    if let Some((first, _)) = trace.inputs.as_slice().split_first() {
+        assert!(rt; first.as_slice() == [0, -1].as_slice());
+    }
     Ok(())
 }
 

@@ -1,4 +1,4 @@
-ghost use Rattle.std.specs.Prelude.{◌≡◌, ◌∷◌, ◌++◌, [], codes, map, length, IfOk, OnOk};
+ghost use Rattle.std.specs.Prelude.{◌≡◌, ◌∷◌, ◌++◌, [], codes, map, length, None, IfOk, OnOk};
 ghost use Rattle.std.specs.List.{flat_map, AllByRecursion};
 ghost use Rattle.std.specs.Fmt.{decimal};
 ghost use Rattle.pv_log.specs.LineText.{line_text};
@@ -63,10 +63,12 @@ fn push_proofs(alloc: Global, text: &mut Vec<u8>, proofs: &[Proof]) -> Result<()
     Ok(())
 }
 
-/// The one text of a certificate: the claim is `Satisfied(0)`, the chains have no reduction, and each line of a
+/// The one text of a certificate: the claim is `Satisfied(0)`, with no trace and no next lemma, the chains have no reduction, and each line of a
 /// log has literals of at least 2 and hints of at least 1.
 pub fn write(alloc: Global, certificate: &Certificate) -> Result<Vec<u8>, AllocError>
     requires claim { certificate.now.claim ≡ Satisfied 0 }
+    requires trace { certificate.now.trace ≡ None }
+    requires next { certificate.now.next ≡ None }
     requires proofs { AllByRecursion IsWritableProof certificate.now.proofs }
     ensures { IfOk result (λ text. text.items ≡ certificate_text certificate.now) }
 {

@@ -6,8 +6,8 @@ use Rattle.pv_gate.specs.declared.netlist.Node.{Node}
 use Rattle.pv_gate.specs.Node.{Names}
 use Rattle.pv_cert.specs.declared.proof.Proof.{Proof}
 use Rattle.pv_cert.specs.declared.certificate.Certificate.{Certificate}
-use Rattle.pv_cert.specs.declared.certificate.Claim.TheVariants.{Satisfied}
-use Rattle.pv_cert.specs.CertificateText.{IsTextOf}
+use Rattle.pv_cert.specs.CertificateText.{satisfied_by, IsTextOf}
+use Rattle.pv_cert.proofs.Whole.{made-of-proofs}
 use Rattle.pv_recheck.specs.declared.fault.Kind.{Kind}
 use Rattle.pv_recheck.specs.declared.fault.Kind.TheVariants.{NotACertificate, Line, NoEmpty, WrongQuery}
 use Rattle.pv_recheck.specs.declared.fault.RecheckFault.{RecheckFault}
@@ -18,8 +18,8 @@ use Rattle.pv_recheck.specs.Answers.{Answers}
 use Rattle.pv_recheck.specs.Judging.{JudgesProofs, IsProofFault}
 
 -- a certificate's text is that of its proofs
-proofs_text : (bytes : List ℕ) (c : Certificate) (p : Proof) → IsTextOf bytes c → c.proofs ≡ p ∷ [] → IsTextOf bytes (record { claim = Satisfied 0; proofs = p ∷ [] })
-proofs_text bytes c p t e = subst (λ (d : Certificate). IsTextOf bytes d) (ap (λ claim. record c { claim = claim }) t.valid.claim ∙ ap (λ (ps : List Proof). record { claim = Satisfied 0; proofs = ps }) e) t
+proofs_text : (bytes : List ℕ) (c : Certificate) (p : Proof) → IsTextOf bytes c → c.proofs ≡ p ∷ [] → IsTextOf bytes (satisfied_by (p ∷ []))
+proofs_text bytes c p t e = subst (λ (d : Certificate). IsTextOf bytes d) (made-of-proofs c t.valid ∙ ap satisfied_by e) t
 
 valid_by : (block : Block) (invariant : Expr) (bytes : List ℕ) (c : Certificate) (done : Unit {0}) → IsTextOf bytes c → JudgesProofs block invariant c.proofs (Ok done) → IsValid block invariant bytes
 valid_by block invariant bytes c done t j =

@@ -10,8 +10,7 @@ use Rattle.pv_log.specs.Follows.{ends_empty}
 use Rattle.pv_log.proofs.FollowLaws.{follows-not-fails, fails-once}
 use Rattle.pv_cert.specs.declared.proof.Proof.{Proof}
 use Rattle.pv_cert.specs.declared.certificate.Certificate.{Certificate}
-use Rattle.pv_cert.specs.declared.certificate.Claim.TheVariants.{Satisfied}
-use Rattle.pv_cert.specs.CertificateText.{text_of_lines, query_line, log_line as count_line, IsTextOf, FailsAt, NoFeed}
+use Rattle.pv_cert.specs.CertificateText.{satisfied_by, text_of_lines, query_line, log_line as count_line, IsTextOf, FailsAt, NoFeed}
 use Rattle.pv_cert.proofs.Texts.{feedless}
 use Rattle.pv_cert.proofs.Whole.{one-certificate, fails-once as one-stuck}
 use Rattle.pv_recheck.specs.declared.fault.Kind.{Kind}
@@ -20,7 +19,7 @@ use Rattle.pv_recheck.specs.declared.fault.RecheckFault.{RecheckFault}
 use Rattle.pv_recheck.specs.declared.fault.RecheckFault.TheVariants.{Unbuilt, TooManyGates, Fault, NoMemory}
 use Rattle.pv_recheck.specs.Form.{IsLine, IsUnbuilt}
 use Rattle.pv_recheck.specs.Validity.{step_formula, IsStepProof, IsValid}
-use Rattle.pv_recheck.specs.Faults.{BeginsWithStep, first_log, log_line, LineFails, LogLacksEmpty, HasSecondAt, IsFaultAt}
+use Rattle.pv_recheck.specs.Faults.{BeginsWithStep, first_log, number_of_log_line, LineFails, LogLacksEmpty, HasSecondAt, IsFaultAt}
 use Rattle.pv_recheck.specs.Answers.{IsBeforeLog, ComesToLog, Answers, IsUnlessNoMemory}
 use Rattle.pv_recheck.proofs.Lines.{same_line, ahead}
 
@@ -35,7 +34,7 @@ module _ (b : Block) (a : Expr) where
   lines_one : (ps : List Proof) (at to : ℕ) (f g : LineFault) → LineFails b a ps at f → LineFails b a ps to g → (at ≡ to) × (Line f ≡ Line g)
   lines_one ps at to f g h k =
       let same = fails-once (step_formula b a).variables (step_formula b a).clauses (first_log ps) h.1 k.1 f g h.3 k.3 in
-      (h.2 ∙ ap log_line same.0 ∙ sym k.2, ap (λ x. Line x) same.1)
+      (h.2 ∙ ap number_of_log_line same.0 ∙ sym k.2, ap (λ x. Line x) same.1)
 
   line_lacks : (ps : List Proof) (at : ℕ) (f : LineFault) → LineFails b a ps at f → LogLacksEmpty b a ps → ⊥
   line_lacks ps at f h k = follows-not-fails (step_formula b a).variables (step_formula b a).clauses (first_log ps) h.1 f k.1.each h.3
@@ -118,7 +117,7 @@ module _ (b : Block) (a : Expr) where
   shown_right p at WrongQuery s (inr h) = h.2 refl
 
   pub valid_right : (bytes : List ℕ) (at : ℕ) (f : Kind) → IsValid b a bytes → IsFaultAt b a bytes at f → ⊥
-  valid_right bytes at f v h = shown_right v.proof at f v.is_proof (contents_of bytes (record { claim = Satisfied 0; proofs = v.proof ∷ [] }) at f v.is_text h)
+  valid_right bytes at f v h = shown_right v.proof at f v.is_proof (contents_of bytes (satisfied_by (v.proof ∷ [])) at f v.is_text h)
 
   -- its second line is the verdict, and its fourth a chain without words
   lines_built : (one two three four : List ℕ) (lines : List (List ℕ)) (bytes : List ℕ) → bytes ≡ text_of_lines (one ∷ two ∷ three ∷ four ∷ lines) → NoFeed one → NoFeed two → NoFeed three → NoFeed four
@@ -139,8 +138,7 @@ module _ (b : Block) (a : Expr) where
   valid_lines : (bytes : List ℕ) → IsValid b a bytes → IsLine 2 bytes (codes "verdict satisfied 0") × IsLine 4 bytes (codes "chain")
   valid_lines bytes v =
       let p = v.proof in
-      let c : Certificate = record { claim = Satisfied 0; proofs = p ∷ [] } in
-      let plain = feedless c v.is_text.valid in
+      let plain = feedless (satisfied_by (p ∷ [])) v.is_text.valid in
       lines_built (codes "PLCVCERT 1") (codes "verdict satisfied 0") (query_line p.query) (codes "chain") (count_line (length p.log) ∷ (map line_text p.log ++ [] ++ codes "end" ∷ [])) bytes v.is_text.text plain.0 plain.1.0 plain.1.1.0 plain.1.1.1.0
 
   pub valid_built : (bytes : List ℕ) → IsValid b a bytes → IsUnbuilt bytes → ⊥

@@ -1,10 +1,10 @@
 -- What a valid certificate says is so.
-use Rattle.std.proofs.Common.{◌≡◌, ◌≢◌, ℕ, zero, suc, Bool, true, false, not, cond, List, [], ◌∷◌, get_or, map, ℤ, pos, negsuc, refl, ap, sym, subst, ◌∙◌, arith}
+use Rattle.std.proofs.Common.{◌≡◌, ◌≢◌, ◌↔◌, ℕ, zero, suc, Bool, true, false, not, cond, List, [], ◌∷◌, get_or, map, ℤ, pos, negsuc, refl, ap, sym, subst, ◌∙◌, arith}
 use Rattle.std.specs.Prelude.{filter}
 use Rattle.std.specs.Ordering.{int_eq}
 use Rattle.std.specs.List.{AllByRecursion}
 use Rattle.std.proofs.lemmas.Int.{ints}
-use Rattle.std.proofs.lemmas.Bool.{both_ways, false≢true}
+use Rattle.std.proofs.lemmas.Bool.{false_from_ne_true, false≢true}
 use Rattle.std.proofs.lemmas.List.Elements.{recursion_from_All}
 use Rattle.pv_word.specs.declared.types.Ty.{Ty}
 use Rattle.pv_word.specs.declared.types.Ty.TheVariants.{Bool as BoolType}
@@ -12,6 +12,7 @@ use Rattle.pv_word.specs.Types.{InRange, AreValues}
 use Rattle.pv_tree.specs.declared.tree.Expr.{Expr}
 use Rattle.pv_tree.specs.declared.tree.Block.{Block}
 use Rattle.pv_gate.specs.Value.{value_of}
+use Rattle.pv_gate.proofs.Building.{int_eq-true}
 use Rattle.pv_cnf.specs.Clause.{Holds}
 use Rattle.pv_log.proofs.Sound.{accepted-refutes}
 use Rattle.pv_mean.specs.declared.cell.Cell.{Cell}
@@ -28,9 +29,9 @@ use Rattle.pv_pattern.specs.Sources.{source}
 use Rattle.pv_pattern.proofs.RunsOf.{no_failing_run, some_failing_scan}
 use Rattle.pv_step.specs.Circuits.{circuit_of}
 use Rattle.pv_mean.specs.Conditions.{IsOverBool}
-use Rattle.pv_step.specs.Bits.{number_of_bit, Carries, Begins}
-use Rattle.pv_step.proofs.ScanLaws.{fail_is, is_circuit}
-use Rattle.pv_frames.proofs.StepValues.{none-fails}
+use Rattle.pv_step.specs.Bits.{number_of_bit, numbers_of, Carries, Begins}
+use Rattle.pv_step.proofs.ScanLaws.{fail_is, begins, is_circuit}
+use Rattle.pv_frames.proofs.StepValues.{step-holds, step-only}
 use Rattle.pv_recheck.specs.Validity.{step_formula, IsValid}
 
 -- ---- any image and input of a block of BOOL are bits
@@ -94,22 +95,53 @@ begun block a image input is im inp = record {
   carried = carried (begin (cells_of block) image input) (begin_bits (cells_of block) image input (recursion_from_All IsOfBool (cells_of block) is.boolean.cells) im inp);
 }
 
-never_true : (block : Block) (a : Expr) (inputs : ℕ → Bool) → IsOverBool block a → ((values : ℕ → Bool) → Holds values (step_formula block a).clauses → ⊥) → value_of inputs (circuit_of block a).nodes (circuit_of block a).fail ≡ false
-never_true block a inputs is never =
-    let circuit = is_circuit block a is.names in
-    none-fails (circuit_of block a).nodes (circuit_of block a).fail circuit.netlist circuit.fail never inputs
+-- ---- the formula of step(0) and the machine
 
-no_step : (block : Block) (a : Expr) → IsOverBool block a → ((values : ℕ → Bool) → Holds values (step_formula block a).clauses → ⊥) → MeetsStep (source block (invariant a)) 0 → ⊥
-no_step block a is never met =
+abbrev Solution : Block → Expr → Type 0
+Solution block a = (values : ℕ → Bool) × Holds values (step_formula block a).clauses
+
+-- the values of the nodes where a scan fails
+solved : (block : Block) (a : Expr) → IsOverBool block a → MeetsStep (source block (invariant a)) 0 → Solution block a
+solved block a is met =
     let found = some_failing_scan block (invariant a) met in
     let broken = fails_broken (cells_of block) a (begin (cells_of block) found.0 found.1) (scan block found.0 found.1).end found.4 in
     let inputs = inputs_of (begin (cells_of block) found.0 found.1) in
+    let nodes = (circuit_of block a).nodes in
+    let circuit = is_circuit block a is.names in
+    let values : ℕ → Bool = λ n. value_of inputs nodes (pos n) in
     let true_there = (fail_is block a found.0 found.1 inputs broken.0 is (begun block a found.0 found.1 is found.2 found.3) broken.1).1 broken.2 in
-    both_ways (value_of inputs (circuit_of block a).nodes (circuit_of block a).fail) (never_true block a inputs is never) true_there
+    (values, step-holds nodes (circuit_of block a).fail values inputs circuit.netlist circuit.fail (λ n from to. refl) true_there)
+
+broken_fails : (cells : List Cell) (a : Expr) (beginning : Frame) (e : ScanEnd) → ((frame : Frame) → e ≡ done frame → value cells frame a ≢ number (pos 1)) → fails_at cells (invariant a) beginning e ≡ true
+broken_fails cells a beginning (done frame) h = ap not (false_from_ne_true (is_true (value cells frame a)) (λ one. h frame refl (one_is (value cells frame a) one)))
+  where
+    one_is : (x : Value) → is_true x ≡ true → x ≡ number (pos 1)
+    one_is (number v) e = ap (λ w. number w) (int_eq-true v (pos 1) e)
+
+-- the scan that begins at the values of the inputs
+met_by : (block : Block) (a : Expr) → IsOverBool block a → Solution block a → MeetsStep (source block (invariant a)) 0
+met_by block a is solution =
+    let c = circuit_of block a in
+    let circuit = is_circuit block a is.names in
+    let only = step-only c.nodes c.fail solution.0 circuit.netlist circuit.fail solution.1 in
+    let image = numbers_of only.0 c.nodes c.state_in in
+    let input = numbers_of only.0 c.nodes c.input in
+    let there = begins block a only.0 is.boolean.cells in
+    record {
+      state = image;
+      inputs = input ∷ [];
+      is_state = there.image_values;
+      are_inputs = (there.input_values, tt);
+      count = refl;
+      fails = broken_fails (cells_of block) a (begin (cells_of block) image input) (scan block image input).end (λ frame ends. (fail_is block a image input only.0 frame is there ends).0 only.2);
+    }
+
+pub step_meets : (block : Block) (a : Expr) → IsOverBool block a → (MeetsStep (source block (invariant a)) 0) ↔ Solution block a
+step_meets block a is = (solved block a is, met_by block a is)
 
 pub runs_keep : (block : Block) (a : Expr) (bytes : List ℕ) → IsOverBool block a → IsValid block a bytes
     → (inputs : List Input) → AllByRecursion (AreValues (input_types (cells_of block))) inputs → AllByRecursion (Keeps block (invariant a)) (run block inputs)
 runs_keep block a bytes is v inputs are =
     let refuted = v.is_proof.refutes in
     let never : (values : ℕ → Bool) → Holds values (step_formula block a).clauses → ⊥ = λ values holds. accepted-refutes values (step_formula block a).variables (step_formula block a).clauses v.proof.log refuted.each refuted.ends holds in
-    no_failing_run block (invariant a) is.boolean (no_step block a is never) inputs are
+    no_failing_run block (invariant a) is.boolean (λ met. (let solution = solved block a is met in never solution.0 solution.1)) inputs are

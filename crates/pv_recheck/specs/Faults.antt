@@ -25,14 +25,14 @@ first_log [] = []
 first_log (p ∷ ps) = p.log
 
 -- a line of a log, from 1, in the file
-abbrev pub log_line : ℕ → ℕ
-log_line n = 5 + n
+abbrev pub number_of_log_line : ℕ → ℕ
+number_of_log_line n = 5 + n
 
 -- this line of the first log is the first that doesn't follow
 abbrev pub LineFails : Block → Expr → List Proof → ℕ → LineFault → Type 0
 LineFails block invariant proofs at fault =
     BeginsWithStep proofs
-    × (n : ℕ) × (at ≡ log_line n)
+    × (n : ℕ) × (at ≡ number_of_log_line n)
     × FailsFirst (fault_of (step_formula block invariant).variables) (step_formula block invariant).clauses (first_log proofs) n fault
 
 -- each line of the first log follows, but it doesn't end with an empty one
@@ -43,7 +43,7 @@ LogLacksEmpty block invariant proofs =
 -- a second proof stands behind the first, which is as it should be, from this line on
 abbrev pub HasSecondAt : Block → Expr → List Proof → ℕ → Type 0
 HasSecondAt block invariant [] at = ⊥
-HasSecondAt block invariant (p ∷ ps) at = (p.query ≡ Step 0) × RefutesStep block invariant p.log × (ps ≢ []) × (at ≡ log_line (length p.log + 1))
+HasSecondAt block invariant (p ∷ ps) at = (p.query ≡ Step 0) × RefutesStep block invariant p.log × (ps ≢ []) × (at ≡ number_of_log_line (length p.log + 1))
 
 -- this is the first fault
 abbrev pub IsFaultAt : Block → Expr → List ℕ → ℕ → Kind → Type 0

@@ -1,5 +1,5 @@
 -- What the steps of a check find. No public clause cites this.
-use Rattle.std.specs.Prelude.{◌≡◌, ℕ, ◌+◌, List, [], ◌∷◌, Result, Ok, Err, ◌⊎◌}
+use Rattle.std.specs.Prelude.{◌≡◌, ℕ, List, [], ◌∷◌, Result, Ok, Err, ◌⊎◌}
 use Rattle.pv_tree.specs.declared.tree.Expr.{Expr}
 use Rattle.pv_tree.specs.declared.tree.Block.{Block}
 use Rattle.pv_log.specs.declared.line.Line as line
@@ -13,7 +13,7 @@ use Rattle.pv_recheck.specs.declared.fault.Kind.TheVariants.{NotACertificate, Li
 use Rattle.pv_recheck.specs.declared.fault.RecheckFault.{RecheckFault}
 use Rattle.pv_recheck.specs.declared.fault.RecheckFault.TheVariants.{Unbuilt, TooManyGates, Fault, NoMemory}
 use Rattle.pv_recheck.specs.Validity.{step_formula, RefutesStep}
-use Rattle.pv_recheck.specs.Faults.{BeginsWithStep, LineFails, LogLacksEmpty, HasSecondAt}
+use Rattle.pv_recheck.specs.Faults.{BeginsWithStep, number_of_log_line, LineFails, LogLacksEmpty, HasSecondAt}
 use Rattle.pv_recheck.specs.Answers.{HasTooManyGates}
 
 -- the circuit has no more gates than it may
@@ -38,7 +38,7 @@ HasNoFormula block invariant NoMemory = Unit {0}
 -- what is wrong with the log of line `at`
 abbrev pub IsLogFault : Block → Expr → List line.Line → ℕ → Kind → Type 0
 IsLogFault block invariant log at NotACertificate = ⊥
-IsLogFault block invariant log at (Line fault) = (n : ℕ) × (at ≡ 5 + n) × FailsFirst (fault_of (step_formula block invariant).variables) (step_formula block invariant).clauses log n fault
+IsLogFault block invariant log at (Line fault) = (n : ℕ) × (at ≡ number_of_log_line n) × FailsFirst (fault_of (step_formula block invariant).variables) (step_formula block invariant).clauses log n fault
 IsLogFault block invariant log at NoEmpty = LacksEmpty (Follows (step_formula block invariant).variables) (step_formula block invariant).clauses log × (at ≡ 5)
 IsLogFault block invariant log at WrongQuery = ⊥
 

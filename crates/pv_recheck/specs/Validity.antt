@@ -7,8 +7,7 @@ use Rattle.pv_log.specs.declared.line.Line.{Line}
 use Rattle.pv_log.specs.Follows.{Follows, IsAccepted}
 use Rattle.pv_cert.specs.declared.proof.Query.TheVariants.{Step}
 use Rattle.pv_cert.specs.declared.proof.Proof.{Proof}
-use Rattle.pv_cert.specs.declared.certificate.Claim.TheVariants.{Satisfied}
-use Rattle.pv_cert.specs.CertificateText.{no_reduction, IsTextOf}
+use Rattle.pv_cert.specs.CertificateText.{satisfied_by, no_reduction, IsTextOf}
 use Rattle.pv_step.specs.Circuits.{circuit_of}
 use Rattle.pv_frames.specs.Formulas.{step_clauses}
 
@@ -32,5 +31,5 @@ pub record IsStepProof (block : Block) (invariant : Expr) (p : Proof) : Type 0 w
 -- the bytes are the text of a certificate of 'satisfied' with k = 0, and its one proof refutes step(0)
 pub record IsValid (block : Block) (invariant : Expr) (bytes : List ℕ) : Type 0 where
   pub proof : Proof
-  pub is_text : IsTextOf bytes (record { claim = Satisfied 0; proofs = proof ∷ [] })
+  pub is_text : IsTextOf bytes (satisfied_by (proof ∷ []))
   pub is_proof : IsStepProof block invariant proof

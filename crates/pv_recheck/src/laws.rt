@@ -1,19 +1,29 @@
 //! Laws of certificates, each the contract of a function that does nothing.
-ghost use Rattle.std.specs.Prelude.{◌≡◌, ℕ, List};
+ghost use Rattle.std.specs.Prelude.{◌≡◌, ◌↔◌, ℕ, Bool, List};
 ghost use Rattle.std.specs.List.{AllByRecursion};
 ghost use Rattle.pv_word.specs.Types.{AreValues};
 ghost use Rattle.pv_tree.specs.declared.tree.Block.{Block};
 ghost use Rattle.pv_tree.specs.declared.tree.Expr.{Expr};
+ghost use Rattle.pv_cnf.specs.Clause.{Holds};
 ghost use Rattle.pv_mean.specs.Cells.{cells_of};
 ghost use Rattle.pv_mean.specs.Frames.{Input, input_types};
 ghost use Rattle.pv_mean.specs.Runs.{run};
 ghost use Rattle.pv_pattern.specs.Patterns.{invariant};
 ghost use Rattle.pv_pattern.specs.Failing.{Keeps};
+ghost use Rattle.pv_pattern.specs.Sources.{source};
+ghost use Rattle.pv_machine.specs.Queries.{MeetsStep};
 ghost use Rattle.pv_mean.specs.Conditions.{IsOverBool};
 ghost use Rattle.pv_recheck.specs.declared.fault.Kind.{Kind};
 ghost use Rattle.pv_recheck.specs.Form.{IsUnbuilt};
-ghost use Rattle.pv_recheck.specs.Validity.{IsValid};
+ghost use Rattle.pv_recheck.specs.Validity.{step_formula, IsValid};
 ghost use Rattle.pv_recheck.specs.Faults.{IsFaultAt};
+
+/// The formula of step(0) asks what it is meant to: some values make it hold exactly where the machine of the block
+/// has a state and an input by which a scan fails.
+pub fn step_formula_holds_where_a_scan_fails()
+    ensures { (block : Block) (a : Expr) → IsOverBool block a
+        → (MeetsStep (source block (invariant a)) 0 ↔ ((values : ℕ → Bool) × Holds values (step_formula block a).clauses)) }
+{}
 
 /// What a valid certificate says is so: by each list of inputs the run of the block has no scan that
 /// fails. Each of its scans is done and keeps the invariant.
