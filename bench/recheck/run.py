@@ -68,9 +68,12 @@ def certificate(clauses, lines):
 
 
 def filled(clauses, lines, size):
-    """The certificate with its first line's clause said again and again, so that it has about so many bytes."""
+    """The certificate with its first line's clause said again and again, so that it has at least so many bytes."""
     literals, own = lines[0][0], len(clauses) + 1
-    times = max(0, size - len(certificate(clauses, lines))) // len(f"{own + 100000} {literals[0]} 0 {own} 0\n")
+    times, missing = 0, size - len(certificate(clauses, lines))
+    while missing > 0:
+        times += 1
+        missing -= len(f"{own + times} {literals[0]} 0 {own} 0\n")
     moved = [[hint + times if hint > own else hint for hint in hints] for _, hints in lines[1:]]
     again = [(literals, [own])] * times
     return certificate(clauses, [lines[0], *again, *((line, hints) for (line, _), hints in zip(lines[1:], moved))])
