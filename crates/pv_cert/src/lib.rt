@@ -19,7 +19,7 @@ pub use laws::text_determines_certificate;
 pub use parts::cut_line;
 pub use proof::{Chain, Proof, Query};
 pub use reader::read;
-pub use trace::{CellValues, Ending, Scans, Trace};
+pub use trace::{CellValues, Ending, ScanInputs, Trace};
 pub use writer::write;
 
 #[cfg(test)]

@@ -1,4 +1,4 @@
-use crate::{CellValues, CertFault, Claim, Query, Scans, Trace, read, write};
+use crate::{CellValues, CertFault, Claim, Query, ScanInputs, Trace, read, write};
 use std::test::Fail;
 
 const SEVEN: &str =
@@ -37,7 +37,7 @@ fn a_certificate_has_its_parts(rt: HostRuntime) -> Result<(), Fail> {
 
 #[test]
 fn a_trace_has_its_parts(rt: HostRuntime) -> Result<(), Fail> {
-    let mut inputs = Scans::new(rt.alloc());
+    let mut inputs = ScanInputs::new(rt.alloc());
     for value in [-1, 1] {
         let mut scan = CellValues::new(rt.alloc());
         scan.push(0)?;

@@ -44,22 +44,22 @@ impl CellValues {
 
 /// The values of the input cells at each scan.
 #[derive(Debug, Drop)]
-pub struct Scans {
+pub struct ScanInputs {
     items: Vec<CellValues>,
 }
 
-impl Model for Scans {
+impl Model for ScanInputs {
     ghost Value = { List (List ℤ) };
 
     ghost view = { λ s. s.items.items };
 }
 
-impl Scans {
+impl ScanInputs {
     /// No scans.
     pub fn new(alloc: Global) -> Self
         ensures { result ≡ [] }
     {
-        Scans {
+        ScanInputs {
             items: Vec::new(alloc),
         }
     }
@@ -92,7 +92,7 @@ pub struct Trace {
     /// The values of the unbound params.
     pub params: CellValues,
     /// The inputs of each scan.
-    pub inputs: Scans,
+    pub inputs: ScanInputs,
 }
 
 /// How a failing scan ends. (That it stops with an error, or passes the bound on a loop's rounds, comes with the

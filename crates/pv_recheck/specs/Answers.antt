@@ -1,4 +1,4 @@
--- What a check of a certificate answers, case by case. No two of the cases but want of memory hold of one certificate.
+-- What a check of a certificate answers, case by case. Want of memory aside, no two of the cases hold of one certificate.
 use Rattle.std.specs.Prelude.{◌≡◌, ℕ, ◌<◌, List, ◌⊎◌, Result, Ok, Err}
 use Rattle.pv_tree.specs.declared.tree.Expr.{Expr}
 use Rattle.pv_tree.specs.declared.tree.Block.{Block}

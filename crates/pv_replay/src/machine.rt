@@ -29,7 +29,7 @@ pub struct Machine {
     cells: Vec<Cell>,
     program: Vec<Assignment>,
     invariant: Term,
-    /// What is loaded or assigned is one of these cells, and all values are of BOOL.
+    /// What is loaded or assigned is one of these cells, and start values and constants are of BOOL.
     ghost resolved: { IsResolved cells.items program.items invariant } by { IsResolved-prop cells.items program.items invariant },
 }
 

@@ -30,7 +30,7 @@ use Rattle.pv_top.specs.Answers.{status_of, text_of, status_of_end, status_of_ou
 use Rattle.pv_top.specs.Cases.{CaseData}
 use Rattle.pv_top.specs.Inputs.{HoldsCase, HoldsNoCase, HoldsNoProject, Reads, Holds}
 use Rattle.pv_top.specs.Replays.{Replayed, HoldsNoTrace, RefusesReplay, ReportsReplay, SaysReplay}
-use Rattle.pv_top.specs.Rechecks.{IsRefused, RefusesRecheck, ReportsRecheck, SaysRecheck}
+use Rattle.pv_top.specs.Rechecks.{IsJudged, RefusesRecheck, ReportsRecheck, SaysRecheck}
 use Rattle.pv_top.specs.Calls.{IsReplay, IsRecheck, Says, no_command, of_replay, of_recheck}
 use Rattle.pv_top.proofs.ShapeLemmas.{same_cells, same_run, same_end, same_circuit}
 use Rattle.pv_top.proofs.ShapeAnswers.{same_answer}
@@ -177,7 +177,7 @@ module _ (files : FileMap) (case_file file : List ℕ) where
         text_is = ap (λ n. report_text n (Satisfied k)) h.named ∙ ap (λ n. report_text h.case.name (Satisfied n)) is.0;
       })
 
-  faulty : (fault : RecheckFault) (status : ℕ) (text : List ℕ) → IsRefused (Some files) case_file file fault → ◌≢◌ {A = RecheckFault} fault NoMemory → status ≡ check_status (Err fault) → ((case : CaseData) → text ≡ check_text case.name file (Err fault)) → Said files case_file (JudgedCertificate files file) status text
+  faulty : (fault : RecheckFault) (status : ℕ) (text : List ℕ) → IsJudged (Some files) case_file file (Err fault) → ◌≢◌ {A = RecheckFault} fault NoMemory → status ≡ check_status (Err fault) → ((case : CaseData) → text ≡ check_text case.name file (Err fault)) → Said files case_file (JudgedCertificate files file) status text
   faulty fault status text h some status_is text_is =
       judged h.case h.block h.a h.reads (record {
         bytes = h.certificate.bytes;

@@ -16,7 +16,7 @@ use Rattle.pv_top.specs.declared.answer.Stop.TheVariants.{Refused, NoMemory}
 use Rattle.pv_top.specs.Answers.{answer_in}
 use Rattle.pv_top.specs.Cases.{CaseData}
 use Rattle.pv_top.specs.Inputs.{Holds, Reads}
-use Rattle.pv_top.specs.Rechecks.{HoldsProof, HoldsFault, IsCheckStop, StopsCertificate, ReportsRecheck, SaysRecheck}
+use Rattle.pv_top.specs.Rechecks.{HoldsProof, HoldsAnswer, IsCheckStop, StopsCertificate, ReportsRecheck, SaysRecheck}
 
 pub proof_holds : (told : Option FileMap) (file bytes text : List ℕ) (block : Block) (a : Expr) (r : Result (Unit {0}) RecheckFault) → Holds told file bytes → text ≡ bytes → IsOverBool block a → Answers block a text r → r ≡ Ok tt → HoldsProof told file block a
 proof_holds told file bytes text block a r held same over answer is =
@@ -25,7 +25,7 @@ proof_holds told file bytes text block a r held same over answer is =
     let moved = subst P same (subst Q is answer) in
     record { bytes = bytes; held = held; valid = moved.0; few_gates = moved.1; satisfied = runs_keep block a bytes over moved.0 }
 
-fault_held : (told : Option FileMap) (file bytes text : List ℕ) (block : Block) (a : Expr) (fault other : RecheckFault) → Holds told file bytes → text ≡ bytes → Answers block a text (Err fault) → fault ≡ other → HoldsFault told file block a other
+fault_held : (told : Option FileMap) (file bytes text : List ℕ) (block : Block) (a : Expr) (fault other : RecheckFault) → Holds told file bytes → text ≡ bytes → Answers block a text (Err fault) → fault ≡ other → HoldsAnswer told file block a (Err other)
 fault_held told file bytes text block a fault other held same answer is =
     let P : List ℕ → Type 0 = λ t. Answers block a t (Err fault) in
     let Q : RecheckFault → Type 0 = λ f. Answers block a bytes (Err f) in
@@ -44,8 +44,8 @@ check_stops told file bytes text block a fault NoMemory held same answer is = tt
 
 -- ---- what is said
 
-fault_is : (told later : Option FileMap) (file : List ℕ) (block : Block) (a : Expr) (fault : RecheckFault) → later ≡ told → HoldsFault later file block a fault → HoldsFault told file block a fault
-fault_is told later file block a fault same is = let P : Option FileMap → Type 0 = λ t. HoldsFault t file block a fault in subst P same is
+fault_is : (told later : Option FileMap) (file : List ℕ) (block : Block) (a : Expr) (fault : RecheckFault) → later ≡ told → HoldsAnswer later file block a (Err fault) → HoldsAnswer told file block a (Err fault)
+fault_is told later file block a fault same is = let P : Option FileMap → Type 0 = λ t. HoldsAnswer t file block a (Err fault) in subst P same is
 
 pub certificate_stop_says : (told later : Option FileMap) (case_file file : List ℕ) (case : CaseData) (block : Block) (a : Expr) (stop : Stop) → Reads told case_file case block a → later ≡ told → StopsCertificate later file block a stop → IfSome (answer_in (Err stop)) (SaysRecheck told case_file file)
 certificate_stop_says told later case_file file case block a (Refused Words) reads same is = absurd is

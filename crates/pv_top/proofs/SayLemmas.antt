@@ -91,7 +91,7 @@ module _ (files : FileMap) (x y : List ℕ) (s status : ℕ) (same : s ≡ statu
         no_case = k.no_case;
         no_trace = k.no_trace;
         report = λ name end is. subst IsTaken (k.report name end is) took;
-        project_line = λ case held none. subst IsTaken (k.project_line case held none) took;
+        project_line = λ name none. subst IsTaken (k.project_line name none) took;
         case_line = λ none. subst IsTaken (k.case_line none) took;
         trace_line = λ is. subst IsTaken (k.trace_line is) took;
       }
@@ -101,11 +101,11 @@ module _ (files : FileMap) (x y : List ℕ) (s status : ℕ) (same : s ≡ statu
       let Q : ℕ → Type 0 = λ n. RechecksExactly files x y n (λ t. text ≡ t) in
       let k = subst Q same h in record {
         satisfied = k.satisfied;
-        no_project = k.no_project;
+        source = k.source;
         no_case = k.no_case;
-        refused = k.refused;
+        certificate = k.certificate;
         report = λ is. subst IsTaken (k.report is) took;
-        project_line = λ case held none. subst IsTaken (k.project_line case held none) took;
+        project_line = λ name none. subst IsTaken (k.project_line name none) took;
         case_line = λ none. subst IsTaken (k.case_line none) took;
         unbuilt_line = λ is. subst IsTaken (k.unbuilt_line is) took;
         gates_line = λ is. subst IsTaken (k.gates_line is) took;

@@ -59,13 +59,13 @@ pub data Answers (call : Call) : Type 0 where
   answers : (answer : Answer) → Says call.told call.words answer → Delivers answer call.status call.taken call.taken_after → Answers call
   silent : call.status ≡ 9 → call.taken_after ≡ call.taken → Answers call
 
--- no file was unreadable, the sink took the whole text, and memory sufficed
+-- the status is none of a read fault, a write fault and want of memory
 pub record IsSettled (status : ℕ) : Type 0 where
   pub readable : status ≢ 6
   pub written : status ≢ 7
   pub roomy : status ≢ 9
 
--- the text stands behind what the sink had taken
+-- the text stands behind what the sink had taken, as far as the sink tells
 abbrev pub IsTakenIn : Call → List ℕ → Type 0
 IsTakenIn call text = Takes text call.taken call.taken_after
 
@@ -73,7 +73,7 @@ pub record Promises (call : Call) : Type 0 where
   pub answer : Answers call
   -- status 5 comes exactly where the words are no command's
   pub no_command : IsSettled call.status → (call.status ≡ 5) ↔ (IsCommand call.words → ⊥)
-  -- where the files tell their bytes, each other status and the text come exactly where the files hold what they say
+  -- where the files tell their bytes, the status comes exactly where they hold what it says, and the text that goes with it is taken
   pub replay : (files : FileMap) (case_file trace_file : List ℕ) → call.told ≡ Some files → IsReplay call.words case_file trace_file → IsSettled call.status
       → ReplaysExactly files case_file trace_file call.status (IsTakenIn call)
   pub recheck : (files : FileMap) (case_file certificate_file : List ℕ) → call.told ≡ Some files → IsRecheck call.words case_file certificate_file → IsSettled call.status

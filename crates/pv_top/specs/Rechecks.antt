@@ -26,7 +26,7 @@ use Rattle.pv_top.specs.declared.answer.Stop.{Stop}
 use Rattle.pv_top.specs.declared.answer.Stop.TheVariants.{Refused, NoMemory}
 use Rattle.pv_top.specs.Answers.{form_line, fault_line, report_text}
 use Rattle.pv_top.specs.Cases.{CaseData}
-use Rattle.pv_top.specs.Inputs.{Holds, HoldsCase, HoldsNoCase, HoldsNoProject, Reads, IsUnreadable, IsNoCase, IsNoProject}
+use Rattle.pv_top.specs.Inputs.{Holds, HoldsNoCase, Reads, IsUnreadable, IsNoCase, IsNoProject}
 
 -- by each list of inputs, the run of the block has no scan that fails: each is done and keeps the invariant
 abbrev pub IsSatisfied : Block → Expr → Type 0
@@ -41,10 +41,10 @@ pub record HoldsProof (told : Option FileMap) (file : List ℕ) (block : Block) 
   pub satisfied : IsSatisfied block a
 
 -- the certificate's file holds bytes that the check answers so
-pub record HoldsFault (told : Option FileMap) (file : List ℕ) (block : Block) (a : Expr) (fault : RecheckFault) : Type 0 where
+pub record HoldsAnswer (told : Option FileMap) (file : List ℕ) (block : Block) (a : Expr) (result : Result (Unit {0}) RecheckFault) : Type 0 where
   pub bytes : List ℕ
   pub held : Holds told file bytes
-  pub answer : Answers block a bytes (Err fault)
+  pub answer : Answers block a bytes result
 
 -- why a recheck stops at its certificate
 abbrev pub StopsCertificate : Option FileMap → List ℕ → Block → Expr → Stop → Type 0
@@ -53,9 +53,9 @@ StopsCertificate told file block a (Refused (Unread name)) = string_bytes name �
 StopsCertificate told file block a (Refused (Unbuilt Case name)) = ⊥
 StopsCertificate told file block a (Refused (Unbuilt Source name)) = ⊥
 StopsCertificate told file block a (Refused (Unbuilt Trace name)) = ⊥
-StopsCertificate told file block a (Refused (Unbuilt Certificate name)) = (string_bytes name ≡ file) × HoldsFault told file block a UnbuiltCertificate
-StopsCertificate told file block a (Refused (Faulty line kind)) = HoldsFault told file block a (Fault line kind)
-StopsCertificate told file block a (Refused TooManyGates) = HoldsFault told file block a Gates
+StopsCertificate told file block a (Refused (Unbuilt Certificate name)) = (string_bytes name ≡ file) × HoldsAnswer told file block a (Err UnbuiltCertificate)
+StopsCertificate told file block a (Refused (Faulty line kind)) = HoldsAnswer told file block a (Err (Fault line kind))
+StopsCertificate told file block a (Refused TooManyGates) = HoldsAnswer told file block a (Err Gates)
 StopsCertificate told file block a NoMemory = Unit {0}
 
 -- the refusal that a check's fault is
@@ -79,13 +79,13 @@ pub record IsRechecked (told : Option FileMap) (case_file file name : List ℕ) 
   pub named : name ≡ case.name
   pub proof : HoldsProof told file block a
 
--- the case and its source are of the form, and the certificate is refused so
-pub record IsRefused (told : Option FileMap) (case_file file : List ℕ) (fault : RecheckFault) : Type 0 where
+-- the case and its source are of the form, and the certificate's file holds bytes that the check answers so
+pub record IsJudged (told : Option FileMap) (case_file file : List ℕ) (result : Result (Unit {0}) RecheckFault) : Type 0 where
   pub case : CaseData
   pub block : Block
   pub a : Expr
   pub reads : Reads told case_file case block a
-  pub certificate : HoldsFault told file block a fault
+  pub certificate : HoldsAnswer told file block a result
 
 -- what a report of a recheck says
 abbrev pub ReportsRecheck : Option FileMap → List ℕ → List ℕ → List ℕ → Outcome → Type 0
@@ -99,34 +99,24 @@ RefusesRecheck told case_file file (Unread name) = IsUnreadable told case_file f
 RefusesRecheck told case_file file (Unbuilt Case name) = IsNoCase told case_file (string_bytes name)
 RefusesRecheck told case_file file (Unbuilt Source name) = IsNoProject told case_file (string_bytes name)
 RefusesRecheck told case_file file (Unbuilt Trace name) = ⊥
-RefusesRecheck told case_file file (Unbuilt Certificate name) = (string_bytes name ≡ file) × IsRefused told case_file file UnbuiltCertificate
-RefusesRecheck told case_file file (Faulty line kind) = IsRefused told case_file file (Fault line kind)
-RefusesRecheck told case_file file TooManyGates = IsRefused told case_file file Gates
+RefusesRecheck told case_file file (Unbuilt Certificate name) = (string_bytes name ≡ file) × IsJudged told case_file file (Err UnbuiltCertificate)
+RefusesRecheck told case_file file (Faulty line kind) = IsJudged told case_file file (Err (Fault line kind))
+RefusesRecheck told case_file file TooManyGates = IsJudged told case_file file (Err Gates)
 
 -- what an answer of a recheck says
 abbrev pub SaysRecheck : Option FileMap → List ℕ → List ℕ → Answer → Type 0
 SaysRecheck told case_file file (Report report) = ReportsRecheck told case_file file (string_bytes report.case) report.outcome
 SaysRecheck told case_file file (RefusalOf refusal) = RefusesRecheck told case_file file refusal
 
--- case and source are of the form, and the certificate's file holds bytes that the check answers so
-pub record IsJudged (files : FileMap) (case_file file : List ℕ) (result : Result (Unit {0}) RecheckFault) : Type 0 where
-  pub case : CaseData
-  pub block : Block
-  pub a : Expr
-  pub reads : Reads (Some files) case_file case block a
-  pub bytes : List ℕ
-  pub held : Holds (Some files) file bytes
-  pub answer : Answers block a bytes result
-
 -- what the files hold decides a recheck's status, and the text that is taken
 pub record RechecksExactly (files : FileMap) (case_file file : List ℕ) (status : ℕ) (IsTaken : List ℕ → Type 0) : Type 0 where
-  pub satisfied : (status ≡ 0) ↔ IsJudged files case_file file (Ok tt)
-  pub no_project : (status ≡ 3) ↔ (((case : CaseData) × HoldsCase (Some files) case_file case × HoldsNoProject (Some files) case) ⊎ IsJudged files case_file file (Err Gates))
+  pub satisfied : (status ≡ 0) ↔ IsJudged (Some files) case_file file (Ok tt)
+  pub source : (status ≡ 3) ↔ (((name : List ℕ) × IsNoProject (Some files) case_file name) ⊎ IsJudged (Some files) case_file file (Err Gates))
   pub no_case : (status ≡ 4) ↔ HoldsNoCase (Some files) case_file
-  pub refused : (status ≡ 8) ↔ (IsJudged files case_file file (Err UnbuiltCertificate) ⊎ ((line : ℕ) × (kind : Kind) × IsJudged files case_file file (Err (Fault line kind))))
-  pub report : (is : IsJudged files case_file file (Ok tt)) → IsTaken (report_text is.case.name (Satisfied 0))
-  pub project_line : (case : CaseData) → HoldsCase (Some files) case_file case → HoldsNoProject (Some files) case → IsTaken (form_line case.file)
+  pub certificate : (status ≡ 8) ↔ (IsJudged (Some files) case_file file (Err UnbuiltCertificate) ⊎ ((line : ℕ) × (kind : Kind) × IsJudged (Some files) case_file file (Err (Fault line kind))))
+  pub report : (is : IsJudged (Some files) case_file file (Ok tt)) → IsTaken (report_text is.case.name (Satisfied 0))
+  pub project_line : (name : List ℕ) → IsNoProject (Some files) case_file name → IsTaken (form_line name)
   pub case_line : HoldsNoCase (Some files) case_file → IsTaken (form_line case_file)
-  pub unbuilt_line : IsJudged files case_file file (Err UnbuiltCertificate) → IsTaken (form_line file)
-  pub gates_line : IsJudged files case_file file (Err Gates) → IsTaken (fault_line TooManyGates)
-  pub certificate_line : (line : ℕ) (kind : Kind) → IsJudged files case_file file (Err (Fault line kind)) → IsTaken (fault_line (Faulty line kind))
+  pub unbuilt_line : IsJudged (Some files) case_file file (Err UnbuiltCertificate) → IsTaken (form_line file)
+  pub gates_line : IsJudged (Some files) case_file file (Err Gates) → IsTaken (fault_line TooManyGates)
+  pub certificate_line : (line : ℕ) (kind : Kind) → IsJudged (Some files) case_file file (Err (Fault line kind)) → IsTaken (fault_line (Faulty line kind))

@@ -22,7 +22,7 @@ use Rattle.pv_top.specs.declared.answer.Stop.{Stop}
 use Rattle.pv_top.specs.declared.answer.Stop.TheVariants.{Refused, NoMemory}
 use Rattle.pv_top.specs.Answers.{form_line, report_text}
 use Rattle.pv_top.specs.Cases.{CaseData}
-use Rattle.pv_top.specs.Inputs.{Holds, HoldsCase, HoldsNoCase, HoldsNoProject, Reads, IsUnreadable, IsNoCase, IsNoProject}
+use Rattle.pv_top.specs.Inputs.{Holds, HoldsNoCase, Reads, IsUnreadable, IsNoCase, IsNoProject}
 
 -- the trace's file holds the scans of a trace of the block, and the run over them ends so
 pub record Replayed (told : Option FileMap) (trace_file : List ℕ) (block : Block) (a : Expr) (end : End) : Type 0 where
@@ -91,10 +91,10 @@ SaysReplay told case_file trace_file (RefusalOf refusal) = RefusesReplay told ca
 pub record ReplaysExactly (files : FileMap) (case_file trace_file : List ℕ) (status : ℕ) (IsTaken : List ℕ → Type 0) : Type 0 where
   pub kept : (status ≡ 0) ↔ ((name : List ℕ) × (scans : ℕ) × IsReplayed (Some files) case_file trace_file name (Kept scans))
   pub broken : (status ≡ 1) ↔ ((name : List ℕ) × (scan : ℕ) × IsReplayed (Some files) case_file trace_file name (Broken scan))
-  pub no_project : (status ≡ 3) ↔ ((case : CaseData) × HoldsCase (Some files) case_file case × HoldsNoProject (Some files) case)
+  pub no_project : (status ≡ 3) ↔ ((name : List ℕ) × IsNoProject (Some files) case_file name)
   pub no_case : (status ≡ 4) ↔ HoldsNoCase (Some files) case_file
   pub no_trace : (status ≡ 8) ↔ IsNoTrace (Some files) case_file trace_file
   pub report : (name : List ℕ) (end : End) → IsReplayed (Some files) case_file trace_file name end → IsTaken (report_text name (Replay end))
-  pub project_line : (case : CaseData) → HoldsCase (Some files) case_file case → HoldsNoProject (Some files) case → IsTaken (form_line case.file)
+  pub project_line : (name : List ℕ) → IsNoProject (Some files) case_file name → IsTaken (form_line name)
   pub case_line : HoldsNoCase (Some files) case_file → IsTaken (form_line case_file)
   pub trace_line : IsNoTrace (Some files) case_file trace_file → IsTaken (form_line trace_file)

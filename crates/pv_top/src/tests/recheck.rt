@@ -1,5 +1,5 @@
 //! The command `recheck`.
-use super::{DEMO, PUSHED, case_of, files_with, said, sink, status_of};
+use super::{DEMO, case_of, files_with, said, sink, status_of};
 use crate::Status;
 use pv_edge::MemFiles;
 use std::alloc::{AllocError, Global};
