@@ -1,29 +1,80 @@
 #!/usr/bin/env python3
-"""Makes a certificate of 'satisfied' at k = 0 of another solver's proof.
+"""Makes a certificate of 'satisfied' at k = 0 out of a proof.
 
-    tools/certificate.py CASE > CASE.cnf              the formula of step(0), as DIMACS
-    cadical --plain --no-binary CASE.cnf PROOF        any solver that writes a DRAT text of clauses by unit propagation
-    tools/certificate.py CASE PROOF > CERTIFICATE     the certificate, with the hints found here
+usage: tools/certificate.py CASE > CASE.cnf                 the formula of a scan that fails, as DIMACS
+       tools/certificate.py CASE PROOF > CERTIFICATE        the certificate
+       tools/certificate.py --help                          this text
 
-Sources are named from the folder in which it is called. Deletions are passed over, a clause without a use is left out. A
-proof that needs more than unit propagation, or doesn't come to the empty clause, is refused with status 1. Nothing here is
-trusted: `plcv recheck` rebuilds the formula from the sources and checks each line."""
+PROOF is a text with a clause a line: variables as numbers, '-' before one that is negated, and a 0 at the end. Each
+clause has to follow from the formula and the clauses before it by unit propagation, and the last is the empty clause,
+the line '0'. This tool finds the hints, renumbers, and leaves out what nothing rests on.
+
+Without a solver: for a small block the one line '0' often is the whole proof.
+
+    echo 0 > PROOF
+    tools/certificate.py CASE PROOF > CERTIFICATE
+
+Where it isn't enough for a requirement 'A AND B', it may be for A and for B, each in a case of its own.
+
+With one: any solver that writes a DRAT text, called so that it takes no steps but these. Lines with 'd' (deletions)
+and 'c' (comments) are passed over.
+
+    tools/certificate.py CASE > CASE.cnf
+    cadical --plain --no-binary CASE.cnf PROOF
+    tools/certificate.py CASE PROOF > CERTIFICATE
+
+Says the solver SATISFIABLE, then one scan from some state, also one that no run reaches, breaks the invariant, and
+there is no certificate at k = 0.
+
+Files are named from the folder in which the tool is called. A refusal is one line on standard error with status 1,
+wrong words have status 2. It tells what of a source or a requirement isn't read today, where plcv only says that the
+text isn't of the form; it doesn't look for everything. Nothing here is trusted: `plcv recheck CASE CERTIFICATE` makes
+the formula anew from the source and checks each line. docs/CERTIFICATES.md goes through it step by step."""
 import json
 import re
 import sys
 
 TRUE = 1
-WORD = re.compile(r"\s*([A-Za-z_][A-Za-z0-9_]*|:=|[&():;,])")
+WORD = re.compile(r'\s*([A-Za-z_][A-Za-z0-9_]*|"[^"\n]*"|:=|[&():;,])')
+COMMENT = re.compile(r"\s*(\(\*|//)")
+FORM = "docs/FORMATS.md has the form that is read today"
+# Words that are no variables' names; docs/FORMATS.md has the whole list.
+NO_NAMES = set("""AND OR NOT XOR MOD DIV TRUE FALSE FUNCTION_BLOCK FUNCTION ORGANIZATION_BLOCK DATA_BLOCK TYPE
+END_FUNCTION_BLOCK END_FUNCTION END_ORGANIZATION_BLOCK END_DATA_BLOCK END_TYPE VOID BEGIN NETWORK CALL UC VAR VAR_INPUT
+VAR_OUTPUT VAR_IN_OUT VAR_TEMP CONST END_VAR END_CONST ARRAY OF STRUCT END_STRUCT BOOL BYTE WORD DWORD INT DINT TIME
+DATE_AND_TIME IF THEN ELSIF ELSE END_IF CASE END_CASE FOR TO BY DO END_FOR WHILE END_WHILE REPEAT UNTIL END_REPEAT EXIT
+CONTINUE RETURN ABS MIN MAX LIMIT SEL SHL SHR REAL LREAL S5TIME DATE TIME_OF_DAY TOD DT CHAR STRING POINTER ANY TIMER
+COUNTER LABEL GOTO BLOCK_DB BLOCK_FB BLOCK_FC OB FB FC DB UDT""".split())
+NUMBERED = re.compile(r"((P?[IQ]|M)[BWD]|DB[XBWD]|OB|FB|FC|DB|UDT)[0-9]+", re.I)
 
 
-def words_of(text):
+def refuse(what, advice):
+    """Ends with one line: what is wrong, and what to do."""
+    sys.exit(f"certificate.py: {what}: {advice}")
+
+
+def read(path):
+    """The text of a file."""
+    try:
+        with open(path, encoding="utf-8") as file:
+            return file.read()
+    except OSError as error:
+        refuse(f"{path} can't be read ({error.strerror})", "files are named from the folder in which this tool is called")
+    except UnicodeDecodeError:
+        refuse(f"{path} is no text", "a proof has to be a text too; cadical writes one with --no-binary")
+
+
+def words_of(text, name="the text"):
     """The words and signs of a text of the Boolean form."""
     words, place = [], 0
     text = text.rstrip()
     while place < len(text):
-        found = WORD.match(text, place)
+        found = None if COMMENT.match(text, place) else WORD.match(text, place)
         if not found:
-            sys.exit(f"no word at byte {place}")
+            place = re.compile(r"\s*").match(text, place).end()
+            line = text.count("\n", 0, place) + 1
+            what = "a comment" if COMMENT.match(text, place) else "no word of the form"
+            refuse(f"{name}, line {line}: {what} at '{text[place:place + 12].splitlines()[0]}'", FORM)
         words.append(found.group(1))
         place = found.end()
     return words
@@ -53,13 +104,26 @@ class Gates:
 class Block:
     """One scan of a block of BOOL variables: the literal of each cell after the statements so far."""
 
-    def __init__(self, text):
-        self.words = words_of(text)
-        names, lines = self.declarations()
+    def __init__(self, text, name="the source"):
+        self.name = name
+        self.words = words_of(text, name)
+        if len(self.words) < 3 or self.words[0].upper() != "FUNCTION_BLOCK" or self.words[-1].upper() != "END_FUNCTION_BLOCK":
+            refuse(f"{name} isn't one FUNCTION_BLOCK", FORM)
+        try:
+            names, lines = self.declarations()
+        except (IndexError, ValueError):
+            refuse(f"{name}: a section or a statement doesn't end", FORM)
+        seen = set()
+        for key in names:
+            if key in seen:
+                refuse(f"{name}: '{key}' is declared twice", "a name is declared once, in any letter case")
+            seen.add(key)
         self.gates = Gates(len(names))
-        self.cells = {name: 2 + place for place, name in enumerate(names)}
+        self.cells = {key: 2 + place for place, key in enumerate(names)}
         for target, value in lines:
-            self.cells[target] = self.expression(value)
+            if target not in self.cells:
+                refuse(f"{name}: '{target}' isn't declared", "each name has to be a variable of the block")
+            self.cells[target] = self.expression(value, name)
 
     def declarations(self):
         """The variables' keys in order, and the assignments: a key and the words of an expression."""
@@ -69,53 +133,76 @@ class Block:
             place += 1
             while words[place].upper() != "END_VAR":
                 stop = words.index(";", place)
-                names += [word.lower() for word in words[place:stop - 2] if word != ","]
+                names += self.declared(words[place:stop])
                 place = stop + 1
             place += 1
         if place < len(words) and words[place].upper() == "BEGIN":
             place += 1
         while place < len(words):
             stop = words.index(";", place)
-            if stop > place:
-                lines.append((words[place].lower(), words[place + 2:stop]))
+            if words[place + 1:place + 2] != [":="]:
+                refuse(f"{self.name}: '{words[place]}' begins no assignment", FORM)
+            lines.append((words[place].lower(), words[place + 2:stop]))
             place = stop + 1
         return names, lines
 
-    def expression(self, words):
+    def declared(self, words):
+        """The variables' keys of one declaration."""
+        names, signs, type_words = [word.lower() for word in words[:-2:2]], words[1:-2:2], words[-2:]
+        if len(words) % 2 == 0 or [word.upper() for word in type_words] != [":", "BOOL"] or any(sign != "," for sign in signs):
+            refuse(f"{self.name}: '{' '.join(words)}' declares no BOOL variables without start values", FORM)
+        for name in names:
+            if name.startswith('"'):
+                refuse(f"{self.name}: the variable {name} stands in quotes", "only the block's name may")
+            if name.upper() in NO_NAMES or NUMBERED.fullmatch(name):
+                refuse(f"{self.name}: '{name}' can't be a variable's name, it is a word of the languages or an address", FORM)
+        return names
+
+    def expression(self, words, name="the expression"):
         """The literal of an expression: inner ones and left operands first."""
-        self.rest = list(words)
+        self.rest, self.where = list(words), name
         value = self.disjunction()
         if self.rest:
-            sys.exit(f"unread: {self.rest[0]}")
+            refuse(f"{name}: unread from '{self.rest[0]}'", FORM)
         return value
 
     def at(self, *signs):
         return bool(self.rest) and self.rest[0].upper() in signs
 
+    def take(self, *signs):
+        """The next word, which is one of these where there are some."""
+        if not self.rest:
+            refuse(f"{self.where}: an expression ends too soon", FORM)
+        if signs and not self.at(*signs):
+            refuse(f"{self.where}: '{self.rest[0]}' stands where {' or '.join(signs)} is due", FORM)
+        return self.rest.pop(0)
+
     def disjunction(self):
         value = self.conjunction()
         while self.at("OR"):
-            self.rest.pop(0)
+            self.take()
             value = -self.gates.conjunction(-value, -self.conjunction())
         return value
 
     def conjunction(self):
         value = self.operand()
         while self.at("AND", "&"):
-            self.rest.pop(0)
+            self.take()
             value = self.gates.conjunction(value, self.operand())
         return value
 
     def operand(self):
-        word = self.rest.pop(0)
+        word = self.take()
         if word.upper() == "NOT":
             return -self.operand()
         if word == "(":
             value = self.disjunction()
-            self.rest.pop(0)
+            self.take(")")
             return value
         if word.upper() in ("TRUE", "FALSE"):
             return TRUE if word.upper() == "TRUE" else -TRUE
+        if word.lower() not in self.cells:
+            refuse(f"{self.where}: '{word}' isn't declared", "each name has to be a variable of the block")
         return self.cells[word.lower()]
 
 
@@ -129,13 +216,19 @@ def formula(block, fail):
     return clauses + [[fail]]
 
 
-def lemmas_of(path):
+def lemmas_of(path, variables):
     """The clauses that a DRAT text adds."""
     lemmas = []
-    for line in open(path, encoding="ascii"):
-        numbers = line.split()
-        if numbers and numbers[0] not in ("d", "c"):
-            lemmas.append([int(number) for number in numbers[:-1]])
+    for place, line in enumerate(read(path).splitlines(), 1):
+        words = line.split()
+        if not words or words[0] in ("d", "c"):
+            continue
+        if not re.fullmatch(r"(-?[1-9][0-9]*\s+)*0", line.strip()):
+            refuse(f"{path}, line {place} is no clause", "a proof is a text of clauses, each ended by 0; see --help")
+        lemma = [int(word) for word in words[:-1]]
+        if any(abs(literal) > variables for literal in lemma):
+            refuse(f"{path}, line {place} has a variable above {variables}", "is it the proof of another case's formula?")
+        lemmas.append(lemma)
     return lemmas
 
 
@@ -185,8 +278,17 @@ def log(clauses, lemmas):
     known, steps = Propagation(clauses), []
     for lemma in lemmas + [[]]:
         hints = known.hints(lemma)
+        if hints is None and not lemma:
+            refuse(
+                "the proof isn't enough, the empty clause doesn't follow by unit propagation",
+                "ask the parts of a requirement 'A AND B' one by one, or have a solver write the proof (--help); if it says "
+                "SATISFIABLE, one scan from some state breaks the invariant, and there is no certificate at k = 0",
+            )
         if hints is None:
-            sys.exit(f"not by unit propagation: {lemma}")
+            refuse(
+                f"the clause '{' '.join(map(str, lemma + [0]))}' doesn't follow by unit propagation",
+                "is it this case's proof, and was the solver called as --help says (cadical --plain)?",
+            )
         steps.append((lemma, hints))
         if not lemma:
             break
@@ -201,18 +303,39 @@ def log(clauses, lemmas):
     return [(ids[len(clauses) + p], steps[p - 1][0], [ids[h] for h in steps[p - 1][1]]) for p in kept]
 
 
+def case_of(path):
+    """The source's file, the block's name and the invariant's text of a case."""
+    try:
+        case = json.loads(read(path))
+        kind, file, text = case["pattern"]["kind"], case["sources"][0]["file"], case["pattern"]["a"]
+        entry = case["entry"]
+    except (ValueError, KeyError, IndexError, TypeError):
+        refuse(f"{path} is no case", FORM)
+    if kind != "invariant":
+        refuse(f"{path} has the pattern '{kind}'", "certificates of today are for an invariant")
+    return file, entry, text
+
+
 def main():
-    if len(sys.argv) not in (2, 3):
-        sys.exit(__doc__)
-    case = json.load(open(sys.argv[1], encoding="utf-8"))
-    block = Block(open(case["sources"][0]["file"], encoding="utf-8").read())
-    fail = -block.expression(words_of(case["pattern"]["a"]))
+    words = sys.argv[1:]
+    if words in (["--help"], ["-h"]):
+        print(__doc__)
+        return
+    if len(words) not in (1, 2):
+        print("certificate.py: one or two words, CASE or CASE PROOF; --help tells how", file=sys.stderr)
+        sys.exit(2)
+    file, entry, text = case_of(words[0])
+    block = Block(read(file), file)
+    name = block.words[1].strip('"')
+    if name.lower() != str(entry).strip('"').lower():
+        refuse(f"{words[0]} has the entry '{entry}', {file} the block '{name}'", "the entry is the block's name")
+    fail = -block.expression(words_of(text, "the invariant"), "the invariant")
     clauses = formula(block, fail)
-    if len(sys.argv) == 2:
+    if len(words) == 1:
         print(f"p cnf {len(block.gates.nodes)} {len(clauses)}")
         print("\n".join(" ".join(map(str, clause + [0])) for clause in clauses))
         return
-    lines = log(clauses, lemmas_of(sys.argv[2]))
+    lines = log(clauses, lemmas_of(words[1], len(block.gates.nodes)))
     print(f"PLCVCERT 1\nverdict satisfied 0\nquery step 0\nchain\nlog {len(lines)}")
     for number, lemma, hints in lines:
         print(" ".join(map(str, [number, *lemma, 0, *hints, 0])))

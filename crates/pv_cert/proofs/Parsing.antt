@@ -1,4 +1,7 @@
 -- What the readers of single texts answer.
+--
+-- Numbers in a text: `from_utf8`, `from_str_radix`, then compare with what `itoa` writes. `parse-decimal` and `IsAscii-decimal` give the
+-- refusals, so no fold over digits is proved.
 use Rattle.std.proofs.Common.{◌≡◌, ℕ, zero, suc, ◌+◌, ◌^◌, ◌<◌, List, [], ◌∷◌, ◌++◌, length, get_or, take, drop, ap, subst, ◌∙◌, sym, arith, Option, Some, None, Result, Ok, Err, Bor}
 use Rattle.std.specs.Prelude.{codes, IfSome, IfNone}
 use Rattle.std.specs.Result.{MatchResult, result_ok}

@@ -1,4 +1,12 @@
 -- Reading a certificate line by line: what was read, how it goes on, and that it goes on in one way.
+--
+-- A reader of lines: the definition is the list of lines, and the text joins them. One step of the reader is a relation (`Takes`)
+-- between what was read and what is read then, by cases on the stage; a callee's exact clauses give `MatchOption result (no step) (this
+-- step)` with hardly a file. Three laws make the whole exact: a step adds its line to the lines so far, each stage goes on to the end,
+-- and a line is taken in one way. Then the lines of a text (`cut-lines`: a text is cut in one way) are all that is left.
+-- `settled` by patterns `zero` and `suc` computes in proofs where an `if n == 0` doesn't. The choice after a loop as a function
+-- (`is_done`, with `↔`) keeps the two facts that an `||` of a derived `!=` loses. `after`, `no` and `yes` in patterns: a definition of
+-- that name in the file is only hidden, a constructor is matched.
 use Rattle.std.proofs.Common.{◌≡◌, ℕ, zero, suc, ◌+◌, ◌-◌, ◌^◌, ◌<◌, ◌≤◌, true, false, List, [], ◌∷◌, ◌++◌, length, get_or, drop, map, append_assoc, append-nil, length-append, refl, ap, subst, ◌∙◌, sym, arith, inl, inr, ◌==◌}
 use Rattle.std.specs.Prelude.{codes}
 use Rattle.std.specs.List.{flat_map, AllByRecursion}
@@ -9,15 +17,18 @@ use Rattle.std.proofs.lemmas.Grind.{flat_map-append}
 use Rattle.std.proofs.lemmas.List.{map-append}
 use Rattle.pv_log.specs.declared.line.Line.{Line}
 use Rattle.pv_log.specs.LineText.{line_text, HasText, Spells}
-use Rattle.pv_log.proofs.Spelled.{one-line}
+use Rattle.pv_log.proofs.ForCallers.{one-line}
 use Rattle.pv_cert.specs.declared.proof.Query.{Query}
 use Rattle.pv_cert.specs.declared.proof.Query.TheVariants.{Base, Step}
+use Rattle.pv_cert.specs.declared.proof.Chain.{Chain}
 use Rattle.pv_cert.specs.declared.stage.Stage.{Stage}
 use Rattle.pv_cert.specs.declared.stage.Stage.TheVariants.{Version, Verdict, Ready, Reduced, Counted, Lines, Whole}
 use Rattle.pv_cert.specs.declared.stage.Draft.{Draft}
-use Rattle.pv_cert.specs.CertificateText.{query_line, log_line, proof_lines, head_lines, QueryFits, HasProofText}
+use Rattle.pv_cert.specs.ChainText.{chain_line, HasChainText}
+use Rattle.pv_cert.specs.CertificateText.{query_line, log_line, proof_lines, head_lines, no_reduction, QueryFits, HasProofText}
 use Rattle.pv_cert.specs.Reading.{proof_of, settled, with_line, Takes, TakesAll, blank}
 use Rattle.pv_cert.proofs.Texts.{all-append}
+use Rattle.pv_cert.proofs.Chains.{same-chain}
 
 -- ---- the lines so far
 
@@ -30,9 +41,9 @@ lines_so_far d Version = []
 lines_so_far d Verdict = codes "PLCVCERT 1" ∷ []
 lines_so_far d Ready = ready_lines d
 lines_so_far d (Reduced query) = ready_lines d ++ query_line query ∷ []
-lines_so_far d (Counted query) = ready_lines d ++ query_line query ∷ codes "chain" ∷ []
+lines_so_far d (Counted query) = ready_lines d ++ query_line query ∷ chain_line d.chain ∷ []
 lines_so_far d (Lines query left) =
-    ready_lines d ++ query_line query ∷ codes "chain" ∷ log_line (length d.log + left) ∷ map line_text d.log
+    ready_lines d ++ query_line query ∷ chain_line d.chain ∷ log_line (length d.log + left) ∷ map line_text d.log
 lines_so_far d Whole = ready_lines d ++ codes "end" ∷ []
 
 -- what is known of the proof that isn't whole
@@ -41,8 +52,8 @@ StageFits d Version = d ≡ blank
 StageFits d Verdict = d ≡ blank
 StageFits d Ready = d.log ≡ []
 StageFits d (Reduced query) = QueryFits query × (d.log ≡ [])
-StageFits d (Counted query) = QueryFits query × (d.log ≡ [])
-StageFits d (Lines query left) = QueryFits query × AllByRecursion HasText d.log × (1 ≤ left) × (length d.log + left < 2 ^ 32)
+StageFits d (Counted query) = QueryFits query × HasChainText d.chain × (d.log ≡ [])
+StageFits d (Lines query left) = QueryFits query × HasChainText d.chain × AllByRecursion HasText d.log × (1 ≤ left) × (length d.log + left < 2 ^ 32)
 StageFits d Whole = d.log ≡ []
 
 -- what was read has a text
@@ -57,49 +68,49 @@ start-good = record { proofs = tt; fits = refl }
 abbrev Leads : List (List ℕ) → List ℕ → Draft × Stage → Type 0
 Leads before text t = IsGood t.0 t.1 × (lines_so_far t.0 t.1 ≡ before ++ text ∷ [])
 
-settle-good : (d : Draft) (query : Query) (left : ℕ) → AllByRecursion HasProofText d.proofs → QueryFits query → AllByRecursion HasText d.log → length d.log + left < 2 ^ 32 → IsGood (settled d query left).0 (settled d query left).1
-settle-good d query zero proofs fits lines few =
-    let p : HasProofText (proof_of query d.log) = record { query = fits; chain = refl; few = omega arith; lines = lines } in
-    record { proofs = all-append HasProofText d.proofs (proof_of query d.log ∷ []) proofs (p, tt); fits = refl }
-settle-good d query (suc left) proofs fits lines few = record { proofs = proofs; fits = (fits, lines, omega arith, few) }
+settle-good : (d : Draft) (query : Query) (left : ℕ) → AllByRecursion HasProofText d.proofs → QueryFits query → HasChainText d.chain → AllByRecursion HasText d.log → length d.log + left < 2 ^ 32 → IsGood (settled d query left).0 (settled d query left).1
+settle-good d query zero proofs fits rise lines few =
+    let p : HasProofText (proof_of query d.chain d.log) = record { query = fits; chain = rise; few = omega arith; lines = lines } in
+    record { proofs = all-append HasProofText d.proofs (proof_of query d.chain d.log ∷ []) proofs (p, tt); fits = refl }
+settle-good d query (suc left) proofs fits rise lines few = record { proofs = proofs; fits = (fits, rise, lines, omega arith, few) }
 
 -- the lines of a proof whose log has so many lines in all
 abbrev opened : Draft → Query → ℕ → List (List ℕ)
-opened d query n = ready_lines d ++ query_line query ∷ codes "chain" ∷ log_line n ∷ map line_text d.log
+opened d query n = ready_lines d ++ query_line query ∷ chain_line d.chain ∷ log_line n ∷ map line_text d.log
 
 settle-lines : (d : Draft) (query : Query) (left : ℕ) → lines_so_far (settled d query left).0 (settled d query left).1 ≡ opened d query (length d.log + left)
 settle-lines d query zero =
-    let p = proof_of query d.log in
+    let p = proof_of query d.chain d.log in
     let same : length d.log ≡ length d.log + 0 = omega arith in
     ap (λ (ls : List (List ℕ)). head_lines ++ ls) (flat_map-append proof_lines d.proofs (p ∷ []) ∙ ap (λ (ls : List (List ℕ)). flat_map proof_lines d.proofs ++ ls) (append-nil (proof_lines p)))
     ∙ ap (λ (n : ℕ). opened d query n) same
 settle-lines d query (suc left) = refl
 
-settle-leads : (d : Draft) (query : Query) (left : ℕ) (before : List (List ℕ)) (text : List ℕ) → AllByRecursion HasProofText d.proofs → QueryFits query → AllByRecursion HasText d.log → length d.log + left < 2 ^ 32
+settle-leads : (d : Draft) (query : Query) (left : ℕ) (before : List (List ℕ)) (text : List ℕ) → AllByRecursion HasProofText d.proofs → QueryFits query → HasChainText d.chain → AllByRecursion HasText d.log → length d.log + left < 2 ^ 32
     → opened d query (length d.log + left) ≡ before ++ text ∷ [] → Leads before text (settled d query left)
-settle-leads d query left before text proofs fits lines few e = (settle-good d query left proofs fits lines few, settle-lines d query left ∙ e)
+settle-leads d query left before text proofs fits rise lines few e = (settle-good d query left proofs fits rise lines few, settle-lines d query left ∙ e)
 
 count-leads : (d : Draft) (query : Query) (n : ℕ) (text : List ℕ) → IsGood d (Counted query) → n < 2 ^ 32 → text ≡ log_line n → Leads (lines_so_far d (Counted query)) text (settled d query n)
 count-leads d query n text g small e =
-    let none : d.log ≡ [] = g.fits.1 in
+    let none : d.log ≡ [] = g.fits.2 in
     let empty : length d.log ≡ 0 = ap (λ (ls : List Line). length ls) none in
     let whole : length d.log + n ≡ n = omega arith in
-    settle-leads d query n (lines_so_far d (Counted query)) text g.proofs g.fits.0 (subst (λ (ls : List Line). AllByRecursion HasText ls) (sym none) tt) (omega arith)
+    settle-leads d query n (lines_so_far d (Counted query)) text g.proofs g.fits.0 g.fits.1 (subst (λ (ls : List Line). AllByRecursion HasText ls) (sym none) tt) (omega arith)
     (ap (λ (m : ℕ). opened d query m) whole
-    ∙ ap (λ (ls : List Line). ready_lines d ++ query_line query ∷ codes "chain" ∷ log_line n ∷ map line_text ls) none
-    ∙ ap (λ (l : List ℕ). ready_lines d ++ query_line query ∷ codes "chain" ∷ l ∷ []) (sym e)
-    ∙ sym (append_assoc (ready_lines d) (query_line query ∷ codes "chain" ∷ []) (text ∷ [])))
+    ∙ ap (λ (ls : List Line). ready_lines d ++ query_line query ∷ chain_line d.chain ∷ log_line n ∷ map line_text ls) none
+    ∙ ap (λ (l : List ℕ). ready_lines d ++ query_line query ∷ chain_line d.chain ∷ l ∷ []) (sym e)
+    ∙ sym (append_assoc (ready_lines d) (query_line query ∷ chain_line d.chain ∷ []) (text ∷ [])))
 
 line-leads : (d : Draft) (query : Query) (left : ℕ) (line : Line) (text : List ℕ) → IsGood d (Lines query left) → Spells text line → Leads (lines_so_far d (Lines query left)) text (settled (with_line d line) query (left - 1))
 line-leads d query left line text g s =
     let longer : length (d.log ++ line ∷ []) ≡ length d.log + 1 = length-append d.log (line ∷ []) in
-    let low : 1 ≤ left = g.fits.2 in
-    let few : length d.log + left < 2 ^ 32 = g.fits.3 in
+    let low : 1 ≤ left = g.fits.3 in
+    let few : length d.log + left < 2 ^ 32 = g.fits.4 in
     let count : length (d.log ++ line ∷ []) + (left - 1) ≡ length d.log + left = omega arith in
-    settle-leads (with_line d line) query (left - 1) (lines_so_far d (Lines query left)) text g.proofs g.fits.0 (all-append HasText d.log (line ∷ []) g.fits.1 (s.valid, tt)) (omega arith)
+    settle-leads (with_line d line) query (left - 1) (lines_so_far d (Lines query left)) text g.proofs g.fits.0 g.fits.1 (all-append HasText d.log (line ∷ []) g.fits.2 (s.valid, tt)) (omega arith)
     (ap (λ (m : ℕ). opened (with_line d line) query m) count
-    ∙ ap (λ (ls : List (List ℕ)). ready_lines d ++ query_line query ∷ codes "chain" ∷ log_line (length d.log + left) ∷ ls) (map-append line_text d.log (line ∷ []) ∙ ap (λ (l : List ℕ). map line_text d.log ++ l ∷ []) (sym s.text))
-    ∙ sym (append_assoc (ready_lines d) (query_line query ∷ codes "chain" ∷ log_line (length d.log + left) ∷ map line_text d.log) (text ∷ [])))
+    ∙ ap (λ (ls : List (List ℕ)). ready_lines d ++ query_line query ∷ chain_line d.chain ∷ log_line (length d.log + left) ∷ ls) (map-append line_text d.log (line ∷ []) ∙ ap (λ (l : List ℕ). map line_text d.log ++ l ∷ []) (sym s.text))
+    ∙ sym (append_assoc (ready_lines d) (query_line query ∷ chain_line d.chain ∷ log_line (length d.log + left) ∷ map line_text d.log) (text ∷ [])))
 
 verdict-leads : (d : Draft) (text : List ℕ) → d ≡ blank → text ≡ codes "verdict satisfied 0" → Leads (codes "PLCVCERT 1" ∷ []) text (d, Ready)
 verdict-leads d text none e = subst (λ (b : Draft). Leads (codes "PLCVCERT 1" ∷ []) text (b, Ready)) (sym none) (record { proofs = tt; fits = refl }, ap (λ (l : List ℕ). codes "PLCVCERT 1" ∷ l ∷ []) (sym e))
@@ -110,9 +121,9 @@ leads d Verdict text t g h = subst (Leads (codes "PLCVCERT 1" ∷ []) text) (sym
 leads d Ready text t g (inl h) = subst (Leads (ready_lines d) text) (sym h.1) (record { proofs = g.proofs; fits = g.fits }, ap (λ (l : List ℕ). ready_lines d ++ l ∷ []) (sym h.0))
 leads d Ready text t g (inr h) = subst (Leads (ready_lines d) text) (sym h.3) (record { proofs = g.proofs; fits = (h.1, g.fits) }, ap (λ (l : List ℕ). ready_lines d ++ l ∷ []) (sym h.2))
 leads d (Reduced query) text t g h =
-    subst (Leads (lines_so_far d (Reduced query)) text) (sym h.1) (
-      record { proofs = g.proofs; fits = g.fits },
-      ap (λ (l : List ℕ). ready_lines d ++ query_line query ∷ l ∷ []) (sym h.0) ∙ sym (append_assoc (ready_lines d) (query_line query ∷ []) (text ∷ [])),
+    subst (Leads (lines_so_far d (Reduced query)) text) (sym h.3) (
+      record { proofs = g.proofs; fits = (g.fits.0, h.1, g.fits.1) },
+      ap (λ (l : List ℕ). ready_lines d ++ query_line query ∷ l ∷ []) (sym h.2) ∙ sym (append_assoc (ready_lines d) (query_line query ∷ []) (text ∷ [])),
     )
 leads d (Counted query) text t g h = subst (Leads (lines_so_far d (Counted query)) text) (sym h.3) (count-leads d query h.0 text g h.1 h.2)
 leads d (Lines query left) text t g h = subst (Leads (lines_so_far d (Lines query left)) text) (sym h.2) (line-leads d query left h.0 text g h.1)
@@ -172,9 +183,10 @@ pub goes : (d : Draft) (stage : Stage) → IsGood d stage → Goes d stage
 goes d Version g = goes-by d Version (codes "PLCVCERT 1") (d, Verdict) (refl, refl) (goes-verdict d)
 goes d Verdict g = goes-verdict d
 goes d Ready g = goes-ready d
-goes d (Reduced query) g = goes-by d (Reduced query) (codes "chain") (d, Counted query) (refl, refl) (goes-counted d query)
+goes d (Reduced query) g =
+    goes-by d (Reduced query) (chain_line no_reduction) (record d { chain = no_reduction }, Counted query) (no_reduction, tt, refl, refl) (goes-counted (record d { chain = no_reduction }) query)
 goes d (Counted query) g = goes-counted d query
-goes d (Lines query left) g = goes-lines d query left g.fits.2
+goes d (Lines query left) g = goes-lines d query left g.fits.3
 goes d Whole g = goes-whole d
 
 -- ---- a line is taken in one way
@@ -206,7 +218,8 @@ same-step d Ready text t u (inl h) (inr k) = absurd (no-query k.0 (sym h.0 ∙ k
 same-step d Ready text t u (inr h) (inl k) = absurd (no-query h.0 (sym k.0 ∙ h.2))
 same-step d Ready text t u (inr h) (inr k) =
     h.3 ∙ ap (λ (q : Query). (d, Reduced q)) (same-query h.0 k.0 h.1 k.1 (sym h.2 ∙ k.2)) ∙ sym k.3
-same-step d (Reduced query) text t u h k = h.1 ∙ sym k.1
+same-step d (Reduced query) text t u h k =
+    h.3 ∙ ap (λ (c : Chain). (record d { chain = c }, Counted query)) (same-chain h.0 k.0 h.1 k.1 (sym h.2 ∙ k.2)) ∙ sym k.3
 same-step d (Counted query) text t u h k =
     h.3 ∙ ap (λ (n : ℕ). settled d query n) (same-number h.0 k.0 h.1 k.1 (ap (drop 4) (sym h.2 ∙ k.2))) ∙ sym k.3
 same-step d (Lines query left) text t u h k =

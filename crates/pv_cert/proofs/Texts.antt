@@ -12,8 +12,10 @@ use Rattle.pv_log.specs.declared.line.Line.{Line}
 use Rattle.pv_log.specs.LineText.{literals_text, hints_text, line_text, IsLiteral, IsHint, HasText}
 use Rattle.pv_cert.specs.declared.proof.Query.{Query}
 use Rattle.pv_cert.specs.declared.proof.Query.TheVariants.{Base, Step}
+use Rattle.pv_cert.specs.declared.proof.Chain.{Chain}
 use Rattle.pv_cert.specs.declared.proof.Proof.{Proof}
 use Rattle.pv_cert.specs.declared.certificate.Certificate.{Certificate}
+use Rattle.pv_cert.specs.ChainText.{constants_text, cells_text, havoc_text, cone_text, chain_line, RiseFrom, HasChainText}
 use Rattle.pv_cert.specs.CertificateText.{text_of_lines, query_line, proof_lines, certificate_lines, QueryFits, HasProofText, HasCertificateText, NoFeed}
 
 -- ---- what a prefix that was sought says, by the outcome
@@ -79,6 +81,29 @@ feedless-query : (query : Query) → QueryFits query → NoFeed (query_line quer
 feedless-query (Base k) h = feedless-append (codes "query base ") (decimal k) (plain (codes "query base ") refl) (feedless-decimal k (omega (arith, h)))
 feedless-query (Step k) h = feedless-append (codes "query step ") (decimal k) (plain (codes "query step ") refl) (feedless-decimal k (omega (arith, h)))
 
+feedless-cells : (least : ℕ) (cells : List ℕ) → RiseFrom least cells → NoFeed (cells_text cells)
+feedless-cells least [] h = tt
+feedless-cells least (cell ∷ cells) h =
+    feedless-append (codes " " ++ decimal cell) (cells_text cells) (feedless-append (codes " ") (decimal cell) (plain (codes " ") refl) (feedless-decimal cell (omega (arith, h.1)))) (feedless-cells (cell + 1) cells h.2)
+
+feedless-constants : (is_there : Bool) → NoFeed (constants_text is_there)
+feedless-constants true = plain (codes " constants") refl
+feedless-constants false = tt
+
+feedless-havoc : (cells : List ℕ) → RiseFrom 0 cells → NoFeed (havoc_text cells)
+feedless-havoc [] h = tt
+feedless-havoc (cell ∷ cells) h = feedless-append (codes " havoc") (cells_text (cell ∷ cells)) (plain (codes " havoc") refl) (feedless-cells 0 (cell ∷ cells) h)
+
+feedless-cone : (is_there : Bool) → NoFeed (cone_text is_there)
+feedless-cone true = plain (codes " cone") refl
+feedless-cone false = tt
+
+feedless-chain : (chain : Chain) → HasChainText chain → NoFeed (chain_line chain)
+feedless-chain chain h =
+    let a = feedless-append (codes "chain") (constants_text chain.constants) (plain (codes "chain") refl) (feedless-constants chain.constants) in
+    let b = feedless-append (codes "chain" ++ constants_text chain.constants) (havoc_text chain.havoc) a (feedless-havoc chain.havoc h) in
+    feedless-append (codes "chain" ++ constants_text chain.constants ++ havoc_text chain.havoc) (cone_text chain.cone) b (feedless-cone chain.cone)
+
 feedless-log : (lines : List Line) → AllByRecursion HasText lines → AllByRecursion NoFeed (map line_text lines)
 feedless-log [] h = tt
 feedless-log (line ∷ lines) h = (feedless-line line h.0, feedless-log lines h.1)
@@ -86,7 +111,7 @@ feedless-log (line ∷ lines) h = (feedless-line line h.0, feedless-log lines h.
 feedless-proof : (p : Proof) → HasProofText p → AllByRecursion NoFeed (proof_lines p)
 feedless-proof p h =
     let count = feedless-append (codes "log ") (decimal (length p.log)) (plain (codes "log ") refl) (feedless-decimal (length p.log) (omega (arith, h.few))) in
-    (feedless-query p.query h.query, (plain (codes "chain") refl, (count, feedless-log p.log h.lines)))
+    (feedless-query p.query h.query, (feedless-chain p.chain h.chain, (count, feedless-log p.log h.lines)))
 
 feedless-proofs : (ps : List Proof) → AllByRecursion HasProofText ps → AllByRecursion NoFeed (flat_map proof_lines ps)
 feedless-proofs [] h = tt

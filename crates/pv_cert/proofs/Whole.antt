@@ -1,4 +1,6 @@
 -- What reading gives, as the text of certificates says it.
+--
+-- A certificate that has a text is `satisfied_by` its proofs (`made-of-proofs`): whoever takes one apart goes by that.
 use Rattle.std.proofs.Common.{◌≡◌, ℕ, ◌+◌, ◌-◌, ◌<◌, List, [], ◌∷◌, ◌++◌, length, map, append_assoc, append-nil, length-append, refl, ap, subst, ◌∙◌, sym, arith, inl, inr, Result, Ok, Err, Option, Some, None, MatchOption}
 use Rattle.std.specs.Prelude.{codes, IfOk}
 use Rattle.std.specs.List.{flat_map, AllByRecursion}
@@ -16,9 +18,11 @@ use Rattle.pv_cert.specs.declared.fault.CertFault.TheVariants.{NotACertificate, 
 use Rattle.pv_cert.specs.declared.stage.Stage.{Stage}
 use Rattle.pv_cert.specs.declared.stage.Stage.TheVariants.{Version, Verdict, Ready, Reduced, Counted, Lines, Whole}
 use Rattle.pv_cert.specs.declared.stage.Draft.{Draft}
-use Rattle.pv_cert.specs.CertificateText.{text_of_lines, proof_lines, head_lines, certificate_lines, certificate_text, satisfied_by, HasProofText, HasCertificateText, IsTextOf, BeginsOne, NoFeed, FailsAt, IsUnlessNoMemory}
-use Rattle.pv_cert.specs.Reading.{proof_of, settled, with_line, Takes, TakesAll, blank, HasRoom, Reached, StopsAt, ReadsAll, Reads}
+use Rattle.pv_cert.specs.ChainText.{chain_line}
+use Rattle.pv_cert.specs.CertificateText.{text_of_lines, query_line, log_line, proof_lines, head_lines, certificate_lines, certificate_text, satisfied_by, no_reduction, IsWritable, HasProofText, HasCertificateText, IsTextOf, BeginsOne, NoFeed, FailsAt, IsUnlessNoMemory}
+use Rattle.pv_cert.specs.Reading.{settled, with_line, Takes, TakesAll, blank, HasRoom, Reached, StopsAt, ReadsAll, Reads}
 use Rattle.pv_cert.proofs.Texts.{all-append, all-behind, feedless, onto, cut-one, not-empty, IsCut, cut-short, cut-lines, text-append, text-push, no-lines}
+use Rattle.pv_cert.proofs.Writable.{writable}
 use Rattle.pv_cert.proofs.Steps.{IsGood, start-good, lead-all, goes, same-all, take-both, take-one, take-parts}
 
 -- ---- the lines of a certificate are taken one after the other
@@ -37,22 +41,18 @@ log-taken (line ∷ lines) d query h =
     )
 
 abbrev after : List Proof → Draft
-after ps = record { proofs = ps; log = [] }
-
-whole-proof : (p : Proof) → HasProofText p → proof_of p.query p.log ≡ p
-whole-proof p h = ap (λ ch. record p { chain = ch }) (sym h.chain)
+after ps = record { proofs = ps; chain = no_reduction; log = [] }
 
 proof-taken : (p : Proof) (ps : List Proof) → HasProofText p → TakesAll (after ps) Ready (proof_lines p) (after (ps ++ p ∷ []), Ready)
 proof-taken p ps h =
-    let log = log-taken p.log (after ps) p.query h.lines in
-    let end : TakesAll (settled (after ps) p.query (length p.log)).0 (settled (after ps) p.query (length p.log)).1 (map line_text p.log) (after (ps ++ p ∷ []), Ready) =
-    subst (λ (q : Proof). TakesAll (settled (after ps) p.query (length p.log)).0 (settled (after ps) p.query (length p.log)).1 (map line_text p.log) (after (ps ++ q ∷ []), Ready)) (whole-proof p h) log in (
+    let d : Draft = record { proofs = ps; chain = p.chain; log = [] } in
+    let log : TakesAll (settled d p.query (length p.log)).0 (settled d p.query (length p.log)).1 (map line_text p.log) (after (ps ++ p ∷ []), Ready) = log-taken p.log d p.query h.lines in (
       (after ps, Reduced p.query),
       inr (p.query, h.query, refl, refl),
       (
-        (after ps, Counted p.query),
-        (refl, refl),
-        (settled (after ps) p.query (length p.log), (length p.log, h.few, refl, refl), end),
+        (d, Counted p.query),
+        (p.chain, h.chain, refl, refl),
+        (settled d p.query (length p.log), (length p.log, h.few, refl, refl), log),
       ),
     )
 
@@ -157,6 +157,22 @@ stops-fails bytes line s = record {
   none = λ c t. (let cut = text-cut s.reached.before s.rest bytes c s.reached.whole s.reached.split t in no-more bytes line s c t cut.more cut.lines cut.rest);
 }
 
+-- ---- the first lines of a certificate with a proof
+
+pub record FirstLines (bytes : List ℕ) (p : Proof) : Type 0 where
+  pub more : List (List ℕ)
+  pub text : bytes ≡ text_of_lines (codes "PLCVCERT 1" ∷ codes "verdict satisfied 0" ∷ query_line p.query ∷ chain_line p.chain ∷ more)
+  pub plain : AllByRecursion NoFeed (codes "PLCVCERT 1" ∷ codes "verdict satisfied 0" ∷ query_line p.query ∷ chain_line p.chain ∷ more)
+
+pub first-lines : (bytes : List ℕ) (c : Certificate) (p : Proof) (ps : List Proof) → IsTextOf bytes c → c.proofs ≡ p ∷ ps → FirstLines bytes p
+first-lines bytes c p ps t e =
+    let lines : List Proof → List (List ℕ) = λ proofs. head_lines ++ (flat_map proof_lines proofs ++ codes "end" ∷ []) in
+    record {
+      more = ((log_line (length p.log) ∷ map line_text p.log) ++ flat_map proof_lines ps) ++ codes "end" ∷ [];
+      text = t.text ∙ ap (λ proofs. text_of_lines (lines proofs)) e;
+      plain = subst (λ proofs. AllByRecursion NoFeed (lines proofs)) e (feedless c t.valid);
+    }
+
 -- ---- a text is that of one certificate, and fails in one line
 
 -- a certificate that has a text is made of its proofs
@@ -223,6 +239,10 @@ pub reads-ok : (bytes : List ℕ) (r : Result Certificate CertFault) → Reads b
 reads-ok bytes (Ok c) h = read-whole bytes c h
 reads-ok bytes (Err f) h = tt
 
+pub reads-writable : (bytes : List ℕ) (r : Result Certificate CertFault) → Reads bytes r → IfOk r IsWritable
+reads-writable bytes (Ok c) h = writable c (read-whole bytes c h).valid
+reads-writable bytes (Err f) h = tt
+
 pub reads-complete : (bytes : List ℕ) (r : Result Certificate CertFault) → Reads bytes r → (c : Certificate) → IsTextOf bytes c → IsUnlessNoMemory r (Ok c)
 reads-complete bytes (Ok k) h c s = inl (ap (λ (x : Certificate). Ok x) (one-certificate bytes k c (read-whole bytes k h) s))
 reads-complete bytes (Err (NotACertificate line)) h c s = absurd ((stops-fails bytes line h).none c s)
@@ -247,7 +267,7 @@ room d Verdict g = tt
 room d Ready g = tt
 room d (Reduced query) g = tt
 room d (Counted query) g = tt
-room d (Lines query left) g = (g.fits.2, g.fits.3)
+room d (Lines query left) g = (g.fits.3, g.fits.4)
 room d Whole g = tt
 
 pub reached-room : (bytes rest : List ℕ) (line : ℕ) (d : Draft) (stage : Stage) → Reached bytes rest line d stage → HasRoom d stage

@@ -1,9 +1,9 @@
 -- The text of a certificate that a pattern is satisfied with k = 0, and which bytes begin one.
-use Rattle.std.specs.Prelude.{◌≡◌, ℕ, ◌+◌, ◌^◌, ◌<◌, ◌≤◌, false, List, [], ◌∷◌, ◌++◌, length, map, codes, ◌⊎◌, Result, Err, None}
+use Rattle.std.specs.Prelude.{◌≡◌, ℕ, ◌+◌, ◌^◌, ◌<◌, false, List, [], ◌∷◌, ◌++◌, length, map, codes, ◌⊎◌, Result, Err, None}
 use Rattle.std.specs.List.{flat_map, AllByRecursion}
 use Rattle.std.specs.Fmt.{decimal}
-use Rattle.pv_log.specs.declared.line.Line.{Line}
-use Rattle.pv_log.specs.LineText.{line_text, HasText}
+use Rattle.pv_log.specs.LineText.{line_text, HasText, IsWritable as IsWritableLine}
+use Rattle.pv_cert.specs.ChainText.{chain_line, HasChainText}
 use Rattle.pv_cert.specs.declared.proof.Query.{Query}
 use Rattle.pv_cert.specs.declared.proof.Query.TheVariants.{Base, Step}
 use Rattle.pv_cert.specs.declared.proof.Chain.{Chain}
@@ -26,9 +26,9 @@ query_line (Step k) = codes "query step " ++ decimal k
 abbrev pub log_line : ℕ → List ℕ
 log_line n = codes "log " ++ decimal n
 
--- the lines of a proof: its query, a chain without words, and the log behind its number of lines
+-- the lines of a proof: its query, its chain, and the log behind its number of lines
 abbrev pub proof_lines : Proof → List (List ℕ)
-proof_lines p = query_line p.query ∷ codes "chain" ∷ log_line (length p.log) ∷ map line_text p.log
+proof_lines p = query_line p.query ∷ chain_line p.chain ∷ log_line (length p.log) ∷ map line_text p.log
 
 -- the lines before the proofs
 abbrev pub head_lines : List (List ℕ)
@@ -58,7 +58,7 @@ QueryFits (Step k) = k < 2 ^ 32
 -- a proof that has a text
 pub record HasProofText (p : Proof) : Type 0 where
   pub query : QueryFits p.query
-  pub chain : p.chain ≡ no_reduction
+  pub chain : HasChainText p.chain
   pub few : length p.log < 2 ^ 32
   pub lines : AllByRecursion HasText p.log
 
@@ -96,13 +96,17 @@ pub record FailsAt (bytes : List ℕ) (line : ℕ) : Type 0 where
   pub stuck : (next after : List ℕ) → NoFeed next → rest ≡ next ++ 10 ∷ after → BeginsOne (text_of_lines before ++ (next ++ 10 ∷ [])) → ⊥
   pub none : (c : Certificate) → IsTextOf bytes c → ⊥
 
--- a line of a log that can be written
-abbrev pub IsWritableLine : Line → Type 0
-IsWritableLine line = AllByRecursion (λ lit. 2 ≤ lit) line.lits × AllByRecursion (λ hint. 1 ≤ hint) line.hints
-
 -- a proof that can be written
-abbrev pub IsWritableProof : Proof → Type 0
-IsWritableProof p = (p.chain ≡ no_reduction) × AllByRecursion IsWritableLine p.log
+pub record IsWritableProof (p : Proof) : Type 0 where
+  pub chain : HasChainText p.chain
+  pub lines : AllByRecursion IsWritableLine p.log
+
+-- a certificate that can be written
+pub record IsWritable (c : Certificate) : Type 0 where
+  pub claim : c.claim ≡ Satisfied 0
+  pub trace : c.trace ≡ None
+  pub next : c.next ≡ None
+  pub proofs : AllByRecursion IsWritableProof c.proofs
 
 -- the answer is this one, unless memory ran out
 abbrev pub IsUnlessNoMemory : Result Certificate CertFault → Result Certificate CertFault → Type 0

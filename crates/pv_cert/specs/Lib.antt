@@ -1,2 +1,4 @@
+pub mod ChainText
 pub mod CertificateText
 pub mod Reading
+pub mod Traces

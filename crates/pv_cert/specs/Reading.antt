@@ -4,6 +4,7 @@ use Rattle.std.specs.List.{AllByRecursion}
 use Rattle.pv_log.specs.declared.line.Line.{Line}
 use Rattle.pv_log.specs.LineText.{Spells}
 use Rattle.pv_cert.specs.declared.proof.Query.{Query}
+use Rattle.pv_cert.specs.declared.proof.Chain.{Chain}
 use Rattle.pv_cert.specs.declared.proof.Proof.{Proof}
 use Rattle.pv_cert.specs.declared.certificate.Claim.TheVariants.{Satisfied}
 use Rattle.pv_cert.specs.declared.certificate.Certificate.{Certificate}
@@ -12,15 +13,16 @@ use Rattle.pv_cert.specs.declared.fault.CertFault.TheVariants.{NotACertificate, 
 use Rattle.pv_cert.specs.declared.stage.Stage.{Stage}
 use Rattle.pv_cert.specs.declared.stage.Stage.TheVariants.{Version, Verdict, Ready, Reduced, Counted, Lines, Whole}
 use Rattle.pv_cert.specs.declared.stage.Draft.{Draft}
+use Rattle.pv_cert.specs.ChainText.{chain_line, HasChainText}
 use Rattle.pv_cert.specs.CertificateText.{text_of_lines, query_line, log_line, no_reduction, QueryFits, NoFeed}
 
--- a proof without reductions
-abbrev pub proof_of : Query → List Line → Proof
-proof_of query lines = record { query = query; chain = no_reduction; log = lines }
+-- a proof of its parts
+abbrev pub proof_of : Query → Chain → List Line → Proof
+proof_of query chain lines = record { query = query; chain = chain; log = lines }
 
 -- what is read where so many lines of a log are still to come: behind the last its proof is whole
 abbrev pub settled : Draft → Query → ℕ → Draft × Stage
-settled draft query zero = (record { proofs = draft.proofs ++ proof_of query draft.log ∷ []; log = [] }, Ready)
+settled draft query zero = (record { proofs = draft.proofs ++ proof_of query draft.chain draft.log ∷ []; chain = no_reduction; log = [] }, Ready)
 settled draft query (suc left) = (draft, Lines query (suc left))
 
 -- one more line of the log
@@ -34,7 +36,8 @@ Takes draft Verdict text t = (text ≡ codes "verdict satisfied 0") × (t ≡ (d
 Takes draft Ready text t =
     ((text ≡ codes "end") × (t ≡ (draft, Whole)))
     ⊎ ((query : Query) × QueryFits query × (text ≡ query_line query) × (t ≡ (draft, Reduced query)))
-Takes draft (Reduced query) text t = (text ≡ codes "chain") × (t ≡ (draft, Counted query))
+Takes draft (Reduced query) text t =
+    (chain : Chain) × HasChainText chain × (text ≡ chain_line chain) × (t ≡ (record draft { chain = chain }, Counted query))
 Takes draft (Counted query) text t = (n : ℕ) × (n < 2 ^ 32) × (text ≡ log_line n) × (t ≡ settled draft query n)
 Takes draft (Lines query left) text t = (line : Line) × Spells text line × (t ≡ settled (with_line draft line) query (left - 1))
 Takes draft Whole text t = ⊥
@@ -51,7 +54,7 @@ TakesAll draft stage (line ∷ lines) t = (u : Draft × Stage) × Takes draft st
 
 -- nothing was read
 abbrev pub blank : Draft
-blank = record { proofs = []; log = [] }
+blank = record { proofs = []; chain = no_reduction; log = [] }
 
 -- so far these lines were read of the bytes, and this is left
 pub record Reached (bytes : List ℕ) (rest : List ℕ) (line : ℕ) (draft : Draft) (stage : Stage) : Type 0 where

@@ -1,9 +1,10 @@
-//! Certificates: a verdict with the proofs that show it, and their text.
+//! Certificates: a verdict with the proofs that show it, and their text; and the text of traces.
 //!
-//! The text of today is that of the verdict `satisfied 0`, with no words behind `chain`.
+//! The text of a certificate of today is that of the verdict `satisfied 0`.
 #![tactic(auto)]
 
 mod certificate;
+mod chain;
 mod fault;
 mod laws;
 mod parts;
@@ -11,11 +12,12 @@ mod proof;
 mod reader;
 mod stage;
 mod trace;
+pub mod traces;
 mod writer;
 
 pub use certificate::{Certificate, Claim, Proofs};
 pub use fault::CertFault;
-pub use laws::text_determines_certificate;
+pub use laws::{text_determines_certificate, trace_text_determines_scans};
 pub use parts::cut_line;
 pub use proof::{Chain, Proof, Query};
 pub use reader::read;

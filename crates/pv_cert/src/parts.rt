@@ -28,7 +28,7 @@ pub(crate) fn is_same(text: &[u8], other: &[u8]) -> bool
 }
 
 /// What follows the prefix, where the text begins with it.
-fn strip<'a>(text: &'a [u8], prefix: &[u8]) -> Option<&'a [u8]>
+pub(crate) fn strip<'a>(text: &'a [u8], prefix: &[u8]) -> Option<&'a [u8]>
     ensures found { IfSome result (λ rest. text.now ≡ prefix.now ++ rest.now) }
     ensures none { IfNone result ((rest : List ℕ) → text.now ≡ prefix.now ++ rest → ⊥) }
 {
@@ -53,7 +53,7 @@ fn is_text_of(text: &[u8], n: u32) -> bool
 }
 
 /// The number whose text this is, without needless zeros or a sign.
-fn number(text: &[u8]) -> Option<u32>
+pub(crate) fn number(text: &[u8]) -> Option<u32>
     ensures found { IfSome result (λ n. text.now ≡ decimal n) }
     ensures none { IfNone result ((n : ℕ) → n < 2 ^ 32 → text.now ≡ decimal n → ⊥) }
 {

@@ -4,15 +4,16 @@ ghost use Rattle.pv_cert.specs.declared.stage.Stage.{Stage};
 ghost use Rattle.pv_cert.specs.declared.stage.Draft.{Draft};
 ghost use Rattle.pv_log.specs.declared.line.Line.{Line};
 ghost use Rattle.pv_log.specs.LineText.{Spells};
-ghost use Rattle.pv_cert.specs.CertificateText.{IsTextOf, FailsAt, IsUnlessNoMemory};
+ghost use Rattle.pv_cert.specs.CertificateText.{IsTextOf, IsWritable, FailsAt, IsUnlessNoMemory};
 ghost use Rattle.pv_cert.specs.Reading.{Takes, HasRoom, Reads, settled, with_line};
 
 use crate::certificate::{Certificate, Claim, Proofs};
+use crate::chain::{chain, no_words};
 use crate::fault::CertFault;
 use crate::parts::{cut_line, is_same, number_behind, query};
-use crate::proof::{Chain, Proof, Query};
+use crate::proof::{Proof, Query};
 use crate::stage::{Draft, Stage};
-use pv_log::{Line, Log, LratFault, Numbers, read_line};
+use pv_log::{Line, Log, LratFault, read_line};
 use std::alloc::{AllocError, Global};
 use std::mem;
 
@@ -20,11 +21,7 @@ use std::mem;
 fn end_proof(alloc: Global, draft: &mut Draft, query: Query) -> Result<(), AllocError>
     ensures { IfOk result (λ _. settled draft.old query 0 ≡ (draft.new, Stage.Ready)) }
 {
-    let chain = Chain {
-        constants: false,
-        havoc: Numbers::new(alloc),
-        cone: false,
-    };
+    let chain = mem::replace(&mut draft.chain, no_words(alloc));
     let log = mem::replace(&mut draft.log, Log::new(alloc));
     draft.proofs.push(Proof { query, chain, log })
 }
@@ -74,6 +71,24 @@ fn take_ready(text: &[u8]) -> Option<Stage>
     }
     let query = query(text)?;
     Some(Stage::Reduced(query))
+}
+
+/// Reads the reductions of a machine.
+fn take_chain(
+    alloc: Global,
+    draft: &mut Draft,
+    query: Query,
+    text: &[u8],
+) -> Result<Option<Stage>, AllocError>
+    ensures { IfOk result (λ next. MatchOption next
+        ((t : Draft × Stage) → Takes draft.old (Stage.Reduced query) text.now t → ⊥)
+        (λ stage. Takes draft.old (Stage.Reduced query) text.now (draft.new, stage))) }
+{
+    let Some(chain) = chain(alloc, text)? else {
+        return Ok(None);
+    };
+    draft.chain = chain;
+    Ok(Some(Stage::Counted(query)))
 }
 
 /// Reads the number of lines of a log.
@@ -131,7 +146,7 @@ fn take_line(
         Stage::Version => Ok(take_fixed(text, b"PLCVCERT 1", Stage::Verdict)),
         Stage::Verdict => Ok(take_fixed(text, b"verdict satisfied 0", Stage::Ready)),
         Stage::Ready => Ok(take_ready(text)),
-        Stage::Reduced(query) => Ok(take_fixed(text, b"chain", Stage::Counted(query))),
+        Stage::Reduced(query) => take_chain(alloc, draft, query, text),
         Stage::Counted(query) => take_count(alloc, draft, query, text),
         Stage::Lines(query, left) => take_log_line(alloc, draft, query, left, text),
         Stage::Whole => Ok(None),
@@ -154,6 +169,7 @@ fn read_lines(alloc: Global, bytes: &[u8]) -> Result<Certificate, CertFault>
 {
     let mut draft = Draft {
         proofs: Proofs::new(alloc),
+        chain: no_words(alloc),
         log: Log::new(alloc),
     };
     let mut stage = Stage::Version;
@@ -178,12 +194,14 @@ fn read_lines(alloc: Global, bytes: &[u8]) -> Result<Certificate, CertFault>
     })
 }
 
-/// Reads the text of a certificate of `satisfied 0` whose chains have no words. A number has no needless zeros
-/// and no sign, and each line ends with a line feed alone.
+/// Reads the text of a certificate of `satisfied 0`. A number has 32 bits, no needless zeros and no sign, the cells of
+/// a chain rise, and each line ends with a line feed alone.
 pub fn read(alloc: Global, bytes: &[u8]) -> Result<Certificate, CertFault>
     // What is read has this text, and what has this text is read.
     ensures found { IfOk result (IsTextOf bytes.now) }
     ensures complete { (c : Certificate) → IsTextOf bytes.now c → IsUnlessNoMemory result (Ok c) }
+    // `write` takes what is read.
+    ensures writable { IfOk result IsWritable }
     // A refusal names the first line with which no certificate begins so, and where there is one it is refused.
     ensures stuck { (line : ℕ) → result ≡ Err (CertFault.NotACertificate line) → FailsAt bytes.now line }
     ensures refused { (line : ℕ) → FailsAt bytes.now line → IsUnlessNoMemory result (Err (CertFault.NotACertificate line)) }

@@ -1,5 +1,5 @@
 use crate::certificate::Proofs;
-use crate::proof::Query;
+use crate::proof::{Chain, Query};
 use pv_log::Log;
 
 /// What has been read of a certificate.
@@ -7,6 +7,8 @@ use pv_log::Log;
 pub(crate) struct Draft {
     /// The proofs that are whole.
     pub(crate) proofs: Proofs,
+    /// The reductions of the proof that isn't.
+    pub(crate) chain: Chain,
     /// The lines of the proof that isn't.
     pub(crate) log: Log,
 }

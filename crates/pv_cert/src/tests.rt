@@ -8,9 +8,15 @@ const SEVEN: &str =
 const TWO: &str =
     "PLCVCERT 1\nverdict satisfied 0\nquery base 4294967295\nchain\nlog 2\n3 -1 0 2 0\n4 0 3 1 0\nquery step 0\nchain\nlog 0\nend\n";
 
+/// Chains with their words.
+const CHAINS: &str = "PLCVCERT 1\nverdict satisfied 0\n\
+query base 1\nchain constants havoc 0 10 4294967295 cone\nlog 0\n\
+query base 2\nchain havoc 7\nlog 0\n\
+query step 2\nchain constants cone\nlog 0\nend\n";
+
 #[test]
 fn certificates_are_read_and_written(rt: HostRuntime) -> Result<(), Fail> {
-    for text in [SEVEN, TWO, "PLCVCERT 1\nverdict satisfied 0\nend\n"] {
+    for text in [SEVEN, TWO, CHAINS, "PLCVCERT 1\nverdict satisfied 0\nend\n"] {
         let certificate = read(rt.alloc(), text.as_bytes())?;
         let written = write(rt.alloc(), &certificate)?;
         assert!(rt; written.as_slice() == text.as_bytes(), "{text:?}");
@@ -32,6 +38,31 @@ fn a_certificate_has_its_parts(rt: HostRuntime) -> Result<(), Fail> {
         }
     }
     assert_eq!(rt; certificate.proofs.as_slice().len(), 1);
+    Ok(())
+}
+
+#[test]
+fn a_chain_has_its_words(rt: HostRuntime) -> Result<(), Fail> {
+    let certificate = read(rt.alloc(), CHAINS.as_bytes())?;
+    if let Some((first, _)) = certificate.proofs.as_slice().split_first() {
+        assert!(rt; first.chain.constants && first.chain.cone);
+        assert!(rt; first.chain.havoc.as_slice() == [0, 10, 4294967295].as_slice());
+    }
+    let refused =
+        " |  cone| cone |cone| cone constants| havoc| havoc cone| cone havoc 1| havoc 1 constants\
+        | havoc 2 2| havoc 2 1| havoc 01| havoc  1| havoc 1 | havoc +1| havoc -1| havoc 4294967296\
+        | havoc 4294967295 4294967296| constants constants| cone cone| havoc 1 havoc 2| Cone";
+    for words in refused.split('|') {
+        let text = format!(in rt.alloc();
+            "PLCVCERT 1\nverdict satisfied 0\nquery step 0\nchain{words}\nlog 0\nend\n"
+        )?;
+        let answer = read(rt.alloc(), text.as_bytes()).err();
+        assert_eq!(rt;
+            answer,
+            Some(CertFault::NotACertificate { line: 4 }),
+            "{words:?}"
+        );
+    }
     Ok(())
 }
 
@@ -90,10 +121,6 @@ fn refusals_name_the_line(rt: HostRuntime) {
         (
             "PLCVCERT 1\nverdict satisfied 0\nquery base 4294967295\nchain\nlog 9\nend\n",
             6,
-        ),
-        (
-            "PLCVCERT 1\nverdict satisfied 0\nquery step 0\nchain cone\n",
-            4,
         ),
         ("PLCVCERT 1\r\n", 1),
         ("PLCVCERT 1", 1),

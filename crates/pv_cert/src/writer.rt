@@ -1,12 +1,13 @@
-ghost use Rattle.std.specs.Prelude.{◌≡◌, ◌∷◌, ◌++◌, [], codes, map, length, None, IfOk, OnOk};
+ghost use Rattle.std.specs.Prelude.{◌≡◌, ◌∷◌, ◌++◌, [], codes, map, length, None, IfOk, OnOk, if◌then◌else◌};
 ghost use Rattle.std.specs.List.{flat_map, AllByRecursion};
 ghost use Rattle.std.specs.Fmt.{decimal};
-ghost use Rattle.pv_log.specs.LineText.{line_text};
+ghost use Rattle.pv_log.specs.LineText.{line_text, HasText, IsWritable as IsWritableLine};
 ghost use Rattle.pv_cert.specs.declared.certificate.Claim.TheVariants.{Satisfied};
-ghost use Rattle.pv_cert.specs.CertificateText.{text_of_lines, query_line, log_line, proof_lines, certificate_text, IsWritableLine, IsWritableProof};
+ghost use Rattle.pv_cert.specs.CertificateText.{text_of_lines, query_line, log_line, proof_lines, certificate_text, QueryFits, HasProofText, IsTextOf, IsWritableProof};
+ghost use Rattle.pv_cert.specs.ChainText.{cells_text, havoc_text, chain_line};
 
 use crate::certificate::Certificate;
-use crate::proof::{Proof, Query};
+use crate::proof::{Chain, Proof, Query};
 use itoa::Buffer;
 use pv_log::{Line, write_line};
 use std::alloc::{AllocError, Global};
@@ -23,7 +24,8 @@ fn push_numbered(text: &mut Vec<u8>, front: &[u8], n: u32) -> Result<(), AllocEr
 }
 
 fn push_query(text: &mut Vec<u8>, query: Query) -> Result<(), AllocError>
-    ensures { OnOk result (text.new.items ≡ text.old.items ++ (query_line query ++ codes "\n")) }
+    ensures text { OnOk result (text.new.items ≡ text.old.items ++ (query_line query ++ codes "\n")) }
+    ensures fits { QueryFits query }
 {
     match query {
         Query::Base(k) => push_numbered(text, b"query base ", k),
@@ -31,9 +33,53 @@ fn push_query(text: &mut Vec<u8>, query: Query) -> Result<(), AllocError>
     }
 }
 
+fn push_cells(text: &mut Vec<u8>, cells: &[u32]) -> Result<(), AllocError>
+    ensures { OnOk result (text.new.items ≡ text.old.items ++ cells_text cells.now) }
+{
+    for cell in cells {
+        let mut buffer = Buffer::new();
+        text.push(b' ')?;
+        text.extend_from_slice(buffer.format(*cell).as_bytes())?;
+    }
+    Ok(())
+}
+
+fn push_havoc(text: &mut Vec<u8>, cells: &[u32]) -> Result<(), AllocError>
+    ensures { OnOk result (text.new.items ≡ text.old.items ++ havoc_text cells.now) }
+{
+    if cells.is_empty() {
+        return Ok(());
+    }
+    text.extend_from_slice(b" havoc")?;
+    push_cells(text, cells)
+}
+
+/// Adds a word, if it is to be there.
+fn push_word(text: &mut Vec<u8>, word: &[u8], is_there: bool) -> Result<(), AllocError>
+    ensures { OnOk result (text.new.items ≡ text.old.items ++ (if is_there then word.now else [])) }
+{
+    if is_there {
+        text.extend_from_slice(word)?;
+    }
+    Ok(())
+}
+
+fn push_chain(text: &mut Vec<u8>, chain: &Chain) -> Result<(), AllocError>
+    ensures { OnOk result (text.new.items ≡ text.old.items ++ (chain_line chain.now ++ codes "\n")) }
+{
+    text.extend_from_slice(b"chain")?;
+    push_word(text, b" constants", chain.constants)?;
+    push_havoc(text, chain.havoc.as_slice())?;
+    push_word(text, b" cone", chain.cone)?;
+    text.push(b'\n')?;
+    Ok(())
+}
+
 fn push_lines(alloc: Global, text: &mut Vec<u8>, lines: &[Line]) -> Result<(), AllocError>
     requires { AllByRecursion IsWritableLine lines.now }
-    ensures { OnOk result (text.new.items ≡ text.old.items ++ text_of_lines (map line_text lines.now)) }
+    ensures text { OnOk result (text.new.items
+        ≡ text.old.items ++ text_of_lines (map line_text lines.now)) }
+    ensures valid { OnOk result (AllByRecursion HasText lines.now) }
 {
     for line in lines {
         text.extend_from_slice(write_line(alloc, line)?.as_slice())?;
@@ -44,18 +90,22 @@ fn push_lines(alloc: Global, text: &mut Vec<u8>, lines: &[Line]) -> Result<(), A
 
 fn push_proof(alloc: Global, text: &mut Vec<u8>, proof: &Proof) -> Result<(), AllocError>
     requires { IsWritableProof proof.now }
-    ensures { OnOk result (text.new.items ≡ text.old.items ++ text_of_lines (proof_lines proof.now)) }
+    ensures text { OnOk result (text.new.items
+        ≡ text.old.items ++ text_of_lines (proof_lines proof.now)) }
+    ensures valid { OnOk result (HasProofText proof.now) }
 {
     let lines = proof.log.as_slice();
     push_query(text, proof.query)?;
-    text.extend_from_slice(b"chain\n")?;
+    push_chain(text, &proof.chain)?;
     push_numbered(text, b"log ", lines.len() as u32)?;
     push_lines(alloc, text, lines)
 }
 
 fn push_proofs(alloc: Global, text: &mut Vec<u8>, proofs: &[Proof]) -> Result<(), AllocError>
     requires { AllByRecursion IsWritableProof proofs.now }
-    ensures { OnOk result (text.new.items ≡ text.old.items ++ text_of_lines (flat_map proof_lines proofs.now)) }
+    ensures text { OnOk result (text.new.items
+        ≡ text.old.items ++ text_of_lines (flat_map proof_lines proofs.now)) }
+    ensures valid { OnOk result (AllByRecursion HasProofText proofs.now) }
 {
     for proof in proofs {
         push_proof(alloc, text, proof)?;
@@ -63,14 +113,16 @@ fn push_proofs(alloc: Global, text: &mut Vec<u8>, proofs: &[Proof]) -> Result<()
     Ok(())
 }
 
-/// The one text of a certificate: the claim is `Satisfied(0)`, with no trace and no next lemma, the chains have no reduction, and each line of a
-/// log has literals of at least 2 and hints of at least 1.
+/// The one text of a certificate: the claim is `Satisfied(0)`, with no trace and no next lemma, the cells of each
+/// chain rise, and each line of a log has literals of at least 2 and hints of at least 1.
 pub fn write(alloc: Global, certificate: &Certificate) -> Result<Vec<u8>, AllocError>
     requires claim { certificate.now.claim ≡ Satisfied 0 }
     requires trace { certificate.now.trace ≡ None }
     requires next { certificate.now.next ≡ None }
     requires proofs { AllByRecursion IsWritableProof certificate.now.proofs }
-    ensures { IfOk result (λ text. text.items ≡ certificate_text certificate.now) }
+    ensures text { IfOk result (λ text. text.items ≡ certificate_text certificate.now) }
+    // `read` gives the certificate back.
+    ensures is_text { IfOk result (λ text. IsTextOf text.items certificate.now) }
 {
     let mut text = Vec::new(alloc);
     text.extend_from_slice(b"PLCVCERT 1\nverdict satisfied 0\n")?;

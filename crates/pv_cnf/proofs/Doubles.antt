@@ -1,4 +1,7 @@
 -- Laws of the test whether a variable stands twice.
+-- A table of marks: say "each mark is the answer of this test" while marks are set (`MarksAre`), and "where a mark is set the test
+-- passes" while they are taken away (`MarksWithin`); the second closes with no file. A `&mut self.marks` that is passed as a slice
+-- comes back as `take len (new ++ drop ..)`: `take_at` takes it to `new`.
 use Rattle.std.proofs.Common.{◌≡◌, ℕ, ◌+◌, ◌<◌, Bool, true, false, ◌||◌, ◌==◌, List, [], ◌∷◌, length, take, get_or, refl, ap, ◌∙◌, arith, zero, suc, ⊎_elim, slice_set, sym}
 use Rattle.std.specs.List.{list_any}
 use Rattle.std.proofs.lemmas.List.Folds.{list_any_more}

@@ -1,4 +1,6 @@
 -- The literals of a clause, and the clauses of a list, by their places.
+-- A view's clause at `n + 1` reads the list at `n + 1 - 1`: one `let back : n + 1 - 1 ≡ n = omega arith` and `ap` of the list's
+-- `slice_get`.
 use Rattle.std.proofs.Common.{◌≡◌, ℕ, ◌+◌, ◌<◌, ◌≤◌, Bool, true, false, ◌||◌, ◌==◌, nat_lt, List, [], ◌∷◌, ◌++◌, slice_index_or, slice_get, Some, refl, ap, ◌∙◌, arith, zero, suc, All, subst, unwrap_or, take}
 use Rattle.std.specs.List.{list_all}
 use Rattle.std.proofs.lemmas.List.Folds.{list_any_at, list_all-append}

@@ -1,4 +1,9 @@
 -- The parts of a list by the places of their ends.
+-- Lists of lists in two vectors: a plain function cuts the one list at the places of the other (`parts_from`), with the places as
+-- a recursion (`LeadTo`). Push, length and element then are one induction each, here, and the code's answers only cite them.
+-- Behind an `impl Model` write `rw (← c.self.view_is)` first, and get the length of the view by `ap (λ (f : Cnf). length
+-- f.clauses) c.self.view_is`. A slice range whose bounds come from a lemma: bind the lemma's fact by `let` and answer each
+-- `slice_bounds-..` goal with `search rules`.
 use Rattle.std.proofs.Common.{◌≡◌, ℕ, ◌<◌, ◌≤◌, List, [], ◌∷◌, ◌++◌, length, slice_index, slice_get, Some, refl, ap, ◌∙◌, arith, zero, suc}
 use Rattle.std.specs.List.{between}
 use Rattle.std.proofs.lemmas.Grind.{common_steps}

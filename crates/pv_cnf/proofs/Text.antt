@@ -1,4 +1,6 @@
 -- The DIMACS text determines the clauses: each number ends where the digits end.
+-- Text of numbers: std has `decimal_injective`, `first_decimal` and, for induction on digits, `decimal_by_steps`. A law that a
+-- text determines its value goes by "the digits end at the first byte below 48" (`cut`).
 use Rattle.std.proofs.Common.{◌≡◌, ℕ, ◌+◌, ◌%◌, ◌^◌, ◌<◌, ◌≤◌, Bool, true, false, List, [], ◌∷◌, ◌++◌, length, get_or, drop, append_assoc, refl, ap, ◌∙◌, sym, arith, cond}
 use Rattle.std.specs.List.{flat_map, AllByRecursion}
 use Rattle.std.specs.Fmt.{decimal}

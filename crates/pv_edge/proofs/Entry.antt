@@ -1,4 +1,11 @@
 -- Laws of lists of entries.
+-- A test that a clause names (`IsTrue (is_failing ..)`) is a small function with `result ≡ is_failing ..`. With `contains` written
+-- out in the caller the search stopped at its limits at every exit. An `if .. else ..` whose result is matched afterwards loses
+-- its facts at the join: put the choice into a function (`copy_at_call`). A method of an `impl` may have exact clauses of its own
+-- in place of its trait's: the check derives the trait's clauses from them. What needs the range of a field (`never_falls`,
+-- `counted`) has to be a clause of its own, and the field has to be read before the branch (`let faults = self.faults;`). A
+-- newtype over a `Vec` with a model (its list of bytes) takes its comparisons and `Hash` from `Rattle.std.specs.Cmp.Lexicographic`
+-- (`nat_list_eq_equiv`, `texts_po`, `nat_list_cmp_total`, `texts_ties`) and `bytes_eq-Decides`, one line a law.
 use Rattle.std.proofs.Common.{◌≡◌, ◌≢◌, ℕ, ◌<◌, List, [], ◌∷◌, ◌++◌, length, get_or, set, Some, None, Vec, refl, sym, ◌∙◌, ap, arith}
 use Rattle.std.proofs.lemmas.Slice.Eq.{bytes_eq-Decides}
 use Rattle.std.proofs.lemmas.Grind.{common_steps}

@@ -1,4 +1,7 @@
 -- Laws of what is known of a reader and a writer.
+-- `Rattle.std.proofs.KnownBytes` has the laws of `Appends` and `Consumes` (`Appends-trans`, `Consumes-trans`, `Consumes-all`), for
+-- loops over std's `Read` and `Write`. `record Prim.Unit has no field ..` at `c.f.ensures.x` means that `f` has no contract at
+-- all.
 use Rattle.std.proofs.Common.{◌≡◌, ℕ, List, [], ◌∷◌, ◌++◌, length, take, drop, Option, Some, None, IfSome, Bool, true, false, refl, sym, ◌∙◌, ap, subst, arith, append_assoc, append-nil, length-append}
 use Rattle.std.proofs.Math.Seq.{take-append_seam}
 use Rattle.std.proofs.lemmas.List.{take-append-drop}

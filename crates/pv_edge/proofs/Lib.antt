@@ -1,3 +1,4 @@
 pub mod Entry
 pub mod Taking
 pub mod Known
+pub mod ForCallers

@@ -1,9 +1,11 @@
 -- Laws of what a sink takes.
-use Rattle.std.proofs.Common.{◌≡◌, ℕ, List, [], ◌++◌, length, take, Option, Some, None, refl, sym, ◌∙◌, ap, arith, append_assoc, append-nil, length-append, drop, subst}
+-- `&rest[n..]` is seen as `take (length rest - n) (drop n rest)`, the second half of `rest.split_at(n)` as `drop n rest`. Loops
+-- that offer what is left use the latter, with the invariant `(front) × (bytes ≡ front ++ rest) × Takes front old now`.
+use Rattle.std.proofs.Common.{◌≡◌, ℕ, ◌<◌, List, [], ◌++◌, length, take, Option, Some, None, refl, sym, ◌∙◌, ap, arith, append_assoc, append-nil, length-append, drop, subst}
 use Rattle.std.proofs.lemmas.List.{take-append-drop}
 use Rattle.std.proofs.Math.Seq.{take-append_seam}
 use Rattle.std.specs.Prelude.{option_map}
-use Rattle.pv_edge.specs.Sink.{Takes, TakesPart}
+use Rattle.pv_edge.specs.Sink.{Takes, TakesPart, TakesLess}
 
 -- nothing is taken where nothing changes
 pub takes-none : (old : Option (List ℕ)) → Takes [] old old
@@ -15,21 +17,29 @@ pub takes-more : (front piece : List ℕ) (old mid new : Option (List ℕ)) → 
 takes-more front piece None mid new h k = k ∙ ap (option_map (λ taken. taken ++ piece)) h
 takes-more front piece (Some taken) mid new h k = k ∙ ap (option_map (λ taken. taken ++ piece)) h ∙ ap Some (append_assoc taken front piece)
 
--- the pieces so far are a prefix of all
-pub takes-part : (front rest : List ℕ) (old new : Option (List ℕ)) → Takes front old new → TakesPart (front ++ rest) old new
-takes-part front rest old new h = (length front, omega (arith, length-append front rest), rw take-append_seam h)
+-- the pieces so far lack what is left
+pub takes-less : (front rest : List ℕ) (old new : Option (List ℕ)) → 0 < length rest → Takes front old new → TakesLess (front ++ rest) old new
+takes-less front rest old new more h = (length front, omega (arith, more, length-append front rest), rw take-append_seam h)
 
 -- the pieces so far and a prefix of what is left
 pub takes-step : (bytes front rest : List ℕ) (n : ℕ) (old mid new : Option (List ℕ)) → bytes ≡ front ++ rest → Takes front old mid → Takes (take n rest) mid new → (left : List ℕ) → left ≡ drop n rest → (longer : List ℕ) × (bytes ≡ longer ++ left) × Takes longer old new
 takes-step bytes front rest n old mid new e h k left is =
     rw is (front ++ take n rest, e ∙ ap (λ xs. front ++ xs) (sym (take-append-drop n rest)) ∙ sym (append_assoc front (take n rest) (drop n rest)), takes-more front (take n rest) old mid new h k)
 
--- the pieces so far are a prefix of what was offered, and nothing more was taken
-pub takes-end : (bytes rest : List ℕ) (old mid new : Option (List ℕ)) → ((front : List ℕ) × (bytes ≡ front ++ rest) × Takes front old mid) → new ≡ mid → TakesPart bytes old new
-takes-end bytes rest old mid new so_far e =
-    subst (λ xs. TakesPart xs old new) (sym so_far.1) (takes-part so_far.0 rest old new (e ∙ so_far.2))
+-- the pieces so far are a prefix of what was offered, nothing more was taken and something is left
+pub takes-end : (bytes rest : List ℕ) (old mid new : Option (List ℕ)) → 0 < length rest → ((front : List ℕ) × (bytes ≡ front ++ rest) × Takes front old mid) → new ≡ mid → TakesLess bytes old new
+takes-end bytes rest old mid new more so_far e =
+    subst (λ xs. TakesLess xs old new) (sym so_far.1) (takes-less so_far.0 rest old new more (e ∙ so_far.2))
+
+-- where something is left, something was offered
+pub offered : {P : Type 0} (bytes front rest : List ℕ) → 0 < length rest → bytes ≡ front ++ rest → bytes ≡ [] → P
+offered bytes front rest more e none = absurd (omega (arith, more, ap length e, ap length none, length-append front rest))
 
 -- a piece of no bytes changes nothing
 pub takes-zero : (n : ℕ) (rest : List ℕ) (old new : Option (List ℕ)) → n ≡ 0 → Takes (take n rest) old new → new ≡ old
 takes-zero n rest None new e h = h
 takes-zero n rest (Some taken) new e h = h ∙ ap (λ k. Some (taken ++ take k rest)) e ∙ ap Some (append-nil taken)
+
+-- what lacks the last byte is a prefix
+pub less-part : (bytes : List ℕ) (old new : Option (List ℕ)) → TakesLess bytes old new → TakesPart bytes old new
+less-part bytes old new h = (h.0, omega (arith, h.1), h.2)

@@ -1,9 +1,11 @@
 //! The files and the standard output of the host. They tell no bytes.
-ghost use Rattle.std.specs.Prelude.{◌≡◌, ◌↔◌, None, IfOk, IfSome};
+ghost use Rattle.std.specs.Prelude.{◌≡◌, ◌≤◌, ◌↔◌, length, None, Ok, Err, IfOk, IfErr, IfSome, IsErrOf, IsOkAnd, OnOk, MatchResult};
 ghost use Rattle.std.specs.IoError.{error_kind};
 ghost use Rattle.std.specs.Bool.{OnTrue, OnFalse};
 ghost use Rattle.std.specs.Io.KnownBytes.{Appends};
-ghost use Rattle.pv_edge.specs.Sink.{AppendsPart};
+ghost use Rattle.pv_edge.specs.Calls.{next_count};
+ghost use Rattle.pv_edge.specs.Faults.{last_count};
+ghost use Rattle.pv_edge.specs.Sink.{AppendsPart, faults_after};
 
 use crate::counts::next;
 use crate::outside::{FileFault, Files, Sink, SinkFault};
@@ -92,6 +94,51 @@ fn write_whole<W: Write>(file: &mut W, bytes: &[u8]) -> bool
     rest.is_empty()
 }
 
+/// All bytes of a file that the system opened, or what its error is.
+fn read_opened<F: Read + Drop>(alloc: Global, opened: io::Result<F>) -> Result<Vec<u8>, FileFault>
+    ensures whole { IfOk result (λ bytes. IsOkAnd opened (λ file.
+        IfSome (F.remaining file) (λ left. bytes.items ≡ left))) }
+    ensures kind { IfErr opened (λ error.
+        IsErrOf result FileFault.NoMemory ↔ (error_kind error ≡ ErrorKind.OutOfMemory)) }
+{
+    match opened {
+        Ok(mut file) => read_all(alloc, &mut file),
+        Err(error) => Err(read_fault(&error)),
+    }
+}
+
+/// Whether the system opened a file and it took all of the bytes.
+fn write_opened<F: Write>(opened: &mut io::Result<F>, bytes: &[u8]) -> bool
+    ensures { OnTrue result (IsOkAnd opened.old (λ old. IsOkAnd opened.new (λ new.
+        Appends (F.contents old) (F.contents new) bytes.now))) }
+{
+    match opened {
+        Ok(file) => write_whole(file, bytes),
+        Err(_) => false,
+    }
+}
+
+/// What a sink answers where the system says this of a write.
+fn taken(written: io::Result<usize>) -> Result<usize, SinkFault>
+    ensures { MatchResult written (λ n. result ≡ Ok n) (λ _. result ≡ Err SinkFault.Failed) }
+{
+    match written {
+        Ok(n) => Ok(n),
+        Err(_) => Err(SinkFault::Failed),
+    }
+}
+
+/// The count of faults behind this answer to an offer of so many bytes.
+fn counted(faults: u64, offered: usize, answer: &Result<usize, SinkFault>) -> u64
+    ensures { result ≡ faults_after offered answer.now faults }
+{
+    match answer {
+        Ok(n) if *n == 0 && offered > 0 => next(faults),
+        Ok(_) | Err(SinkFault::NoMemory) => faults,
+        Err(SinkFault::Failed) => next(faults),
+    }
+}
+
 impl<R: std::rt::Files> Files for HostFiles<R> {
     ghost told = { λ _. None };
 
@@ -99,25 +146,33 @@ impl<R: std::rt::Files> Files for HostFiles<R> {
 
     ghost write_faults = { λ host. host.write_faults };
 
-    fn read(&mut self, alloc: Global, name: &str) -> Result<Vec<u8>, FileFault> {
+    fn read(&mut self, alloc: Global, name: &str) -> Result<Vec<u8>, FileFault>
+        ensures after_ok { OnOk result (self.new ≡ self.old) }
+        ensures after_failed { IsErrOf result FileFault.Failed
+            → self.new ≡ record self.old { read_faults = next_count self.old.read_faults } }
+        ensures after_no_memory { IsErrOf result FileFault.NoMemory → self.new ≡ self.old }
+        ensures never_falls { self.old.read_faults ≤ self.new.read_faults }
+        ensures counted { self.new.read_faults ≤ last_count }
+    {
         let faults = self.read_faults;
-        let read = match fs::open(&self.rt, name) {
-            Ok(mut file) => read_all(alloc, &mut file),
-            Err(error) => Err(read_fault(&error)),
-        };
+        let read = read_opened(alloc, fs::open(&self.rt, name));
         if let Err(FileFault::Failed) = read {
             self.read_faults = next(faults);
         }
         read
     }
 
-    fn write(&mut self, _alloc: Global, name: &str, bytes: &[u8]) -> Result<(), FileFault> {
+    fn write(&mut self, _alloc: Global, name: &str, bytes: &[u8]) -> Result<(), FileFault>
+        ensures after_ok { OnOk result (self.new ≡ self.old) }
+        ensures after_failed { IsErrOf result FileFault.Failed
+            → self.new ≡ record self.old { write_faults = next_count self.old.write_faults } }
+        ensures no_memory { ¬ IsErrOf result FileFault.NoMemory }
+        ensures never_falls { self.old.write_faults ≤ self.new.write_faults }
+        ensures counted { self.new.write_faults ≤ last_count }
+    {
         let faults = self.write_faults;
-        let is_written = match fs::create(&self.rt, name) {
-            Ok(mut file) => write_whole(&mut file, bytes),
-            Err(_) => false,
-        };
-        if is_written {
+        let mut opened = fs::create(&self.rt, name);
+        if write_opened(&mut opened, bytes) {
             return Ok(());
         }
         self.write_faults = next(faults);
@@ -130,19 +185,17 @@ impl<R: Print> Sink for HostOut<R> {
 
     ghost faults = { λ host. host.faults };
 
-    fn write(&mut self, bytes: &[u8]) -> Result<usize, SinkFault> {
+    fn write(&mut self, bytes: &[u8]) -> Result<usize, SinkFault>
+        ensures within { IfOk result (λ n. n ≤ length bytes.now) }
+        ensures after { self.new
+            ≡ record self.old { faults = faults_after (length bytes.now) result self.old.faults } }
+        ensures no_memory { ¬ IsErrOf result SinkFault.NoMemory }
+        ensures never_falls { self.old.faults ≤ self.new.faults }
+        ensures counted { self.new.faults ≤ last_count }
+    {
         let faults = self.faults;
-        match self.rt.write_some(bytes) {
-            Err(_) => {
-                self.faults = next(faults);
-                Err(SinkFault::Failed)
-            }
-            Ok(n) => {
-                if n == 0 && !bytes.is_empty() {
-                    self.faults = next(faults);
-                }
-                Ok(n)
-            }
-        }
+        let answer = taken(self.rt.write_some(bytes));
+        self.faults = counted(faults, bytes.len(), &answer);
+        answer
     }
 }

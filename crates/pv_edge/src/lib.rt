@@ -20,4 +20,6 @@ pub use outside::{FileFault, Files, Sink, SinkFault};
 pub use words::Text;
 
 #[cfg(test)]
+mod slow;
+#[cfg(test)]
 mod tests;

@@ -1,16 +1,18 @@
 //! How a whole text is handed to a sink.
-ghost use Rattle.std.specs.Prelude.{◌≡◌, ◌≤◌, IsErrOf, OnOk, OnErr};
+ghost use Rattle.std.specs.Prelude.{◌≡◌, ◌≤◌, [], IsErrOf, OnOk, OnErr};
 ghost use Rattle.pv_edge.specs.Faults.{HasRisen};
-ghost use Rattle.pv_edge.specs.Sink.{Takes, TakesPart};
+ghost use Rattle.pv_edge.specs.Sink.{Takes, TakesLess};
 
 use crate::outside::{Sink, SinkFault};
 
-/// Offers the bytes to a sink until all are taken. Each call offers all that are left.
+/// Offers the bytes to a sink until all are taken. Each call offers all that are left, and behind the
+/// last byte there is none.
 ///
-/// `Failed` comes where a call of the sink failed or took nothing.
+/// `Failed` comes where a call of the sink failed or took nothing, with at least the last byte not taken.
 pub fn write_all<S: Sink>(out: &mut S, bytes: &[u8]) -> Result<(), SinkFault>
     ensures ok { OnOk result (Takes bytes.now (S.taken out.old) (S.taken out.new)) }
-    ensures err { OnErr result (TakesPart bytes.now (S.taken out.old) (S.taken out.new)) }
+    ensures err { OnErr result (TakesLess bytes.now (S.taken out.old) (S.taken out.new)) }
+    ensures idle { bytes.now ≡ [] → out.new ≡ out.old }
     ensures failed { IsErrOf result SinkFault.Failed → HasRisen (S.faults out.old) (S.faults out.new) }
     ensures never_falls { S.faults out.old ≤ S.faults out.new }
     ensures no_memory { IsErrOf result SinkFault.NoMemory → S.faults out.new ≡ S.faults out.old }

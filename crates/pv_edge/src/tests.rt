@@ -1,7 +1,9 @@
+use crate::slow::Slow;
 use crate::{
     FileFault, Files, HostFiles, HostOut, MemFiles, MemSink, Sink, SinkFault, Text, text, write_all,
 };
 use std::alloc::{AllocError, Global};
+use std::cell::{Cell, RefCell};
 use std::collections::HashMap;
 use std::fs;
 use std::test::Fail;
@@ -104,5 +106,51 @@ fn the_host_keeps_files(rt: HostRuntime) -> Result<(), Fail> {
     let mut out = HostOut { rt: &rt, faults: 0 };
     assert_eq!(rt; out.write(b"")?, 0);
     assert_eq!(rt; out.faults, 0);
+    Ok(())
+}
+
+/// A runtime through whose files and output so many bytes go.
+fn slow<R>(alloc: Global, rt: R, good: usize) -> Slow<R> {
+    Slow {
+        rt,
+        good,
+        calls: Cell::new(0),
+        out: RefCell::new(Vec::new(alloc)),
+    }
+}
+
+#[test]
+fn a_host_of_one_byte_a_call(rt: HostRuntime) -> Result<(), Fail> {
+    let alloc = rt.alloc();
+    let name = "pv_edge-slow-file";
+    let mut files = HostFiles {
+        rt: slow(alloc, &rt, 7),
+        read_faults: 0,
+        write_faults: 0,
+    };
+    // Reading six bytes takes a seventh call, which finds the end.
+    files.write(alloc, name, b"sixsix")?;
+    assert_eq!(rt; files.read(alloc, name)?.as_slice(), b"sixsix".as_slice());
+    files.write(alloc, name, b"seven77")?;
+    assert!(rt; matches!(files.read(alloc, name), Err(FileFault::Failed)));
+    assert!(rt;
+        matches!(
+            files.write(alloc, name, b"eightttt"),
+            Err(FileFault::Failed)
+        )
+    );
+    assert_eq!(rt; fs::read(&rt, name)?.as_slice(), b"eighttt".as_slice());
+    fs::remove_file(&rt, name)?;
+    assert_eq!(rt; (files.read_faults, files.write_faults), (1, 1));
+    let mut out = HostOut {
+        rt: slow(alloc, &rt, 4),
+        faults: 0,
+    };
+    assert_eq!(rt; out.write(b"abc")?, 1);
+    write_all(&mut out, b"bcd")?;
+    assert_eq!(rt; (out.rt.calls.get(), out.faults), (4, 0));
+    assert!(rt; matches!(write_all(&mut out, b"ef"), Err(SinkFault::Failed)));
+    assert_eq!(rt; (out.rt.calls.get(), out.faults), (5, 1));
+    assert_eq!(rt; out.rt.out.into_inner().as_slice(), b"abcd".as_slice());
     Ok(())
 }

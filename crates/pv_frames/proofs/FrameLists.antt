@@ -1,4 +1,5 @@
 -- The clauses of a frame, node by node: they are clauses, and few.
+-- A node of `gates.node(k + 1)` is at `k + 1 - 1`: one `back` equation and `ap` of `slice_get`.
 use Rattle.std.proofs.Common.{◌≡◌, ℕ, ℤ, pos, negsuc, ◌+◌, ◌*◌, ◌/◌, ◌<◌, ◌≤◌, zero, suc, Bool, true, false, cond, List, [], ◌∷◌, ◌++◌, length, take, drop, Some, Option, unwrap_or, slice_get, refl, sym, ◌∙◌, ap, subst, length-take-le, arith, lit≤, lit<, length-append, append_assoc, append-nil}
 use Rattle.std.specs.List.{flat_map, AllByRecursion}
 use Rattle.std.proofs.lemmas.Bool.{or_from, ne_eqb, le-ltb}
@@ -9,7 +10,7 @@ use Rattle.pv_gate.specs.declared.netlist.Node.{Node}
 use Rattle.pv_gate.specs.declared.netlist.Node.TheVariants.{True, Input, And, Xor, Mux}
 use Rattle.pv_gate.specs.Node.{Names, is_gate, gate_count}
 use Rattle.pv_gate.specs.Netlist.{IsNetlist, MayFollow}
-use Rattle.pv_gate.proofs.Building.{Names-more}
+use Rattle.pv_gate.proofs.ForCallers.{Names-more}
 use Rattle.pv_cnf.specs.Literal.{complement, is_outside}
 use Rattle.pv_cnf.specs.Clause.{has_outside, AreClauses}
 use Rattle.pv_frames.specs.Frames.{Frame, own_variables, literal_in, and_clauses, xor_clauses, mux_clauses, node_clauses, frame_clauses}

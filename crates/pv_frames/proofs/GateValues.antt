@@ -1,4 +1,5 @@
--- A gate's clauses hold exactly where it is what its operands make.
+-- A gate's clauses hold exactly where it is what its operands make: they mean `beq g (..)`, a table of truth values by `refl`, after an
+-- `ap` by `value-complement` for each operand.
 use Rattle.std.proofs.Common.{◌≡◌, ℕ, Bool, true, false, not, cond, ◌||◌, ◌&&◌, refl, sym, ◌∙◌, ap}
 use Rattle.std.specs.Bool.{beq}
 use Rattle.std.specs.List.{list_all}

@@ -6,3 +6,4 @@ pub mod GateValues
 pub mod NodeValues
 pub mod StepValues
 pub mod FrameLists
+pub mod ForCallers

@@ -1,4 +1,6 @@
 -- Values of a formula's variables, and the values of a circuit's nodes.
+-- Values to inputs: `input_value` (the value of the n-th input's variable) with `input-at`; then pv_gate's `node_values_only`.
+-- `count_by` is a fold from the left: its step at the front goes by `sum_by-append f (x ∷ []) xs`.
 use Rattle.std.proofs.Common.{◌≡◌, ℕ, ℤ, pos, negsuc, ◌+◌, ◌*◌, ◌<◌, ◌≤◌, zero, suc, Bool, true, false, not, cond, ◌&&◌, List, [], ◌∷◌, length, take, get_or, Some, Option, unwrap_or, slice_get, refl, sym, ◌∙◌, ap, subst, arith}
 use Rattle.std.specs.Bool.{beq}
 use Rattle.std.specs.List.{list_all}
@@ -11,7 +13,7 @@ use Rattle.pv_gate.specs.Node.{Names, is_gate, is_input, input_count}
 use Rattle.pv_gate.specs.Netlist.{MayFollow}
 use Rattle.pv_gate.specs.Value as gate
 use Rattle.pv_gate.specs.Value.{node_value, exclusive_or}
-use Rattle.pv_gate.proofs.Building.{Names-more}
+use Rattle.pv_gate.proofs.ForCallers.{Names-more}
 use Rattle.pv_cnf.specs.Literal.{literal_value}
 use Rattle.pv_cnf.specs.Clause.{clause_value}
 use Rattle.pv_frames.specs.Frames.{own_variables, literal_in, node_clauses, frame_clauses}

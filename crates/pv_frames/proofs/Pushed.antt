@@ -1,4 +1,9 @@
 -- Clauses pushed one after the other.
+-- What a call gives that pushes a list is one relation by cases on its result (`Pushes`: `ArePushed` or `StopsAt`). Three lemmas
+-- serve every `?` and loop: `pushed_more` (front and part), `stops_within` (a stop in a part is one of front ++ part ++ behind),
+-- `pushes_behind` (the last call's result is returned); they take `g all ≡ f all` for the store's `overflow` before and now, so no
+-- function extensionality is needed. Clauses are made as small values (`Short`, four in an array) by functions without a bound,
+-- which proved with no file; only `push_short`, one loop over a slice and one over the nodes are generic.
 use Rattle.std.proofs.Common.{◌≡◌, ◌↔◌, ℕ, length, arith, refl, ◌++◌, List, [], ◌∷◌, sym, ◌∙◌, ap, subst, append_assoc, append-nil, true, false, Some, None, Result, Ok, Err, OnOk, OnErr, IfErr}
 use Rattle.std.proofs.lemmas.Bool.{true≢false}
 use Rattle.pv_cnf.specs.declared.clauses.PushFault.{PushFault}

@@ -11,8 +11,7 @@ use Rattle.pv_gate.specs.Node.{Names, is_gate}
 use Rattle.pv_gate.specs.Netlist.{IsNetlist, MayFollow}
 use Rattle.pv_gate.specs.Value as gate
 use Rattle.pv_gate.specs.Value.{node_value, node_values, value_of}
-use Rattle.pv_gate.proofs.Values.{node_values_at}
-use Rattle.pv_gate.proofs.CallerLemmas.{length-node_values, node_values_only}
+use Rattle.pv_gate.proofs.ForCallers.{length-node_values, node_values_at, node_values_only}
 use Rattle.pv_cnf.specs.Literal.{literal_value}
 use Rattle.pv_cnf.specs.Clause.{clause_value, Holds}
 use Rattle.pv_frames.specs.Frames.{own_variables, literal_in, node_clauses, frame_clauses}

@@ -1,4 +1,5 @@
 -- Clauses as they are written: they are clauses, and mean the same.
+-- The simplification of clauses is one law on lists (`written-means`, `written-valid`), so no gate is looked at twice.
 use Rattle.std.proofs.Common.{◌≡◌, ℕ, ◌<◌, Bool, true, false, not, cond, eqb, ◌||◌, ◌&&◌, List, [], ◌∷◌, length, refl, sym, ◌∙◌, ap, arith}
 use Rattle.std.specs.List.{list_any, list_all, filter, flat_map}
 use Rattle.std.proofs.lemmas.Bool.{or_parts, or_from, or_left, or_right, true≢false, eqb-true}

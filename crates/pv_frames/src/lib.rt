@@ -1,6 +1,11 @@
 //! The formula of a query: a circuit's gates as clauses.
 //!
 //! Variable `n` stands for node `n` of the circuit, so variable 1 is true.
+//!
+//! Clauses are made as small values (`Short`, four in an array) by functions without a bound; only
+//! what pushes them is generic over the store. That a gate's clauses mean what the gate does is a
+//! table of truth values, and that a clause is written without doubled literals is one law on lists,
+//! so no gate is looked at twice.
 #![tactic(auto)]
 
 mod gate;
@@ -8,4 +13,4 @@ pub mod laws;
 mod push;
 mod short;
 
-pub use push::{push_step, variables};
+pub use push::{MAX_CLAUSES_BEFORE, MAX_QUERY_GATES, push_step, variables};

@@ -1,4 +1,8 @@
 //! The clauses of a query's formula, pushed into a store.
+//!
+//! What a call gives that pushes a list is one relation by cases on its result: the list stands behind
+//! what was there, or the clauses before the first that is refused do. The store may refuse by a test
+//! of its own on all its clauses, which no call changes.
 
 ghost use Rattle.std.specs.Prelude.{◌≡◌, ◌≢◌, ◌+◌, ◌-◌, ◌*◌, ◌^◌, ◌<◌, ◌≤◌, ℕ, List, [], ◌∷◌, ◌++◌, length, IsTrue, OnOk, IfErr};
 ghost use Rattle.std.specs.List.{flat_map};
@@ -13,6 +17,12 @@ use crate::gate::{clauses, literal};
 use crate::short::Short;
 use pv_cnf::{Clauses, PushFault};
 use pv_gate::{Gates, TRUE};
+
+/// So many gates the circuit of a query may have.
+pub const MAX_QUERY_GATES: u32 = 10_000_000;
+
+/// So many clauses a store may have before those of a formula, which then are counted by a `u32`.
+pub const MAX_CLAUSES_BEFORE: u32 = 1_000_000_000;
 
 /// A clause, if it isn't left out.
 fn push_short<C: Clauses>(clause: Short, into: &mut C) -> Result<(), PushFault>
@@ -79,15 +89,15 @@ pub fn variables(gates: &Gates) -> u32
 /// Pushes the clauses of the step query at k = 0: from any state one scan, in which the literal `fail`
 /// of the circuit is true.
 ///
-/// The circuit has at most 10,000,000 gates, and the store at most 1,000,000,000 clauses. `Full` comes
-/// where a clause doesn't fit into the store, with the need of the first such clause; after it, and
-/// after want of memory, the clauses before the one that was refused stand there.
+/// The circuit has at most `MAX_QUERY_GATES` gates, and the store at most `MAX_CLAUSES_BEFORE` clauses.
+/// `Full` comes where a clause doesn't fit into the store, with the need of the first such clause;
+/// after it, and after want of memory, the clauses before the one that was refused stand there.
 pub fn push_step<C: Clauses>(gates: &Gates, fail: i32, into: &mut C) -> Result<(), PushFault>
     requires fail { Names (length gates.now.nodes) fail }
-    requires few_gates { gate_count gates.now.nodes ≤ 10000000 }
+    requires few_gates { gate_count gates.now.nodes ≤ MAX_QUERY_GATES }
     requires takes { IsTrue (C.takes_clauses into.old) }
     requires variables { length gates.now.nodes ≤ C.variables into.old }
-    requires room { length (C.clauses into.old) ≤ 1000000000 }
+    requires room { length (C.clauses into.old) ≤ MAX_CLAUSES_BEFORE }
     ensures ok { OnOk result (ArePushed (C.overflow into.old) (C.clauses into.old)
         (step_clauses gates.now.nodes fail) (C.clauses into.new)) }
 

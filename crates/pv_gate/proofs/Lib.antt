@@ -7,3 +7,6 @@ pub mod Order
 pub mod Building
 pub mod OperationValues
 pub mod CallerLemmas
+pub mod Again
+pub mod ForCallers
+pub mod Calls

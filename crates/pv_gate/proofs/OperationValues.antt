@@ -81,6 +81,10 @@ xor-flips false false true false = refl
 xor-flips false false false true = refl
 xor-flips false false false false = refl
 
+pub or_is : (x y : Bool) → not (not x && not y) ≡ (x || y)
+or_is true y = refl
+or_is false y = not-not y
+
 or_choice : (s y : Bool) → not (not s && not y) ≡ cond s true y
 or_choice true y = refl
 or_choice false y = not-not y

@@ -66,7 +66,7 @@ and_gate nodes a b =
     else if int_eq b true_literal || int_eq a b then present nodes a
     else share nodes (And (lower a b) (higher a b))
 
--- no public call: `mux` is made of it, and so are the circuits of the crates above, by `and` and complements
+-- one of the two is true where not both complements are
 unfoldable pub or_gate : List Node → ℤ → ℤ → Made
 or_gate nodes a b = complemented (and_gate nodes (neg_ℤ a) (neg_ℤ b))
 

@@ -1,5 +1,5 @@
 -- Lists of nodes in which a node names only nodes before it.
-use Rattle.std.specs.Prelude.{◌≡◌, ℕ, ℤ, List, [], ◌++◌, length, take, Some, slice_get, Bool, ◌&&◌, if◌then◌else◌}
+use Rattle.std.specs.Prelude.{◌≡◌, ℕ, ℤ, List, [], ◌++◌, length, take, Some, slice_get, Bool, not, ◌&&◌, ◌||◌, if◌then◌else◌}
 use Rattle.pv_gate.specs.declared.netlist.Node.{Node}
 use Rattle.pv_gate.specs.declared.netlist.Node.TheVariants.{True, Input, And, Xor, Mux}
 use Rattle.pv_gate.specs.Node.{Names, input_count}
@@ -38,9 +38,17 @@ KeepsValues old new = (inputs : ℕ → Bool) (literal : ℤ) → Names (length 
 abbrev pub IsInput : List Node → List Node → ℤ → Type 0
 IsInput old new literal = (inputs : ℕ → Bool) → value_of inputs new literal ≡ inputs (input_count old)
 
+-- not a
+abbrev pub IsNot : List Node → ℤ → ℤ → Type 0
+IsNot nodes a literal = (inputs : ℕ → Bool) → value_of inputs nodes literal ≡ not (value_of inputs nodes a)
+
 -- a and b
 abbrev pub IsAnd : List Node → ℤ → ℤ → List Node → ℤ → Type 0
 IsAnd old a b new literal = (inputs : ℕ → Bool) → value_of inputs new literal ≡ (value_of inputs old a && value_of inputs old b)
+
+-- a or b
+abbrev pub IsOr : List Node → ℤ → ℤ → List Node → ℤ → Type 0
+IsOr old a b new literal = (inputs : ℕ → Bool) → value_of inputs new literal ≡ (value_of inputs old a || value_of inputs old b)
 
 -- a or b, and not both
 abbrev pub IsXor : List Node → ℤ → ℤ → List Node → ℤ → Type 0

@@ -1,5 +1,9 @@
 //! Why a gate was not made.
 
+ghost use Rattle.std.specs.Prelude.{◌≡◌};
+ghost use Rattle.pv_gate.specs.declared.fault.GateFault.TheVariants.{NoMemory};
+
+use std::alloc::AllocError;
 use thiserror::Error;
 
 /// Why a call of `Gates` made no node. The gates are as they were before it.
@@ -11,4 +15,12 @@ pub enum GateFault {
     /// Memory ran out.
     #[error("out of memory")]
     NoMemory,
+}
+
+impl From<AllocError> for GateFault {
+    ghost from_gives = { λ _ fault. fault ≡ NoMemory };
+
+    fn from(_: AllocError) -> GateFault {
+        GateFault::NoMemory
+    }
 }

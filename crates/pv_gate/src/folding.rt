@@ -36,7 +36,7 @@ impl Gates {
         self.share(and_node(a, b))
     }
 
-    fn or_gate(&mut self, a: Literal, b: Literal) -> Result<Literal, GateFault>
+    pub(crate) fn or_gate(&mut self, a: Literal, b: Literal) -> Result<Literal, GateFault>
         requires first { Names (length self.old.nodes) a.code }
         requires second { Names (length self.old.nodes) b.code }
         requires within { gate_count self.old.nodes ≤ self.old.limit }

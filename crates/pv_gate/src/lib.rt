@@ -7,6 +7,7 @@
 mod fault;
 mod folding;
 mod literal;
+mod literals;
 mod netlist;
 mod operations;
 mod sharing;
@@ -14,5 +15,6 @@ mod sharing;
 mod tests;
 
 pub use fault::GateFault;
+pub use literals::Literals;
 pub use netlist::{FALSE, MAX_GATES, MAX_INPUTS, Node, TRUE};
 pub use sharing::{Gates, make};

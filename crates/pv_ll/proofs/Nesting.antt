@@ -1,4 +1,7 @@
 -- How deep a derivation nests, along a walk.
+--
+-- `first_deeper` counts the depth of the derivation, where tails nest to the right. A reader whose tree nests chains to the left counts
+-- on the steps of a `Walk` instead: the number of links of a chain is known only behind it.
 use Rattle.std.proofs.Common.{◌≡◌, ℕ, ◌+◌, ◌<◌, ◌≤◌, Bool, List, [], ◌∷◌, ◌++◌, ◌-◌, true, false, cond, length, get_or, drop, Some, None, Option, refl, ap, ◌∙◌, sym, subst, arith, inl, inr, ltb-true, ltb-false, ◌⊎◌}
 use Rattle.std.specs.Prelude.{nat_lt}
 use Rattle.std.proofs.lemmas.Bool.{cases_lt}

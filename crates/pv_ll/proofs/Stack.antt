@@ -1,4 +1,11 @@
 -- The steps of the machine keep what its stack stands for.
+--
+-- The loop's invariant says what the stack stands for, for every front that was read (`Stands`, `StandsFor`), and each helper's clause
+-- maps `Stands` of the old stack to one of the new: an answer is then one call of a lemma.
+-- In the arms of a `match` on a call's result the clause is `c.in_ok-x.ensures` at the value; carry it to the variant by a lemma that is
+-- one `subst`. Arms merged by `|` make a `⊎`: write one arm a variant. A loop over `iter().rev()` that pushes `f(x)` left its goal open;
+-- `for i in 0..count` with `body[count - 1 - i]` and the invariant on `drop (count - i)` needed no answer.
+-- A definition's constructor name can't be a pattern variable where it is imported (`token`): call the variable `kind`.
 use Rattle.std.proofs.Common.{◌≡◌, ℕ, ◌<◌, ◌^◌, List, [], ◌∷◌, ◌++◌, length, Option, get_or, refl, ap, ◌∙◌, sym, append_assoc, subst}
 use Rattle.std.specs.Option.{option_map_or}
 use Rattle.std.specs.Int.{bit_at}

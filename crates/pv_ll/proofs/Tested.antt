@@ -1,4 +1,11 @@
 -- A table that passes the test is that of an LL(1) grammar.
+--
+-- A language is a table in flat arrays, without references inside, and its sets are `u128` masks: so the test `is_ll1` is computed by
+-- the check with no proof file (185 productions: 17 s of processor time in all).
+-- A crate with a grammar writes `fn NAME() -> Language` with `ll1 { IsTrue (is_ll1 result) }` and `grammar { grammar_of result ≡
+-- NAME_grammar }`, both proved with no file, and calls `recognize(alloc, &NAME(), kinds)`: its own clause then cites `NAME_grammar`
+-- alone. src/sample.rt is the pattern; tools/ll_table.py writes the table, names conflicts, left recursion and dead names, and isn't
+-- trusted.
 use Rattle.std.proofs.Common.{◌≡◌, ℕ, zero, suc, ◌+◌, ◌-◌, ◌<◌, ◌≤◌, ◌^◌, Bool, true, false, cond, List, [], ◌∷◌, length, get_or, take, Some, refl, ap, ◌∙◌, sym, subst, arith, inl, inr, ltb-true, leb-true, eqb-true, eq-eqb}
 use Rattle.std.specs.Prelude.{slice_get, bit_or, bit_and, not, ◌&&◌, ◌||◌, ◌==◌, nat_lt, nat_le}
 use Rattle.std.specs.List.{list_all}

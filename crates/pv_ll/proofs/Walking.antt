@@ -1,4 +1,8 @@
 -- Walks through derivations.
+--
+-- Write a struct that an answer passes on in full, `record c.args.self.now { places = .. }`: `_` isn't found under a field of a stuck
+-- call. A call on a `&mut self` that may want memory and must then be as before: `reserve` first, then only `push_reserved`, and an
+-- `err` clause by one `subst` a field.
 use Rattle.std.proofs.Common.{◌≡◌, ℕ, zero, suc, ◌+◌, ◌≤◌, List, [], ◌∷◌, ◌++◌, length, map, drop, Some, None, Option, Result, Ok, Err, Bor, refl, ap, ◌∙◌, sym, subst, append_assoc, arith}
 use Rattle.std.specs.Prelude.{reverse, slice_get, IfOk, OnErr}
 use Rattle.std.specs.declared.alloc.AllocError.{AllocError}

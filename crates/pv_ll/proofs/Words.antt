@@ -1,4 +1,7 @@
 -- Derivations, taken apart and put together.
+--
+-- A derivation is a `data` family over symbols and tokens whose split is an equation (`w ≡ u ++ v`), never an index: then every match
+-- works, and recursion on it needs no fuel. To cut a derivation of `a ++ b`, take the symbols as a variable with an equation.
 use Rattle.std.proofs.Common.{◌≡◌, ℕ, List, [], ◌∷◌, ◌++◌, refl, ap, ◌∙◌, sym, append_assoc}
 use Rattle.pv_ll.specs.declared.table.Symbol.{Symbol}
 use Rattle.pv_ll.specs.declared.table.Symbol.TheVariants.{Token, Name}

@@ -1,4 +1,7 @@
 -- What marks and list keep.
+-- A table and a trail behind an `impl Model` whose value is a plain list (`Partial`): everything above it is about lists, and most
+-- of it proves with no file. The invariant says of every index what the table reads (`slice_index_or marks lit false`, so no bound
+-- is needed); set and unset are one lemma each, here. Facts of the value come inside by `subst (λ p. ..) (sym c.self.view_is)`.
 use Rattle.std.proofs.Common.{◌≡◌, ℕ, ◌<◌, Bool, true, false, ◌||◌, List, [], ◌∷◌, ◌++◌, length, set, refl, sym, ap, ◌∙◌, arith, inl, inr}
 use Rattle.std.proofs.lemmas.Bool.{eq-eqb, ne_eqb, cases_eq, or_right}
 use Rattle.std.proofs.lemmas.List.{length-set, length-append, get_or-set_same, get_or-set_other}

@@ -1,4 +1,8 @@
 -- Hints that are followed one by one, and lines that are tried one by one.
+-- A recursion that looks one element ahead (hints: the last differs) is followed by an index loop with the invariant "the function
+-- of what is left is the function of all"; `drop_more` and one lemma for each of the two cases. `elim` inside a definition: state
+-- a lemma for each with the scrutinee as a variable (`hints-two`), give `as (λ _. T)`, and pass the recursive call as a function.
+-- A parameter `Option<&[T]>` in an `ensures` has two moments; take the slice, and match in the caller.
 use Rattle.std.proofs.Common.{◌≡◌, ℕ, zero, suc, ◌+◌, ◌-◌, ◌/◌, ◌<◌, ◌≤◌, ◌||◌, Bool, true, false, not, cond, eqb, List, [], ◌∷◌, ◌++◌, length, get_or, take, drop, map, refl, sym, ap, subst, ◌∙◌, arith, Option, Some, None, Result, Ok, Err, append_assoc}
 use Rattle.std.specs.Prelude.{slice_get}
 use Rattle.std.specs.Option.{option_map}

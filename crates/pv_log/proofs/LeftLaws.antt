@@ -1,4 +1,6 @@
 -- The literals of a clause that aren't false, counted to two.
+-- `match` on an enum in place of `!=` on it: the arms give `.is` and `.not-V`, where a derived `ne` gives nothing that a tactic
+-- reads.
 use Rattle.std.proofs.Common.{◌≡◌, ℕ, ◌+◌, ◌/◌, ◌<◌, ◌||◌, eqb, ltb, inl, inr, subst, Bool, true, false, not, cond, List, [], ◌∷◌, ◌++◌, length, get_or, take, drop, refl, sym, ap, ◌∙◌, arith, Option, Some, None}
 use Rattle.std.proofs.lemmas.List.{take-append-drop, drop_more, append-nil}
 use Rattle.std.proofs.lemmas.List.Elements.{filter-append, filter_more}

@@ -9,3 +9,4 @@ pub mod VerdictLaws
 pub mod ReadingLaws
 pub mod Spelling
 pub mod Spelled
+pub mod ForCallers

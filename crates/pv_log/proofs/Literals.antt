@@ -1,4 +1,7 @@
 -- Lists of literals of different variables.
+-- Room in a vector that is never grown: `length-le_from_distinct_below` (numbers below n with no two equal are at most n), with 0
+-- put in front where the numbers begin at 1; then `push` answers by its clause `succeeds`. `yes` and `no` are constructors in
+-- proof files: no names of variables. `cc` doesn't take pairs apart: `ap (λ x. x.0)`.
 use Rattle.std.proofs.Common.{◌≡◌, ℕ, suc, ◌+◌, ◌/◌, ◌<◌, ◌≤◌, ◌⊎◌, Bool, true, false, ◌||◌, eqb, List, [], ◌∷◌, ◌++◌, length, map, refl, sym, ◌∙◌, arith, inl, inr}
 use Rattle.std.specs.List.{list_any, AllByRecursion, IsDistinct}
 use Rattle.std.proofs.lemmas.Bool.{eqb-true, eqb-false, eq-eqb, ne_eqb, cases_eq, cases_Bool, both_ways, or_parts, or_from, or_left, or_right, or_cases, ltb-false}

@@ -1,5 +1,5 @@
 -- Each text of a line is read whole, and what was read goes on to some line.
-use Rattle.std.proofs.Common.{◌≡◌, ℕ, ◌+◌, ◌-◌, ◌*◌, ◌/◌, ◌%◌, ◌^◌, ◌<◌, ◌≤◌, ◌&&◌, Bool, true, false, cond, eqb, leb, List, [], ◌∷◌, ◌++◌, length, take, drop, Option, Some, None, Result, Ok, Err, refl, sym, ap, subst, ◌∙◌, arith, inl, inr, append_assoc}
+use Rattle.std.proofs.Common.{◌≡◌, ℕ, suc, get_or, ◌+◌, ◌-◌, ◌*◌, ◌/◌, ◌%◌, ◌^◌, ◌<◌, ◌≤◌, ◌&&◌, Bool, true, false, cond, eqb, leb, List, [], ◌∷◌, ◌++◌, length, take, drop, Option, Some, None, Result, Ok, Err, refl, sym, ap, subst, ◌∙◌, arith, inl, inr, append_assoc}
 use Rattle.std.specs.Prelude.{codes, IfOk}
 use Rattle.std.specs.Option.{option_map}
 use Rattle.std.specs.List.{AllByRecursion}
@@ -14,7 +14,7 @@ use Rattle.pv_log.specs.declared.stage.Stage.{Stage}
 use Rattle.pv_log.specs.declared.stage.Stage.TheVariants.{Start, Id, Literals, Minus, Literal, Break, Hints, Hint, End}
 use Rattle.pv_log.specs.declared.fault.LratFault.{LratFault}
 use Rattle.pv_log.specs.declared.fault.LratFault.TheVariants.{NotLrat, NoMemory}
-use Rattle.pv_log.specs.LineText.{literals_text, hints_text, line_text, IsLiteral, IsHint, HasText, Spells, Begins, IsStuckAt, IsUnlessNoMemory}
+use Rattle.pv_log.specs.LineText.{literals_text, hints_text, line_text, IsLiteral, IsHint, HasText, IsWritable, Spells, Begins, IsStuckAt, IsUnlessNoMemory}
 use Rattle.pv_log.specs.Reading.{is_digit_from, with_digit, first_digit, code_of, after_byte, after_bytes, at_start, is_end, StopsAt, Reads}
 use Rattle.pv_log.proofs.ReadingLaws.{onward, after_bytes-append, after-one, then-read}
 use Rattle.pv_log.proofs.Spelling.{so_far, IsGood, some-is, start-good, digit-is, byte-other, bytes-lead}
@@ -274,3 +274,42 @@ reads-refused bytes (Err NoMemory) h at s = inr refl
 pub reads-ok : (bytes : List ℕ) (r : Result Line LratFault) → Reads bytes r → IfOk r (Spells bytes)
 reads-ok bytes (Ok l) h = read-spells bytes l h
 reads-ok bytes (Err f) h = tt
+
+-- ---- what has a text can be written
+
+literals-writable : (lits : List ℕ) → AllByRecursion IsLiteral lits → AllByRecursion (λ lit. 2 ≤ lit) lits
+literals-writable [] h = tt
+literals-writable (lit ∷ lits) h = (h.0.0, literals-writable lits h.1)
+
+hints-writable : (hints : List ℕ) → AllByRecursion IsHint hints → AllByRecursion (λ hint. 1 ≤ hint) hints
+hints-writable [] h = tt
+hints-writable (hint ∷ hints) h = (h.0.0, hints-writable hints h.1)
+
+pub text-writable : (line : Line) → HasText line → IsWritable line
+text-writable line h = record { lits = literals-writable line.lits h.lits; hints = hints-writable line.hints h.hints }
+
+pub reads-writable : (bytes : List ℕ) (r : Result Line LratFault) → Reads bytes r → IfOk r IsWritable
+reads-writable bytes (Ok l) h = text-writable l (read-spells bytes l h).valid
+reads-writable bytes (Err f) h = tt
+
+-- ---- what is written is the line's text
+
+pub all-small : (xs : List ℕ) → ((i : ℕ) → get_or xs i 0 < 2 ^ 32) → AllByRecursion (λ x. x < 2 ^ 32) xs
+all-small [] small = tt
+all-small (x ∷ xs) small = (small 0, all-small xs (λ i. small (suc i)))
+
+all-both : (least : ℕ) (xs : List ℕ) → AllByRecursion (λ x. least ≤ x) xs → AllByRecursion (λ x. x < 2 ^ 32) xs → AllByRecursion (λ x. (least ≤ x) × (x < 2 ^ 32)) xs
+all-both least [] low small = tt
+all-both least (x ∷ xs) low small = ((low.0, small.0), all-both least xs low.1 small.1)
+
+pub written-spells : (bytes : List ℕ) (line : Line) (lits hints : List ℕ) → line.id < 2 ^ 32 → lits ≡ line.lits → hints ≡ line.hints
+    → AllByRecursion (λ lit. 2 ≤ lit) line.lits → AllByRecursion (λ hint. 1 ≤ hint) line.hints
+    → AllByRecursion (λ lit. lit < 2 ^ 32) lits → AllByRecursion (λ hint. hint < 2 ^ 32) hints → bytes ≡ line_text line → Spells bytes line
+written-spells bytes line lits hints id e f low_lits low_hints small_lits small_hints text = record {
+  valid = record {
+    id = id;
+    lits = all-both 2 line.lits low_lits (subst (λ xs. AllByRecursion (λ lit. lit < 2 ^ 32) xs) e small_lits);
+    hints = all-both 1 line.hints low_hints (subst (λ xs. AllByRecursion (λ hint. hint < 2 ^ 32) xs) f small_hints);
+  };
+  text = text;
+}

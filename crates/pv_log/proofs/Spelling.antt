@@ -1,4 +1,8 @@
 -- What of a line's text was read at each stage, and how it goes on.
+-- A reader by stages: a step on lists (`after_byte`), the text so far as a function of line and stage (`so_far`), and three laws:
+-- a step adds its byte to that text, each stage goes on to some line, the text of a line is read whole. Then the first byte with
+-- which nothing begins is exactly where the step fails. Texts are appended from the left (`a ++ b ++ c`), so that the laws go by
+-- `append_assoc` alone. `cases_eq byte 32` first: at the literal byte everything computes.
 use Rattle.std.proofs.Common.{◌≡◌, ℕ, ◌+◌, ◌-◌, ◌*◌, ◌/◌, ◌%◌, ◌^◌, ◌<◌, ◌≤◌, ◌&&◌, Bool, true, false, cond, eqb, leb, List, [], ◌∷◌, ◌++◌, Option, Some, None, refl, sym, ap, subst, ◌∙◌, arith, inl, inr, append_assoc}
 use Rattle.std.specs.Prelude.{codes}
 use Rattle.std.specs.Option.{option_map}

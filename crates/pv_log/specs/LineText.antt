@@ -34,6 +34,11 @@ pub record HasText (line : Line) : Type 0 where
   pub lits : AllByRecursion IsLiteral line.lits
   pub hints : AllByRecursion IsHint line.hints
 
+-- what can be written
+pub record IsWritable (line : Line) : Type 0 where
+  pub lits : AllByRecursion (λ lit. 2 ≤ lit) line.lits
+  pub hints : AllByRecursion (λ hint. 1 ≤ hint) line.hints
+
 -- the bytes are the text of this line
 pub record Spells (bytes : List ℕ) (line : Line) : Type 0 where
   pub valid : HasText line

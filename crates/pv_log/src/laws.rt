@@ -1,13 +1,20 @@
 ghost use Rattle.std.specs.Prelude.{◌≡◌, ◌↔◌, ℕ, Bool, List, None, IsTrue};
 ghost use Rattle.pv_cnf.specs.Clause.{Holds, clause_value};
+ghost use Rattle.pv_log.specs.declared.fault.LineFault.{LineFault};
 ghost use Rattle.pv_log.specs.declared.line.Line.{Line};
 ghost use Rattle.pv_log.specs.LineText.{Spells};
-ghost use Rattle.pv_log.specs.Follows.{Follows, fault_of};
+ghost use Rattle.pv_log.specs.Follows.{Follows, EachFollows, FailsFirst, fault_of, IsAccepted};
 
 /// A law: the clause of a line that follows is true wherever the clauses before it are.
 pub fn line_is_true()
     ensures { (variables : ℕ) (clauses : List (List ℕ)) (line : Line) (values : ℕ → Bool)
         → Follows variables clauses line → Holds values clauses → IsTrue (clause_value values line.lits) }
+{}
+
+/// A law: no values make the clauses hold for which some log is accepted.
+pub fn accepted_log_refutes()
+    ensures { (variables : ℕ) (clauses : List (List ℕ)) (lines : List Line) (values : ℕ → Bool)
+        → IsAccepted (Follows variables) clauses lines → Holds values clauses → ⊥ }
 {}
 
 /// A law: a line follows exactly where nothing is wrong with it.
@@ -19,4 +26,15 @@ pub fn line_without_fault_follows()
 /// A law: a text is that of at most one line.
 pub fn text_determines_line()
     ensures { (bytes : List ℕ) (line other : Line) → Spells bytes line → Spells bytes other → line ≡ other }
+{}
+
+/// A law: at most one thing is wrong first with a log, and nothing where each line follows.
+pub fn first_fault_is_one()
+    ensures one { (variables : ℕ) (clauses : List (List ℕ)) (lines : List Line)
+        (m n : ℕ) (kind other : LineFault)
+        → FailsFirst (fault_of variables) clauses lines m kind
+        → FailsFirst (fault_of variables) clauses lines n other → (m ≡ n) × (kind ≡ other) }
+    ensures none { (variables : ℕ) (clauses : List (List ℕ)) (lines : List Line)
+        (n : ℕ) (kind : LineFault) → EachFollows (Follows variables) clauses lines
+        → FailsFirst (fault_of variables) clauses lines n kind → ⊥ }
 {}

@@ -16,7 +16,10 @@ mod write;
 
 pub use checker::Checker;
 pub use fault::{LineFault, LratFault, Verdict};
-pub use laws::{line_is_true, line_without_fault_follows, text_determines_line};
+pub use laws::{
+    accepted_log_refutes, first_fault_is_one, line_is_true, line_without_fault_follows,
+    text_determines_line,
+};
 pub use line::Line;
 pub use numbers::Numbers;
 pub use read::read_line;

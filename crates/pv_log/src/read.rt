@@ -1,7 +1,7 @@
 ghost use Rattle.std.specs.Prelude.{◌≡◌, ◌⊎◌, ℕ, ◌<◌, List, [], ◌∷◌, true, false, Some, None, Ok, Err, IfOk, OnOk, IfSome};
 ghost use Rattle.std.specs.Option.{option_map};
 ghost use Rattle.pv_log.specs.declared.line.Line.{Line};
-ghost use Rattle.pv_log.specs.LineText.{Spells, IsStuckAt, IsUnlessNoMemory};
+ghost use Rattle.pv_log.specs.LineText.{Spells, IsWritable, IsStuckAt, IsUnlessNoMemory};
 ghost use Rattle.pv_log.specs.Reading.{StageFits, Reads, after_byte, code_of, with_number};
 
 use crate::fault::LratFault;
@@ -74,6 +74,8 @@ pub fn read_line(alloc: Global, text: &[u8]) -> Result<Line, LratFault>
     // What is read is spelled so, and what is spelled so is read.
     ensures found { IfOk result (Spells text.now) }
     ensures complete { (line : Line) → Spells text.now line → IsUnlessNoMemory result (Ok line) }
+    // `write_line` takes what is read.
+    ensures writable { IfOk result IsWritable }
     // A refusal names the first byte with which no line begins so, and there is one at each such text.
     ensures stuck { (at : ℕ) → result ≡ Err (LratFault.NotLrat at) → IsStuckAt text.now at }
     ensures refused { (at : ℕ) → IsStuckAt text.now at → IsUnlessNoMemory result (Err (LratFault.NotLrat at)) }

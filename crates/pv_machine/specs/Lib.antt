@@ -1,2 +1,4 @@
+pub mod Roles
+pub mod Ranges
 pub mod Machines
 pub mod Queries

@@ -1,35 +1,38 @@
--- Machines: transition systems whose states and inputs are lists of numbers, each number within the range of its type. A scan
--- of a program is a step of such a machine.
+-- Machines: transition systems whose states and inputs are lists of numbers, each number within its range. A scan of a program
+-- is a step of such a machine.
 use Rattle.std.specs.Prelude.{◌≡◌, Bool, List, ℤ}
-use Rattle.pv_word.specs.declared.types.Ty.{Ty}
-use Rattle.pv_word.specs.Types.{AreValues}
+use Rattle.pv_machine.specs.declared.place.Place.{Place}
+use Rattle.pv_machine.specs.declared.trap.TrapKind.{TrapKind}
+use Rattle.pv_machine.specs.Ranges.{Range, AreWithin}
 
--- the values of a state, or of an input, or of the parameters, in the order of their types
+-- the values of a state, or of an input, or of the parameters, in the order of their ranges
 abbrev pub Values : Type 0
 Values = List ℤ
 
--- how a step ends: it is done and leaves a state; traps and the loop bound are further cases
+-- how a step ends: it is done and leaves a state, it traps, or it goes over a loop's bound
 pub data Step : Type 0 where
   done : Values → Step
+  trap : TrapKind → Place → Step
+  over : Place → Step
 
--- the types of states, inputs and parameters, the state in which a run with these parameters starts, the step from a state by
--- an input, and whether it fails
+-- the ranges of states, inputs and parameters, the state in which a run with these parameters starts, the step from a state
+-- by an input, and whether it fails
 pub record Machine : Type 0 where
-  pub state : List Ty
-  pub input : List Ty
-  pub params : List Ty
+  pub state : List Range
+  pub input : List Range
+  pub params : List Range
   pub start : Values → Values
   pub step : Values → Values → Step
   pub fails : Values → Values → Bool
 
 abbrev pub IsState : Machine → Values → Type 0
-IsState m s = AreValues m.state s
+IsState m s = AreWithin m.state s
 
 abbrev pub IsInput : Machine → Values → Type 0
-IsInput m i = AreValues m.input i
+IsInput m i = AreWithin m.input i
 
 abbrev pub AreParams : Machine → Values → Type 0
-AreParams m p = AreValues m.params p
+AreParams m p = AreWithin m.params p
 
 -- starts are states, and so is what a step from a state by an input leaves
 pub record IsLawful (m : Machine) : Type 0 where

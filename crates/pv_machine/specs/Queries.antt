@@ -33,6 +33,28 @@ pub record MeetsStep (m : Machine) (k : ℕ) : Type 0 where
   pub count : length inputs ≡ k + 1
   pub fails : FailsAtLast m state inputs
 
+-- from s by these inputs each scan is done, and the last leaves t
+abbrev pub Reaches : Machine → Values → List Values → Values → Type 0
+Reaches m s [] t = s ≡ t
+Reaches m s (i ∷ inputs) t = (u : Values) × (m.step s i ≡ done u) × Reaches m u inputs t
+
+-- some run reaches the state by scans that are done
+pub record IsReachable (m : Machine) (state : Values) : Type 0 where
+  pub params : Values
+  pub inputs : List Values
+  pub are_params : AreParams m params
+  pub are_inputs : AllByRecursion (IsInput m) inputs
+  pub reaches : Reaches m (m.start params) inputs state
+
+-- from some state that a run reaches, k scans are done and don't fail, and one that fails follows
+pub record MeetsReachableStep (m : Machine) (k : ℕ) : Type 0 where
+  pub state : Values
+  pub inputs : List Values
+  pub is_reachable : IsReachable m state
+  pub are_inputs : AllByRecursion (IsInput m) inputs
+  pub count : length inputs ≡ k + 1
+  pub fails : FailsAtLast m state inputs
+
 -- in the run from s by these inputs, which ends with its first scan that isn't done, no scan fails
 abbrev pub NoneFails : Machine → Values → List Values → Type 0
 NoneFails m s [] = Unit {0}

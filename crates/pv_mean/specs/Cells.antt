@@ -1,47 +1,36 @@
--- The cell table of a block: a cell for each variable, in the order of the declarations (S7-SCL manual, declarations of a block).
-use Rattle.std.specs.Prelude.{List, map, Bool, true, false, ℕ, ℤ, pos, Option, Some, None, bytes_eq}
-use Rattle.std.specs.Str.{str_to_ascii_lowercase}
-use Rattle.pv_word.specs.declared.types.Ty.{Ty}
-use Rattle.pv_tree.specs.declared.tree.DeclType.{DeclType}
-use Rattle.pv_tree.specs.declared.tree.DeclType.TheVariants.{Plain}
-use Rattle.pv_tree.specs.declared.tree.Section.{Section}
-use Rattle.pv_tree.specs.declared.tree.Section.TheVariants.{Input as InputSection, Output as OutputSection, Static as StaticSection}
-use Rattle.pv_tree.specs.declared.tree.Literal.{Literal}
-use Rattle.pv_tree.specs.declared.tree.Var.{Var}
-use Rattle.pv_tree.specs.declared.tree.Block.{Block}
-use Rattle.pv_mean.specs.declared.cell.Role.{Role}
-use Rattle.pv_mean.specs.declared.cell.Role.TheVariants.{Input, Kept}
+-- The cell table of a block: a cell for each leaf of its declarations, in their order (S7-SCL manual, declarations of a block).
+use Rattle.std.specs.Prelude.{ℕ, List, [], ◌∷◌, map, length, None}
+use Rattle.pv_machine.specs.declared.role.Role.{Role}
+use Rattle.pv_machine.specs.declared.role.Role.TheVariants.{Input, Kept, Brief}
+use Rattle.pv_types.specs.declared.declaration.Section.{Section}
+use Rattle.pv_types.specs.declared.declaration.Section.TheVariants.{Input as InputSection, Output as OutputSection, InOut as InOutSection, Static as StaticSection, Temp as TempSection, Const as ConstSection}
+use Rattle.pv_types.specs.declared.leaf.Leaf.{Leaf}
+use Rattle.pv_types.specs.Tree.{VarTree}
+use Rattle.pv_types.specs.Leaves.{leaves_of}
+use Rattle.pv_tree.specs.Tree.{BlockTree}
 use Rattle.pv_mean.specs.declared.cell.Cell.{Cell}
 
--- an input takes a value at each scan's beginning, every other variable keeps its own
+-- the role of a cell is that of the outermost declaration around it: what is handed in takes a value at each scan's beginning,
+-- and what is declared for an activation lives no longer than it. A constant has no leaf
 abbrev pub role_of : Section → Role
 role_of InputSection = Input
 role_of OutputSection = Kept
+role_of InOutSection = Input
 role_of StaticSection = Kept
+role_of TempSection = Brief
+role_of ConstSection = Brief
 
-abbrev pub type_of : DeclType → Ty
-type_of (Plain ty) = ty
+-- a leaf's cell. No case binds it yet
+abbrev pub cell_of : Leaf → Cell
+cell_of leaf = record { path = leaf.path; ty = leaf.ty; start = leaf.start; role = role_of leaf.section; bound = None }
 
--- the declared start value, else zero
-abbrev pub start_of : Option Literal → ℤ
-start_of None = pos 0
-start_of (Some literal) = literal.value
+-- the cells of variables that name no types of their own
+abbrev pub cells_of_vars : List VarTree → List Cell
+cells_of_vars vars = map cell_of (leaves_of [] vars)
 
-abbrev pub cell_of : Var → Cell
-cell_of v = record { path = v.name.spelled; ty = type_of v.ty; start = start_of v.start; role = role_of v.section; bound = None }
+abbrev pub cells_of : BlockTree → List Cell
+cells_of block = cells_of_vars block.vars
 
--- the cells of the block, in order
-abbrev pub cells_of : Block → List Cell
-cells_of block = map cell_of block.interface.vars.items
-
--- a path without regard to case
-abbrev pub key_of_path : Cell → List ℕ
-key_of_path c = str_to_ascii_lowercase c.path
-
--- the cell has the path of this key
-abbrev pub has_key : List ℕ → Cell → Bool
-has_key key c = bytes_eq key (key_of_path c)
-
-abbrev pub is_input : Role → Bool
-is_input Input = true
-is_input Kept = false
+-- how many cells a variable has
+abbrev pub cell_count_of : VarTree → ℕ
+cell_count_of v = length (cells_of_vars (v ∷ []))

@@ -1,33 +1,41 @@
--- A run of a block: the scans over a list of inputs, up to the first that isn't done (the scan cycle, as PLCverif models it).
+-- A run of a source: the scans over a list of inputs, up to the first that isn't done (the scan cycle, as PLCverif models it).
 use Rattle.std.specs.Prelude.{List, [], ◌∷◌, Option, Some, None}
-use Rattle.pv_tree.specs.declared.tree.Block.{Block}
-use Rattle.pv_mean.specs.Cells.{cells_of}
-use Rattle.pv_mean.specs.Frames.{Image, Input, start_image}
-use Rattle.pv_mean.specs.Scans.{Scan, ScanEnd, done, scan, next_image}
+use Rattle.pv_mean.specs.Frames.{Image, Input, Params, start_image}
+use Rattle.pv_mean.specs.Sources.{Source}
+use Rattle.pv_mean.specs.Scans.{Scan, ScanEnd, done, trap, over, scan, next_image}
+
+-- the image before the first scan of a run with these parameters
+abbrev pub start : Source → Params → Image
+start source params = start_image source.cells params
 
 -- the scans that follow one that is done
-abbrev pub after : Block → ScanEnd → (Image → List Scan) → List Scan
-after block (done frame) more = more (next_image block frame)
+abbrev pub after : Source → ScanEnd → (Image → List Scan) → List Scan
+after source (done frame) more = more (next_image source frame)
+after source (trap kind place) more = []
+after source (over place) more = []
 
 -- the scans from an image on
-abbrev pub run_from : Block → Image → List Input → List Scan
-run_from block image [] = []
-run_from block image (input ∷ inputs) = scan block image input ∷ after block (scan block image input).end (λ next. run_from block next inputs)
+abbrev pub run_from : Source → Image → List Input → List Scan
+run_from source image [] = []
+run_from source image (input ∷ inputs) =
+    scan source image input ∷ after source (scan source image input).end (λ next. run_from source next inputs)
 
--- the run of the block over the inputs
-abbrev pub run : Block → List Input → List Scan
-run block inputs = run_from block (start_image (cells_of block)) inputs
+-- the run of the source with these parameters over the inputs
+abbrev pub run : Source → Params → List Input → List Scan
+run source params inputs = run_from source (start source params) inputs
 
 -- goes on with the image that a scan leaves where it is done; none where it isn't
-abbrev pub with_image : Block → ScanEnd → (Image → Option Image) → Option Image
-with_image block (done frame) next = next (next_image block frame)
+abbrev pub with_image : Source → ScanEnd → (Image → Option Image) → Option Image
+with_image source (done frame) next = next (next_image source frame)
+with_image source (trap kind place) next = None
+with_image source (over place) next = None
 
 -- the image that a run from an image leaves, where all its scans are done
-abbrev pub end_image : Block → Image → List Input → Option Image
-end_image block image [] = Some image
-end_image block image (input ∷ inputs) = with_image block (scan block image input).end (λ next. end_image block next inputs)
+abbrev pub end_image : Source → Image → List Input → Option Image
+end_image source image [] = Some image
+end_image source image (input ∷ inputs) = with_image source (scan source image input).end (λ next. end_image source next inputs)
 
 -- the run from the image, where there is one
-abbrev pub run_on : Block → Option Image → List Input → List Scan
-run_on block None inputs = []
-run_on block (Some image) inputs = run_from block image inputs
+abbrev pub run_on : Source → Option Image → List Input → List Scan
+run_on source None inputs = []
+run_on source (Some image) inputs = run_from source image inputs

@@ -1,40 +1,38 @@
 -- The run of a list of statements in a frame.
-use Rattle.std.specs.Prelude.{List, [], ◌∷◌, ℕ, ℤ, ◌≢◌, if◌then◌else◌}
-use Rattle.pv_tree.specs.declared.tree.Stmt.{Stmt}
-use Rattle.pv_tree.specs.declared.tree.Stmt.TheVariants.{Assign}
-use Rattle.pv_tree.specs.declared.tree.Operand.{Operand}
-use Rattle.pv_tree.specs.Scope.{key_of}
-use Rattle.pv_mean.specs.declared.cell.Cell.{Cell}
-use Rattle.pv_mean.specs.Cells.{has_key}
-use Rattle.pv_mean.specs.Frames.{Frame, first, others}
-use Rattle.pv_mean.specs.Values.{Value, number, value}
+use Rattle.std.specs.Prelude.{List, [], ◌∷◌, ℕ, ◌≢◌, slice_set}
+use Rattle.pv_machine.specs.declared.place.Place.{Place}
+use Rattle.pv_machine.specs.declared.trap.TrapKind.{TrapKind}
+use Rattle.pv_tree.specs.Tree.{OperandTree, StmtTree, assign}
+use Rattle.pv_mean.specs.Frames.{Frame}
+use Rattle.pv_mean.specs.Sources.{Source, number_of}
+use Rattle.pv_mean.specs.Values.{Value, number, trap, value}
 
--- how a list of statements ends: after its last one; traps and the loop bound are further cases
+-- how a list of statements ends: after its last one, by a trap, or where an entry into a loop would take one turn too many
 pub data Ending : Type 0 where
   normal : Frame → Ending
+  trapped : TrapKind → Place → Ending
+  over : Place → Ending
 
 -- goes on where the statements before ended normally
 abbrev pub go_on : Ending → (Frame → Ending) → Ending
 go_on (normal frame) next = next frame
-
--- the frame with this value beside the first cell of this key
-abbrev pub with_value_at : List Cell → Frame → List ℕ → ℤ → Frame
-with_value_at [] frame key v = []
-with_value_at (c ∷ cs) frame key v = if has_key key c then v ∷ others frame else first frame ∷ with_value_at cs (others frame) key v
+go_on (trapped kind place) next = trapped kind place
+go_on (over place) next = over place
 
 -- a value goes to its target
-abbrev pub store : List Cell → Frame → Operand → Value → Ending
-store cells frame target (number v) = normal (with_value_at cells frame (key_of target) v)
+abbrev pub store : Source → Frame → OperandTree → Value → Ending
+store source frame target (number v) = normal (slice_set frame (number_of source target) v)
+store source frame target (trap kind place) = trapped kind place
 
-abbrev pub run_one : List Cell → Frame → Stmt → Ending
-run_one cells frame (Assign target place e) = store cells frame target (value cells frame e)
+abbrev pub run_one : Source → Frame → StmtTree → Ending
+run_one source frame (assign target place e) = store source frame target (value source frame e)
 
 -- the statements one after the other
-abbrev pub run_list : List Cell → List Stmt → Frame → Ending
-run_list cells [] frame = normal frame
-run_list cells (s ∷ ss) frame = go_on (run_one cells frame s) (λ f. run_list cells ss f)
+abbrev pub run_list : Source → List StmtTree → Frame → Ending
+run_list source [] frame = normal frame
+run_list source (s ∷ ss) frame = go_on (run_one source frame s) (λ f. run_list source ss f)
 
--- no assignment has this key's cell as its target
-abbrev pub IsUntouched : List ℕ → List Stmt → Type 0
-IsUntouched key [] = Unit {0}
-IsUntouched key ((Assign target place e) ∷ ss) = (key_of target ≢ key) × IsUntouched key ss
+-- no assignment has this cell as its target
+abbrev pub IsUntouched : Source → ℕ → List StmtTree → Type 0
+IsUntouched source n [] = Unit {0}
+IsUntouched source n ((assign target place e) ∷ ss) = (number_of source target ≢ n) × IsUntouched source n ss

@@ -1,43 +1,45 @@
 -- The value of an expression in a frame (S7-SCL manual, expressions). Operands are taken from left to right, and the first trap
 -- decides. The operands of today are all of BOOL.
-use Rattle.std.specs.Prelude.{List, [], ◌∷◌, ℕ, ℤ, pos, if◌then◌else◌}
+use Rattle.std.specs.Prelude.{ℕ, ℤ, pos, slice_index_or}
 use Rattle.pv_word.specs.declared.types.Ty.{Ty}
 use Rattle.pv_word.specs.declared.types.Ty.TheVariants.{Bool}
 use Rattle.pv_word.specs.Types.{and_of, or_of, not_of}
+use Rattle.pv_machine.specs.declared.place.Place.{Place}
+use Rattle.pv_machine.specs.declared.trap.TrapKind.{TrapKind}
 use Rattle.pv_tree.specs.declared.tree.UnaryOp.{UnaryOp}
 use Rattle.pv_tree.specs.declared.tree.UnaryOp.TheVariants.{Not}
 use Rattle.pv_tree.specs.declared.tree.BinaryOp.{BinaryOp}
 use Rattle.pv_tree.specs.declared.tree.BinaryOp.TheVariants.{And, Or}
-use Rattle.pv_tree.specs.declared.tree.Expr.{Expr, Lit, Read, Unary', Binary', Paren'}
-use Rattle.pv_tree.specs.Scope.{key_of}
-use Rattle.pv_mean.specs.declared.cell.Cell.{Cell}
-use Rattle.pv_mean.specs.Cells.{has_key}
-use Rattle.pv_mean.specs.Frames.{Frame, first, others}
+use Rattle.pv_tree.specs.Tree.{ExprTree, lit, read, unary, binary, paren}
+use Rattle.pv_mean.specs.Frames.{Frame}
+use Rattle.pv_mean.specs.Sources.{Source, number_of}
 
--- a number; the traps of later expressions are further cases
+-- a number, or a trap of this kind at this place
 pub data Value : Type 0 where
   number : ℤ → Value
+  trap : TrapKind → Place → Value
 
--- goes on with the number
+-- goes on with the number; a trap stays
 abbrev pub with_number : Value → (ℤ → Value) → Value
 with_number (number v) next = next v
+with_number (trap kind place) next = trap kind place
 
 -- the operators on values of a type, bit by bit (S7-SCL manual, logical operations)
-abbrev pub unary : Ty → UnaryOp → ℤ → ℤ
-unary ty Not a = not_of ty a
+abbrev pub unary_result : Ty → UnaryOp → ℤ → ℤ
+unary_result ty Not a = not_of ty a
 
-abbrev pub binary : Ty → BinaryOp → ℤ → ℤ → ℤ
-binary ty And a b = and_of ty a b
-binary ty Or a b = or_of ty a b
+abbrev pub binary_result : Ty → BinaryOp → ℤ → ℤ → ℤ
+binary_result ty And a b = and_of ty a b
+binary_result ty Or a b = or_of ty a b
 
--- the value that stands beside the first cell of this key
-abbrev pub value_at : List Cell → Frame → List ℕ → ℤ
-value_at [] frame key = pos 0
-value_at (c ∷ cs) frame key = if has_key key c then first frame else value_at cs (others frame) key
+-- the value of the cell of this number
+abbrev pub value_at : Frame → ℕ → ℤ
+value_at frame n = slice_index_or frame n (pos 0)
 
-abbrev pub value : List Cell → Frame → Expr → Value
-value cells frame (Lit ty v place) = number v
-value cells frame (Read operand) = number (value_at cells frame (key_of operand))
-value cells frame (Unary' op place p arg) = with_number (value cells frame arg) (λ a. number (unary Bool op a))
-value cells frame (Binary' op place p left q right) = with_number (value cells frame left) (λ a. with_number (value cells frame right) (λ b. number (binary Bool op a b)))
-value cells frame (Paren' place p inner) = value cells frame inner
+abbrev pub value : Source → Frame → ExprTree → Value
+value source frame (lit ty v place) = number v
+value source frame (read operand) = number (value_at frame (number_of source operand))
+value source frame (unary op place arg) = with_number (value source frame arg) (λ a. number (unary_result Bool op a))
+value source frame (binary op place left right) =
+    with_number (value source frame left) (λ a. with_number (value source frame right) (λ b. number (binary_result Bool op a b)))
+value source frame (paren place inner) = value source frame inner

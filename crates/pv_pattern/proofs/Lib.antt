@@ -1,1 +1,5 @@
-pub mod RunsOf
+pub mod Runs
+pub mod Alike
+pub mod First
+pub mod Steps
+pub mod ForCallers

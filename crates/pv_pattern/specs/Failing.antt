@@ -1,18 +1,50 @@
--- Failing scans: a scan that isn't done fails, and one that is done fails where the pattern doesn't hold.
-use Rattle.std.specs.Prelude.{◌≡◌, List, Bool, false, not}
-use Rattle.pv_tree.specs.declared.tree.Block.{Block}
-use Rattle.pv_mean.specs.declared.cell.Cell.{Cell}
-use Rattle.pv_mean.specs.Cells.{cells_of}
+-- Failing scans along a run. A scan that is done fails where its judgment is a failure; one that traps or goes over a loop's bound
+-- fails too. (With a pattern that asks for a goal a trap will end a run without failing.)
+use Rattle.std.specs.Prelude.{◌≡◌, ℕ, zero, suc, List, [], ◌∷◌, Bool, Option, Some, None, if◌then◌else◌}
+use Rattle.pv_machine.specs.declared.place.Place.{Place}
+use Rattle.pv_machine.specs.declared.trap.TrapKind.{TrapKind}
 use Rattle.pv_mean.specs.Frames.{Frame}
-use Rattle.pv_mean.specs.Scans.{Scan, ScanEnd, done}
-use Rattle.pv_pattern.specs.Patterns.{Pattern, holds}
+use Rattle.pv_mean.specs.Sources.{Source}
+use Rattle.pv_mean.specs.Scans.{Scan, ScanEnd, done, trap as trap_end, over as over_end}
+use Rattle.pv_pattern.specs.Patterns.{Pattern, judge, mark, is_failure}
 
-abbrev pub fails_at : List Cell → Pattern → Frame → ScanEnd → Bool
-fails_at cells pattern beginning (done frame) = not (holds cells pattern beginning frame)
+-- why a scan fails: the pattern, a trap, or a loop's bound
+pub data Cause : Type 0 where
+  pattern : Cause
+  trap : TrapKind → Place → Cause
+  over : Place → Cause
 
-abbrev pub fails : Block → Pattern → Scan → Bool
-fails block pattern s = fails_at (cells_of block) pattern s.beginning s.end
+-- how a scan fails, if it does, where the scan before left this mark
+abbrev pub ends_by : Source → Pattern → Option Bool → Frame → ScanEnd → Option Cause
+ends_by source p prev beginning (done end) = if is_failure p (judge source p prev beginning end) then Some pattern else None
+ends_by source p prev beginning (trap_end kind place) = Some (trap kind place)
+ends_by source p prev beginning (over_end place) = Some (over place)
 
--- the scan does not fail
-abbrev pub Keeps : Block → Pattern → Scan → Type 0
-Keeps block pattern s = fails block pattern s ≡ false
+abbrev pub ends_as : Source → Pattern → Option Bool → Scan → Option Cause
+ends_as source p prev s = ends_by source p prev s.beginning s.end
+
+-- the mark that a scan leaves; one that isn't done leaves none
+abbrev pub mark_of : Source → Pattern → ScanEnd → Option Bool
+mark_of source p (done end) = Some (mark source p end)
+mark_of source p (trap_end kind place) = None
+mark_of source p (over_end place) = None
+
+-- no scan of the run fails, where the scan before it left this mark
+abbrev pub NoneFailsFrom : Source → Pattern → Option Bool → List Scan → Type 0
+NoneFailsFrom source p prev [] = Unit {0}
+NoneFailsFrom source p prev (s ∷ ss) = (ends_as source p prev s ≡ None) × NoneFailsFrom source p (mark_of source p s.end) ss
+
+-- the first scan of the run that fails is its n-th, counted from 1, and this is why
+abbrev pub FailsFirstFrom : Source → Pattern → Option Bool → List Scan → ℕ → Cause → Type 0
+FailsFirstFrom source p prev [] n cause = ⊥
+FailsFirstFrom source p prev (s ∷ ss) zero cause = ⊥
+FailsFirstFrom source p prev (s ∷ ss) (suc zero) cause = ends_as source p prev s ≡ Some cause
+FailsFirstFrom source p prev (s ∷ ss) (suc (suc n)) cause =
+    (ends_as source p prev s ≡ None) × FailsFirstFrom source p (mark_of source p s.end) ss (suc n) cause
+
+-- the same of a run from its first scan
+abbrev pub NoneFails : Source → Pattern → List Scan → Type 0
+NoneFails source p scans = NoneFailsFrom source p None scans
+
+abbrev pub FailsFirst : Source → Pattern → List Scan → ℕ → Cause → Type 0
+FailsFirst source p scans n cause = FailsFirstFrom source p None scans n cause

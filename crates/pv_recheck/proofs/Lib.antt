@@ -2,3 +2,4 @@ pub mod Lines
 pub mod Judged
 pub mod One
 pub mod Verdict
+pub mod ForCallers

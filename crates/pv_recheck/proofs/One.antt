@@ -1,18 +1,19 @@
--- A certificate has one first fault, a valid one has none, and so the answer is one.
-use Rattle.std.proofs.Common.{◌≡◌, ℕ, ◌==◌, true, false, List, [], ◌∷◌, ◌++◌, length, get_or, map, refl, ap, sym, subst, ◌∙◌, arith, inl, inr, Result, Ok, Err, append_assoc}
+-- A certificate has one first fault, a valid one has none, and so the answer is one: two answers that aren't want of memory are the same
+-- (`one_answer`), and 'exactly where' comes with it.
+use Rattle.std.proofs.Common.{◌≡◌, ℕ, ◌==◌, true, false, List, [], ◌∷◌, ◌++◌, get_or, refl, ap, sym, subst, ◌∙◌, arith, inl}
+use Rattle.std.proofs.Common.{inr, Result, Ok, Err}
 use Rattle.std.specs.Prelude.{codes, ◌⊎◌}
 use Rattle.std.proofs.lemmas.Bool.{both_ways, false≢true}
-use Rattle.pv_tree.specs.declared.tree.Expr.{Expr}
-use Rattle.pv_tree.specs.declared.tree.Block.{Block}
+use Rattle.pv_bool.specs.Tree.{ProgramTree}
 use Rattle.pv_log.specs.declared.fault.LineFault.{LineFault}
-use Rattle.pv_log.specs.LineText.{line_text}
 use Rattle.pv_log.specs.Follows.{ends_empty}
-use Rattle.pv_log.proofs.FollowLaws.{follows-not-fails, fails-once}
+use Rattle.pv_log.proofs.ForCallers.{follows-not-fails, fails-once}
+use Rattle.pv_cert.specs.declared.proof.Chain.{Chain}
 use Rattle.pv_cert.specs.declared.proof.Proof.{Proof}
+use Rattle.pv_cert.specs.ChainText.{chain_line}
 use Rattle.pv_cert.specs.declared.certificate.Certificate.{Certificate}
-use Rattle.pv_cert.specs.CertificateText.{satisfied_by, text_of_lines, query_line, log_line as count_line, IsTextOf, FailsAt, NoFeed}
-use Rattle.pv_cert.proofs.Texts.{feedless}
-use Rattle.pv_cert.proofs.Whole.{one-certificate, fails-once as one-stuck}
+use Rattle.pv_cert.specs.CertificateText.{satisfied_by, IsTextOf, FailsAt}
+use Rattle.pv_cert.proofs.ForCallers.{one-certificate, fails-once as one-stuck}
 use Rattle.pv_recheck.specs.declared.fault.Kind.{Kind}
 use Rattle.pv_recheck.specs.declared.fault.Kind.TheVariants.{NotACertificate, Line, NoEmpty, WrongQuery}
 use Rattle.pv_recheck.specs.declared.fault.RecheckFault.{RecheckFault}
@@ -21,45 +22,48 @@ use Rattle.pv_recheck.specs.Form.{IsLine, IsUnbuilt}
 use Rattle.pv_recheck.specs.Validity.{step_formula, IsStepProof, IsValid}
 use Rattle.pv_recheck.specs.Faults.{BeginsWithStep, first_log, number_of_log_line, LineFails, LogLacksEmpty, HasSecondAt, IsFaultAt}
 use Rattle.pv_recheck.specs.Answers.{IsBeforeLog, ComesToLog, Answers, IsUnlessNoMemory}
-use Rattle.pv_recheck.proofs.Lines.{same_line, ahead}
+use Rattle.pv_recheck.proofs.Lines.{same_line, second_and_fourth}
 
-module _ (b : Block) (a : Expr) where
+module _ (program : ProgramTree) where
   -- what is wrong with the contents
   abbrev Contents : List Proof → ℕ → Kind → Type 0
   Contents ps at NotACertificate = ⊥
-  Contents ps at (Line fault) = LineFails b a ps at fault
-  Contents ps at NoEmpty = LogLacksEmpty b a ps × (at ≡ 5)
-  Contents ps at WrongQuery = ((BeginsWithStep ps → ⊥) × (at ≡ 3)) ⊎ HasSecondAt b a ps at
+  Contents ps at (Line fault) = LineFails program ps at fault
+  Contents ps at NoEmpty = LogLacksEmpty program ps × (at ≡ 5)
+  Contents ps at WrongQuery = ((BeginsWithStep ps → ⊥) × (at ≡ 3)) ⊎ HasSecondAt program ps at
 
-  lines_one : (ps : List Proof) (at to : ℕ) (f g : LineFault) → LineFails b a ps at f → LineFails b a ps to g → (at ≡ to) × (Line f ≡ Line g)
+  lines_one : (ps : List Proof) (at to : ℕ) (f g : LineFault) → LineFails program ps at f → LineFails program ps to g
+      → (at ≡ to) × (Line f ≡ Line g)
   lines_one ps at to f g h k =
-      let same = fails-once (step_formula b a).variables (step_formula b a).clauses (first_log ps) h.1 k.1 f g h.3 k.3 in
+      let same = fails-once (step_formula program).variables (step_formula program).clauses (first_log ps) h.1 k.1 f g h.3 k.3 in
       (h.2 ∙ ap number_of_log_line same.0 ∙ sym k.2, ap (λ x. Line x) same.1)
 
-  line_lacks : (ps : List Proof) (at : ℕ) (f : LineFault) → LineFails b a ps at f → LogLacksEmpty b a ps → ⊥
-  line_lacks ps at f h k = follows-not-fails (step_formula b a).variables (step_formula b a).clauses (first_log ps) h.1 f k.1.each h.3
+  line_lacks : (ps : List Proof) (at : ℕ) (f : LineFault) → LineFails program ps at f → LogLacksEmpty program ps → ⊥
+  line_lacks ps at f h k = follows-not-fails (step_formula program).variables (step_formula program).clauses
+      (first_log ps) h.1 f k.1.each h.3
 
-  line_second : (ps : List Proof) (at to : ℕ) (f : LineFault) → LineFails b a ps at f → HasSecondAt b a ps to → ⊥
+  line_second : (ps : List Proof) (at to : ℕ) (f : LineFault) → LineFails program ps at f → HasSecondAt program ps to → ⊥
   line_second [] at to f h k = k
-  line_second (p ∷ ps) at to f h k = follows-not-fails (step_formula b a).variables (step_formula b a).clauses p.log h.1 f k.1.each h.3
+  line_second (p ∷ ps) at to f h k = follows-not-fails (step_formula program).variables
+      (step_formula program).clauses p.log h.1 f k.1.each h.3
 
-  lacks_second : (ps : List Proof) (to : ℕ) → LogLacksEmpty b a ps → HasSecondAt b a ps to → ⊥
+  lacks_second : (ps : List Proof) (to : ℕ) → LogLacksEmpty program ps → HasSecondAt program ps to → ⊥
   lacks_second [] to h k = k
   lacks_second (p ∷ ps) to h k = both_ways (ends_empty p.log) h.1.unfinished k.1.ends
 
-  second_begins : (ps : List Proof) (at : ℕ) → HasSecondAt b a ps at → BeginsWithStep ps
+  second_begins : (ps : List Proof) (at : ℕ) → HasSecondAt program ps at → BeginsWithStep ps
   second_begins [] at k = absurd k
   second_begins (p ∷ ps) at k = k.0
 
-  second_one : (ps : List Proof) (at to : ℕ) → HasSecondAt b a ps at → HasSecondAt b a ps to → at ≡ to
+  second_one : (ps : List Proof) (at to : ℕ) → HasSecondAt program ps at → HasSecondAt program ps to → at ≡ to
   second_one [] at to h k = absurd h
   second_one (p ∷ ps) at to h k = h.3 ∙ sym k.3
 
-  line_wrong : (ps : List Proof) (at to : ℕ) (f : LineFault) → LineFails b a ps at f → Contents ps to WrongQuery → ⊥
+  line_wrong : (ps : List Proof) (at to : ℕ) (f : LineFault) → LineFails program ps at f → Contents ps to WrongQuery → ⊥
   line_wrong ps at to f h (inl k) = k.0 h.0
   line_wrong ps at to f h (inr k) = line_second ps at to f h k
 
-  lacks_wrong : (ps : List Proof) (to : ℕ) → LogLacksEmpty b a ps → Contents ps to WrongQuery → ⊥
+  lacks_wrong : (ps : List Proof) (to : ℕ) → LogLacksEmpty program ps → Contents ps to WrongQuery → ⊥
   lacks_wrong ps to h (inl k) = k.0 h.0
   lacks_wrong ps to h (inr k) = lacks_second ps to h k
 
@@ -85,23 +89,31 @@ module _ (b : Block) (a : Expr) where
   contents_one ps at to WrongQuery WrongQuery h k = (wrong_one ps at to h k, refl)
 
   -- the fault of a certificate's text is one of its contents
-  contents_of : (bytes : List ℕ) (c : Certificate) (at : ℕ) (f : Kind) → IsTextOf bytes c → IsFaultAt b a bytes at f → Contents c.proofs at f
+  contents_of : (bytes : List ℕ) (c : Certificate) (at : ℕ) (f : Kind) → IsTextOf bytes c → IsFaultAt program bytes at f
+      → Contents c.proofs at f
   contents_of bytes c at NotACertificate t h = absurd (h.none c t)
-  contents_of bytes c at (Line f) t h = subst (λ (d : Certificate). LineFails b a d.proofs at f) (one-certificate bytes h.0 c h.1 t) h.2
-  contents_of bytes c at NoEmpty t h = (subst (λ (d : Certificate). LogLacksEmpty b a d.proofs) (one-certificate bytes h.0 c h.1 t) h.2, h.3)
-  contents_of bytes c at WrongQuery t h = subst (λ (d : Certificate). Contents d.proofs at WrongQuery) (one-certificate bytes h.0 c h.1 t) h.2
+  contents_of bytes c at (Line f) t h = subst (λ (d : Certificate). LineFails program d.proofs at f) (one-certificate bytes h.0 c h.1 t) h.2
+  contents_of bytes c at NoEmpty t h = (
+    subst (λ (d : Certificate). LogLacksEmpty program d.proofs)
+        (one-certificate bytes h.0 c h.1 t) h.2,
+    h.3,
+  )
+  contents_of bytes c at WrongQuery t h = subst (λ (d : Certificate). Contents d.proofs at WrongQuery)
+      (one-certificate bytes h.0 c h.1 t) h.2
 
-  one_of_text : (bytes : List ℕ) (c : Certificate) (at to : ℕ) (f g : Kind) → IsTextOf bytes c → IsFaultAt b a bytes at f → IsFaultAt b a bytes to g → (at ≡ to) × (f ≡ g)
+  one_of_text : (bytes : List ℕ) (c : Certificate) (at to : ℕ) (f g : Kind) → IsTextOf bytes c → IsFaultAt program bytes at f
+      → IsFaultAt program bytes to g → (at ≡ to) × (f ≡ g)
   one_of_text bytes c at to f g t h k = contents_one c.proofs at to f g (contents_of bytes c at f t h) (contents_of bytes c to g t k)
 
   -- no certificate's text: the fault is the grammar's
-  one_stuck : (bytes : List ℕ) (at to : ℕ) (g : Kind) → FailsAt bytes at → IsFaultAt b a bytes to g → (at ≡ to) × (NotACertificate ≡ g)
+  one_stuck : (bytes : List ℕ) (at to : ℕ) (g : Kind) → FailsAt bytes at → IsFaultAt program bytes to g → (at ≡ to) × (NotACertificate ≡ g)
   one_stuck bytes at to NotACertificate h k = (one-stuck bytes at to h k, refl)
   one_stuck bytes at to (Line g) h k = absurd (h.none k.0 k.1)
   one_stuck bytes at to NoEmpty h k = absurd (h.none k.0 k.1)
   one_stuck bytes at to WrongQuery h k = absurd (h.none k.0 k.1)
 
-  pub one_fault : (bytes : List ℕ) (at to : ℕ) (f g : Kind) → IsFaultAt b a bytes at f → IsFaultAt b a bytes to g → (at ≡ to) × (f ≡ g)
+  pub one_fault : (bytes : List ℕ) (at to : ℕ) (f g : Kind) → IsFaultAt program bytes at f → IsFaultAt program bytes to g
+      → (at ≡ to) × (f ≡ g)
   one_fault bytes at to NotACertificate g h k = one_stuck bytes at to g h k
   one_fault bytes at to (Line f) g h k = one_of_text bytes h.0 at to (Line f) g h.1 h k
   one_fault bytes at to NoEmpty g h k = one_of_text bytes h.0 at to NoEmpty g h.1 h k
@@ -109,48 +121,35 @@ module _ (b : Block) (a : Expr) where
 
   -- ---- a valid one
 
-  shown_right : (p : Proof) (at : ℕ) (f : Kind) → IsStepProof b a p → Contents (p ∷ []) at f → ⊥
+  shown_right : (p : Proof) (at : ℕ) (f : Kind) → IsStepProof program p → Contents (p ∷ []) at f → ⊥
   shown_right p at NotACertificate s h = h
-  shown_right p at (Line f) s h = follows-not-fails (step_formula b a).variables (step_formula b a).clauses p.log h.1 f s.refutes.each h.3
+  shown_right p at (Line f) s h = follows-not-fails (step_formula program).variables
+      (step_formula program).clauses p.log h.1 f s.refutes.each h.3
   shown_right p at NoEmpty s h = both_ways (ends_empty p.log) h.0.1.unfinished s.refutes.ends
   shown_right p at WrongQuery s (inl h) = h.0 s.query
   shown_right p at WrongQuery s (inr h) = h.2 refl
 
-  pub valid_right : (bytes : List ℕ) (at : ℕ) (f : Kind) → IsValid b a bytes → IsFaultAt b a bytes at f → ⊥
+  pub valid_right : (bytes : List ℕ) (at : ℕ) (f : Kind) → IsValid program bytes → IsFaultAt program bytes at f → ⊥
   valid_right bytes at f v h = shown_right v.proof at f v.is_proof (contents_of bytes (satisfied_by (v.proof ∷ [])) at f v.is_text h)
-
-  -- its second line is the verdict, and its fourth a chain without words
-  lines_built : (one two three four : List ℕ) (lines : List (List ℕ)) (bytes : List ℕ) → bytes ≡ text_of_lines (one ∷ two ∷ three ∷ four ∷ lines) → NoFeed one → NoFeed two → NoFeed three → NoFeed four
-      → IsLine 2 bytes two × IsLine 4 bytes four
-  lines_built one two three four lines bytes e a b c d =
-      let fourth : IsLine 1 (text_of_lines (four ∷ lines)) four = (text_of_lines lines, d, append_assoc four (10 ∷ []) (text_of_lines lines)) in
-      let third : IsLine 2 (text_of_lines (three ∷ four ∷ lines)) four = ahead 0 (text_of_lines (three ∷ four ∷ lines)) three (text_of_lines (four ∷ lines)) four c (append_assoc three (10 ∷ []) (text_of_lines (four ∷ lines))) fourth in
-      let more = text_of_lines (three ∷ four ∷ lines) in
-      let second : IsLine 3 (text_of_lines (two ∷ three ∷ four ∷ lines)) four = ahead 1 (text_of_lines (two ∷ three ∷ four ∷ lines)) two more four b (append_assoc two (10 ∷ []) more) third in
-      let here : IsLine 1 (text_of_lines (two ∷ three ∷ four ∷ lines)) two = (more, b, append_assoc two (10 ∷ []) more) in
-      let rest = text_of_lines (two ∷ three ∷ four ∷ lines) in
-      let cut : bytes ≡ one ++ 10 ∷ rest = e ∙ append_assoc one (10 ∷ []) rest in
-      (ahead 0 bytes one rest two a cut here, ahead 2 bytes one rest four a cut second)
 
   no_words : (rest : List ℕ) → codes "chain" ≡ codes "chain " ++ rest → ⊥
   no_words rest e = (let differ : false ≡ true = ap (λ l. get_or l 5 0 == 32) e in false≢true differ)
 
-  valid_lines : (bytes : List ℕ) → IsValid b a bytes → IsLine 2 bytes (codes "verdict satisfied 0") × IsLine 4 bytes (codes "chain")
+  valid_lines : (bytes : List ℕ) → IsValid program bytes → IsLine 2 bytes (codes "verdict satisfied 0") × IsLine 4 bytes (codes "chain")
   valid_lines bytes v =
-      let p = v.proof in
-      let plain = feedless (satisfied_by (p ∷ [])) v.is_text.valid in
-      lines_built (codes "PLCVCERT 1") (codes "verdict satisfied 0") (query_line p.query) (codes "chain") (count_line (length p.log) ∷ (map line_text p.log ++ [] ++ codes "end" ∷ [])) bytes v.is_text.text plain.0 plain.1.0 plain.1.1.0 plain.1.1.1.0
+      let lines = second_and_fourth bytes v.proof [] v.is_text in
+      (lines.0, subst (λ (chain : Chain). IsLine 4 bytes (chain_line chain)) v.is_proof.chain lines.1)
 
-  pub valid_built : (bytes : List ℕ) → IsValid b a bytes → IsUnbuilt bytes → ⊥
+  pub valid_built : (bytes : List ℕ) → IsValid program bytes → IsUnbuilt bytes → ⊥
   valid_built bytes v (inl u) = u.3 (same_line 2 bytes u.0 (codes "verdict satisfied 0") u.1 (valid_lines bytes v).0)
   valid_built bytes v (inr u) = no_words u.2.0 (same_line 4 bytes (codes "chain") u.0 (valid_lines bytes v).1 u.1 ∙ u.2.1)
 
   -- ---- the answer
 
-  begun : (bytes : List ℕ) (at : ℕ) (f : Kind) → at ≡ 3 → ComesToLog bytes → IsFaultAt b a bytes at f → ⊥
+  begun : (bytes : List ℕ) (at : ℕ) (f : Kind) → at ≡ 3 → ComesToLog bytes → IsFaultAt program bytes at f → ⊥
   begun bytes at f e c h = no_early c.0.proofs at f e c.2 (contents_of bytes c.0 at f c.1 h)
     where
-      no_second : (ps : List Proof) (at : ℕ) → at ≡ 3 → HasSecondAt b a ps at → ⊥
+      no_second : (ps : List Proof) (at : ℕ) → at ≡ 3 → HasSecondAt program ps at → ⊥
       no_second [] at e k = k
       no_second (p ∷ ps) at e k = omega (arith, e, k.3)
 
@@ -161,32 +160,35 @@ module _ (b : Block) (a : Expr) where
       no_early ps at WrongQuery e s (inl k) = k.0 s
       no_early ps at WrongQuery e s (inr k) = no_second ps at e k
 
-  before_log : (bytes : List ℕ) (at : ℕ) (f : Kind) → IsBeforeLog at f → ComesToLog bytes → IsFaultAt b a bytes at f → ⊥
-  before_log bytes at f (inl e) c h = (let stuck : FailsAt bytes at = subst (λ (g : Kind). IsFaultAt b a bytes at g) e h in stuck.none c.0 c.1)
+  before_log : (bytes : List ℕ) (at : ℕ) (f : Kind) → IsBeforeLog at f → ComesToLog bytes → IsFaultAt program bytes at f → ⊥
+  before_log bytes at f (inl e) c h = (let stuck : FailsAt bytes at = subst
+      (λ (g : Kind). IsFaultAt program bytes at g) e h in stuck.none c.0 c.1)
   before_log bytes at f (inr e) c h = begun bytes at f e c h
 
-  same_fault : (at to : ℕ) (f g : Kind) → (at ≡ to) × (f ≡ g) → ◌≡◌ {A = Result (Unit {0}) RecheckFault} (Err (Fault at f)) (Err (Fault to g))
+  same_fault : (at to : ℕ) (f g : Kind) → (at ≡ to) × (f ≡ g) → ◌≡◌ {A = Result (Unit {0}) RecheckFault} (Err (Fault at f))
+      (Err (Fault to g))
   same_fault at to f g e = ap (λ (n : ℕ). Err (Fault n f)) e.0 ∙ ap (λ (k : Kind). Err (Fault to k)) e.1
 
-  pub one_answer : (bytes : List ℕ) (r s : Result (Unit {0}) RecheckFault) → Answers b a bytes r → (s ≡ Err NoMemory → ⊥) → Answers b a bytes s → IsUnlessNoMemory r s
-  one_answer bytes (Ok d) (Ok e) h few k = inl refl
-  one_answer bytes (Ok d) (Err Unbuilt) h few k = absurd (valid_built bytes h.0 k)
-  one_answer bytes (Ok d) (Err TooManyGates) h few k = absurd (h.1 k.1)
-  one_answer bytes (Ok d) (Err (Fault at f)) h few k = absurd (valid_right bytes at f h.0 k.1)
-  one_answer bytes (Ok d) (Err NoMemory) h few k = absurd (few refl)
-  one_answer bytes (Err Unbuilt) (Ok e) h few k = absurd (valid_built bytes k.0 h)
-  one_answer bytes (Err Unbuilt) (Err Unbuilt) h few k = inl refl
-  one_answer bytes (Err Unbuilt) (Err TooManyGates) h few k = absurd (k.0 h)
-  one_answer bytes (Err Unbuilt) (Err (Fault at f)) h few k = absurd (k.0 h)
-  one_answer bytes (Err Unbuilt) (Err NoMemory) h few k = absurd (few refl)
-  one_answer bytes (Err TooManyGates) (Ok e) h few k = absurd (k.1 h.1)
-  one_answer bytes (Err TooManyGates) (Err Unbuilt) h few k = absurd (h.0 k)
-  one_answer bytes (Err TooManyGates) (Err TooManyGates) h few k = inl refl
-  one_answer bytes (Err TooManyGates) (Err (Fault at f)) h few k = absurd (before_log bytes at f (k.2 h.1) h.2 k.1)
-  one_answer bytes (Err TooManyGates) (Err NoMemory) h few k = absurd (few refl)
-  one_answer bytes (Err (Fault at f)) (Ok e) h few k = absurd (valid_right bytes at f k.0 h.1)
-  one_answer bytes (Err (Fault at f)) (Err Unbuilt) h few k = absurd (h.0 k)
-  one_answer bytes (Err (Fault at f)) (Err TooManyGates) h few k = absurd (before_log bytes at f (h.2 k.1) k.2 h.1)
-  one_answer bytes (Err (Fault at f)) (Err (Fault to g)) h few k = inl (same_fault at to f g (one_fault bytes at to f g h.1 k.1))
-  one_answer bytes (Err (Fault at f)) (Err NoMemory) h few k = absurd (few refl)
-  one_answer bytes (Err NoMemory) s h few k = inr refl
+  pub one_answer : (limit : ℕ) (bytes : List ℕ) (r s : Result (Unit {0}) RecheckFault) → Answers limit program bytes r
+      → (s ≡ Err NoMemory → ⊥) → Answers limit program bytes s → IsUnlessNoMemory r s
+  one_answer limit bytes (Ok d) (Ok e) h few k = inl refl
+  one_answer limit bytes (Ok d) (Err Unbuilt) h few k = absurd (valid_built bytes h.0 k)
+  one_answer limit bytes (Ok d) (Err TooManyGates) h few k = absurd (h.1 k.1)
+  one_answer limit bytes (Ok d) (Err (Fault at f)) h few k = absurd (valid_right bytes at f h.0 k.1)
+  one_answer limit bytes (Ok d) (Err NoMemory) h few k = absurd (few refl)
+  one_answer limit bytes (Err Unbuilt) (Ok e) h few k = absurd (valid_built bytes k.0 h)
+  one_answer limit bytes (Err Unbuilt) (Err Unbuilt) h few k = inl refl
+  one_answer limit bytes (Err Unbuilt) (Err TooManyGates) h few k = absurd (k.0 h)
+  one_answer limit bytes (Err Unbuilt) (Err (Fault at f)) h few k = absurd (k.0 h)
+  one_answer limit bytes (Err Unbuilt) (Err NoMemory) h few k = absurd (few refl)
+  one_answer limit bytes (Err TooManyGates) (Ok e) h few k = absurd (k.1 h.1)
+  one_answer limit bytes (Err TooManyGates) (Err Unbuilt) h few k = absurd (h.0 k)
+  one_answer limit bytes (Err TooManyGates) (Err TooManyGates) h few k = inl refl
+  one_answer limit bytes (Err TooManyGates) (Err (Fault at f)) h few k = absurd (before_log bytes at f (k.2 h.1) h.2 k.1)
+  one_answer limit bytes (Err TooManyGates) (Err NoMemory) h few k = absurd (few refl)
+  one_answer limit bytes (Err (Fault at f)) (Ok e) h few k = absurd (valid_right bytes at f k.0 h.1)
+  one_answer limit bytes (Err (Fault at f)) (Err Unbuilt) h few k = absurd (h.0 k)
+  one_answer limit bytes (Err (Fault at f)) (Err TooManyGates) h few k = absurd (before_log bytes at f (h.2 k.1) k.2 h.1)
+  one_answer limit bytes (Err (Fault at f)) (Err (Fault to g)) h few k = inl (same_fault at to f g (one_fault bytes at to f g h.1 k.1))
+  one_answer limit bytes (Err (Fault at f)) (Err NoMemory) h few k = absurd (few refl)
+  one_answer limit bytes (Err NoMemory) s h few k = inr refl

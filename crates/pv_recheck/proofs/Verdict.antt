@@ -1,147 +1,86 @@
--- What a valid certificate says is so.
-use Rattle.std.proofs.Common.{◌≡◌, ◌≢◌, ◌↔◌, ℕ, zero, suc, Bool, true, false, not, cond, List, [], ◌∷◌, get_or, map, ℤ, pos, negsuc, refl, ap, sym, subst, ◌∙◌, arith}
-use Rattle.std.specs.Prelude.{filter}
-use Rattle.std.specs.Ordering.{int_eq}
+-- What a valid certificate says is so: a scan that fails gives values of the nodes by which the formula of step(0) holds (`solved`), which an
+-- accepted log rules out (`no_step`); and by k-induction no run fails, since no base query is asked at k = 0 (`no_run`).
+use Rattle.std.proofs.Common.{◌≡◌, ◌↔◌, ℕ, Bool, true, not, List, [], ◌∷◌, length, pos, refl, ap, sym, ◌∙◌, arith}
 use Rattle.std.specs.List.{AllByRecursion}
-use Rattle.std.proofs.lemmas.Int.{ints}
-use Rattle.std.proofs.lemmas.Bool.{false_from_ne_true, false≢true}
-use Rattle.std.proofs.lemmas.List.Elements.{recursion_from_All}
-use Rattle.pv_word.specs.declared.types.Ty.{Ty}
-use Rattle.pv_word.specs.declared.types.Ty.TheVariants.{Bool as BoolType}
-use Rattle.pv_word.specs.Types.{InRange, AreValues}
-use Rattle.pv_tree.specs.declared.tree.Expr.{Expr}
-use Rattle.pv_tree.specs.declared.tree.Block.{Block}
+use Rattle.std.proofs.lemmas.List.{length-map}
+use Rattle.pv_machine.specs.Machines.{Values, IsInput}
+use Rattle.pv_machine.specs.Queries.{MeetsStep, NoneFails}
+use Rattle.pv_machine.proofs.ForCallers.{step_zero, none_fails, no_base, step_of_reachable}
 use Rattle.pv_gate.specs.Value.{value_of}
-use Rattle.pv_gate.proofs.Building.{int_eq-true}
 use Rattle.pv_cnf.specs.Clause.{Holds}
-use Rattle.pv_log.proofs.Sound.{accepted-refutes}
-use Rattle.pv_mean.specs.declared.cell.Cell.{Cell}
-use Rattle.pv_mean.specs.Cells.{cells_of, is_input}
-use Rattle.pv_mean.specs.Frames.{Image, Input, Frame, first, others, image_types, input_types, begin}
-use Rattle.pv_mean.specs.Values.{Value, number, value}
-use Rattle.pv_mean.specs.Boolean.{IsOfBool}
-use Rattle.pv_mean.specs.Scans.{ScanEnd, done, scan}
-use Rattle.pv_mean.specs.Runs.{run}
-use Rattle.pv_machine.specs.Queries.{MeetsStep}
-use Rattle.pv_pattern.specs.Patterns.{is_true, invariant}
-use Rattle.pv_pattern.specs.Failing.{fails_at, Keeps}
-use Rattle.pv_pattern.specs.Sources.{source}
-use Rattle.pv_pattern.proofs.RunsOf.{no_failing_run, some_failing_scan}
+use Rattle.pv_log.proofs.ForCallers.{accepted-refutes}
+use Rattle.pv_bool.specs.Tree.{ProgramTree, IsProgram}
+use Rattle.pv_bool.specs.Scans.{Bits, state_len, input_len, keeps}
+use Rattle.pv_bool.specs.Machine.{bit_of, bits_of, numbers_of, machine_of}
+use Rattle.pv_bool.proofs.ForCallers.{length-within, numbers_within, bits_of-numbers_of, lawful}
 use Rattle.pv_step.specs.Circuits.{circuit_of}
-use Rattle.pv_mean.specs.Conditions.{IsOverBool}
-use Rattle.pv_step.specs.Bits.{number_of_bit, numbers_of, Carries, Begins}
-use Rattle.pv_step.proofs.ScanLaws.{fail_is, begins, is_circuit}
-use Rattle.pv_frames.proofs.StepValues.{step-holds, step-only}
+use Rattle.pv_step.specs.Correct.{state_before, input_before}
+use Rattle.pv_step.proofs.ForCallers.{is_circuit, does_the_scan, have_lengths, stand_for}
+use Rattle.pv_frames.proofs.ForCallers.{step-holds, step-only}
 use Rattle.pv_recheck.specs.Validity.{step_formula, IsValid}
 
--- ---- any image and input of a block of BOOL are bits
+abbrev Solution : ProgramTree → Type 0
+Solution program = (values : ℕ → Bool) × Holds values (step_formula program).clauses
 
-first_of : (ty : Ty) (tys : List Ty) (vs : List ℤ) → AreValues (ty ∷ tys) vs → InRange ty (first vs) × AreValues tys (others vs)
-first_of ty tys [] are = absurd are
-first_of ty tys (v ∷ vs) are = are
-
-abbrev AreBits : List ℤ → Type 0
-AreBits vs = AllByRecursion (λ v. InRange BoolType v) vs
-
-begin_bits : (cs : List Cell) (image input : List ℤ) → AllByRecursion IsOfBool cs → AreValues (image_types cs) image → AreValues (input_types cs) input → AreBits (begin cs image input)
-begin_bits [] image input all im inp = tt
-begin_bits (c ∷ cs) image input all im inp = lead (is_input c.role) (λ i j p q. begin_bits cs i j all.1 p q) im inp
-  where
-    kept : List Cell
-    kept = filter (λ d. not (is_input d.role)) cs
-
-    taken : List Cell
-    taken = filter (λ d. is_input d.role) cs
-
-    in_bool : (v : ℤ) → InRange c.ty v → InRange BoolType v
-    in_bool v r = subst (λ (t : Ty). InRange t v) all.0 r
-
-    lead : (b : Bool) → ((i j : List ℤ) → AreValues (image_types cs) i → AreValues (input_types cs) j → AreBits (begin cs i j))
-        → AreValues (map (λ (d : Cell). d.ty) (cond (not b) (c ∷ filter (λ d. not (is_input d.role)) cs) (filter (λ d. not (is_input d.role)) cs))) image
-        → AreValues (map (λ (d : Cell). d.ty) (cond b (c ∷ filter (λ d. is_input d.role) cs) (filter (λ d. is_input d.role) cs))) input
-        → AreBits (cond b (first input ∷ begin cs image (others input)) (first image ∷ begin cs (others image) input))
-    lead true more im inp = (let p = first_of c.ty (input_types cs) input inp in (in_bool (first input) p.0, more image (others input) im p.1))
-    lead false more im inp = (let p = first_of c.ty (image_types cs) image im in (in_bool (first image) p.0, more (others image) input p.1 inp))
-
-bit_is : (v : ℤ) → InRange BoolType v → v ≡ number_of_bit (int_eq v (pos 1))
-bit_is (pos zero) r = refl
-bit_is (pos (suc zero)) r = refl
-bit_is (pos (suc (suc n))) r = absurd (omega (arith, ints, r.to))
-bit_is (negsuc n) r = absurd (omega (arith, ints, r.from))
-
--- the inputs that carry a frame
-inputs_of : Frame → ℕ → Bool
-inputs_of frame i = int_eq (get_or frame i (pos 0)) (pos 1)
-
-carried : (frame : Frame) → AreBits frame → Carries (inputs_of frame) frame
-unfolding inputs_of
-carried [] all i lt = absurd (omega arith)
-carried (v ∷ vs) all zero lt = bit_is v all.0
-carried (v ∷ vs) all (suc i) lt = carried vs all.1 i (omega arith)
-
--- ---- a scan that fails makes the circuit's literal true
-
-not_one : (x : Value) → not (is_true x) ≡ true → x ≢ number (pos 1)
-not_one x h e = (let differ : false ≡ true = sym (ap (λ (y : Value). not (is_true y)) e) ∙ h in false≢true differ)
-
-fails_broken : (cells : List Cell) (a : Expr) (beginning : Frame) (e : ScanEnd) → fails_at cells (invariant a) beginning e ≡ true → (frame : Frame) × (e ≡ done frame) × (value cells frame a ≢ number (pos 1))
-fails_broken cells a beginning (done frame) h = (frame, refl, not_one (value cells frame a) h)
-
-begun : (block : Block) (a : Expr) (image : Image) (input : Input) → IsOverBool block a → AreValues (image_types (cells_of block)) image → AreValues (input_types (cells_of block)) input
-    → Begins block image input (inputs_of (begin (cells_of block) image input))
-begun block a image input is im inp = record {
-  image_values = im;
-  input_values = inp;
-  carried = carried (begin (cells_of block) image input) (begin_bits (cells_of block) image input (recursion_from_All IsOfBool (cells_of block) is.boolean.cells) im inp);
-}
-
--- ---- the formula of step(0) and the machine
-
-abbrev Solution : Block → Expr → Type 0
-Solution block a = (values : ℕ → Bool) × Holds values (step_formula block a).clauses
+-- a state and an input by which a scan fails make `fail` true under the inputs that stand for them
+fails_there : (program : ProgramTree) (inputs : ℕ → Bool) (state input : Bits) → IsProgram program → state_before program inputs ≡ state
+    → input_before program inputs ≡ input → not (keeps program state input) ≡ true
+    → value_of inputs (circuit_of program).nodes (circuit_of program).fail ≡ true
+fails_there program inputs state input is s i f =
+    (does_the_scan program inputs is).fail
+    ∙ (ap (λ x. not (keeps program x (input_before program inputs))) s ∙ (ap (λ y. not (keeps program state y)) i ∙ f))
 
 -- the values of the nodes where a scan fails
-solved : (block : Block) (a : Expr) → IsOverBool block a → MeetsStep (source block (invariant a)) 0 → Solution block a
-solved block a is met =
-    let found = some_failing_scan block (invariant a) met in
-    let broken = fails_broken (cells_of block) a (begin (cells_of block) found.0 found.1) (scan block found.0 found.1).end found.4 in
-    let inputs = inputs_of (begin (cells_of block) found.0 found.1) in
-    let nodes = (circuit_of block a).nodes in
-    let circuit = is_circuit block a is.names in
-    let values : ℕ → Bool = λ n. value_of inputs nodes (pos n) in
-    let true_there = (fail_is block a found.0 found.1 inputs broken.0 is (begun block a found.0 found.1 is found.2 found.3) broken.1).1 broken.2 in
-    (values, step-holds nodes (circuit_of block a).fail values inputs circuit.netlist circuit.fail (λ n from to. refl) true_there)
+solved : (program : ProgramTree) → IsProgram program → MeetsStep (machine_of program) 0 → Solution program
+solved program is met =
+    let found = step_zero (machine_of program) met in
+    let state = bits_of found.0 in
+    let input = bits_of found.1 in
+    let s : length state ≡ state_len program.bits = length-map found.0 bit_of ∙ length-within (state_len program.bits) found.0 found.2 in
+    let i : length input ≡ input_len program.bits = length-map found.1 bit_of ∙ length-within (input_len program.bits) found.1 found.3 in
+    let stand = stand_for program state input s i in
+    let nodes = (circuit_of program).nodes in
+    let circuit = is_circuit program is in
+    let values : ℕ → Bool = λ n. value_of stand.inputs nodes (pos n) in
+    let fails = fails_there program stand.inputs state input is stand.state stand.input found.4 in
+    (values, step-holds nodes (circuit_of program).fail values stand.inputs circuit.netlist circuit.fail (λ n from to. refl) fails)
 
-broken_fails : (cells : List Cell) (a : Expr) (beginning : Frame) (e : ScanEnd) → ((frame : Frame) → e ≡ done frame → value cells frame a ≢ number (pos 1)) → fails_at cells (invariant a) beginning e ≡ true
-broken_fails cells a beginning (done frame) h = ap not (false_from_ne_true (is_true (value cells frame a)) (λ one. h frame refl (one_is (value cells frame a) one)))
-  where
-    one_is : (x : Value) → is_true x ≡ true → x ≡ number (pos 1)
-    one_is (number v) e = ap (λ w. number w) (int_eq-true v (pos 1) e)
-
--- the scan that begins at the values of the inputs
-met_by : (block : Block) (a : Expr) → IsOverBool block a → Solution block a → MeetsStep (source block (invariant a)) 0
-met_by block a is solution =
-    let c = circuit_of block a in
-    let circuit = is_circuit block a is.names in
+-- the scan from the state by the input that the inputs stand for
+met_by : (program : ProgramTree) → IsProgram program → Solution program → MeetsStep (machine_of program) 0
+met_by program is solution =
+    let c = circuit_of program in
+    let circuit = is_circuit program is in
     let only = step-only c.nodes c.fail solution.0 circuit.netlist circuit.fail solution.1 in
-    let image = numbers_of only.0 c.nodes c.state_in in
-    let input = numbers_of only.0 c.nodes c.input in
-    let there = begins block a only.0 is.boolean.cells in
+    let state = state_before program only.0 in
+    let input = input_before program only.0 in
+    let long = have_lengths program only.0 in
     record {
-      state = image;
-      inputs = input ∷ [];
-      is_state = there.image_values;
-      are_inputs = (there.input_values, tt);
+      state = numbers_of state;
+      inputs = numbers_of input ∷ [];
+      is_state = numbers_within (state_len program.bits) state long.state;
+      are_inputs = (numbers_within (input_len program.bits) input long.input, tt);
       count = refl;
-      fails = broken_fails (cells_of block) a (begin (cells_of block) image input) (scan block image input).end (λ frame ends. (fail_is block a image input only.0 frame is there ends).0 only.2);
+      fails = ap (λ x. not (keeps program x (bits_of (numbers_of input)))) (bits_of-numbers_of state)
+          ∙ (ap (λ y. not (keeps program state y)) (bits_of-numbers_of input) ∙ (sym (does_the_scan program only.0 is).fail ∙ only.2));
     }
 
-pub step_meets : (block : Block) (a : Expr) → IsOverBool block a → (MeetsStep (source block (invariant a)) 0) ↔ Solution block a
-step_meets block a is = (solved block a is, met_by block a is)
+pub step_meets : (program : ProgramTree) → IsProgram program → (MeetsStep (machine_of program) 0) ↔ Solution program
+step_meets program is = (solved program is, met_by program is)
 
-pub runs_keep : (block : Block) (a : Expr) (bytes : List ℕ) → IsOverBool block a → IsValid block a bytes
-    → (inputs : List Input) → AllByRecursion (AreValues (input_types (cells_of block))) inputs → AllByRecursion (Keeps block (invariant a)) (run block inputs)
-runs_keep block a bytes is v inputs are =
+pub no_step : (program : ProgramTree) (bytes : List ℕ) → IsProgram program → IsValid program bytes → MeetsStep (machine_of program) 0 → ⊥
+no_step program bytes is v met =
     let refuted = v.is_proof.refutes in
-    let never : (values : ℕ → Bool) → Holds values (step_formula block a).clauses → ⊥ = λ values holds. accepted-refutes values (step_formula block a).variables (step_formula block a).clauses v.proof.log refuted.each refuted.ends holds in
-    no_failing_run block (invariant a) is.boolean (λ met. (let solution = solved block a is met in never solution.0 solution.1)) inputs are
+    let solution = solved program is met in
+    accepted-refutes solution.0 (step_formula program).variables
+    (step_formula program).clauses v.proof.log refuted.each refuted.ends solution.1
+
+-- no base query is asked at k = 0
+pub no_run : (program : ProgramTree) (bytes : List ℕ) → IsProgram program → IsValid program bytes
+    → (params : Values) (inputs : List Values) → AllByRecursion (IsInput (machine_of program)) inputs
+    → NoneFails (machine_of program) ((machine_of program).start params) inputs
+no_run program bytes is v params inputs all =
+    let m = machine_of program in
+    none_fails m (m.start params) inputs all (λ others inside f.
+    no_base m 0 (λ j from to base. absurd (omega arith)) (λ met. no_step program bytes is v (step_of_reachable m 0 (lawful program) met))
+    (length others)
+    (record { params = []; inputs = others; are_params = tt; are_inputs = inside; count = refl; fails = f }))

@@ -1,7 +1,6 @@
 -- What a check of a certificate answers, case by case. Want of memory aside, no two of the cases hold of one certificate.
 use Rattle.std.specs.Prelude.{◌≡◌, ℕ, ◌<◌, List, ◌⊎◌, Result, Ok, Err}
-use Rattle.pv_tree.specs.declared.tree.Expr.{Expr}
-use Rattle.pv_tree.specs.declared.tree.Block.{Block}
+use Rattle.pv_bool.specs.Tree.{ProgramTree}
 use Rattle.pv_gate.specs.Node.{gate_count}
 use Rattle.pv_cert.specs.declared.certificate.Certificate.{Certificate}
 use Rattle.pv_cert.specs.CertificateText.{IsTextOf}
@@ -14,9 +13,9 @@ use Rattle.pv_recheck.specs.Form.{IsUnbuilt}
 use Rattle.pv_recheck.specs.Validity.{IsValid}
 use Rattle.pv_recheck.specs.Faults.{BeginsWithStep, IsFaultAt}
 
--- the step circuit has more gates than one may have
-abbrev pub HasTooManyGates : Block → Expr → Type 0
-HasTooManyGates block invariant = 1000000 < gate_count (circuit_of block invariant).nodes
+-- the step circuit has more gates than the limit
+abbrev pub HasTooManyGates : ℕ → ProgramTree → Type 0
+HasTooManyGates limit program = limit < gate_count (circuit_of program).nodes
 
 -- the fault stands before the first log, for which the circuit is made: it is the grammar's or the first query's
 abbrev pub IsBeforeLog : ℕ → Kind → Type 0
@@ -26,13 +25,14 @@ IsBeforeLog at kind = (kind ≡ NotACertificate) ⊎ (at ≡ 3)
 abbrev pub ComesToLog : List ℕ → Type 0
 ComesToLog bytes = (c : Certificate) × IsTextOf bytes c × BeginsWithStep c.proofs
 
-abbrev pub Answers : Block → Expr → List ℕ → Result (Unit {0}) RecheckFault → Type 0
-Answers block invariant bytes (Ok done) = IsValid block invariant bytes × (HasTooManyGates block invariant → ⊥)
-Answers block invariant bytes (Err Unbuilt) = IsUnbuilt bytes
-Answers block invariant bytes (Err TooManyGates) = (IsUnbuilt bytes → ⊥) × HasTooManyGates block invariant × ComesToLog bytes
-Answers block invariant bytes (Err (Fault at kind)) =
-    (IsUnbuilt bytes → ⊥) × IsFaultAt block invariant bytes at kind × (HasTooManyGates block invariant → IsBeforeLog at kind)
-Answers block invariant bytes (Err NoMemory) = Unit {0}
+-- the answer under this limit on gates
+abbrev pub Answers : ℕ → ProgramTree → List ℕ → Result (Unit {0}) RecheckFault → Type 0
+Answers limit program bytes (Ok done) = IsValid program bytes × (HasTooManyGates limit program → ⊥)
+Answers limit program bytes (Err Unbuilt) = IsUnbuilt bytes
+Answers limit program bytes (Err TooManyGates) = (IsUnbuilt bytes → ⊥) × HasTooManyGates limit program × ComesToLog bytes
+Answers limit program bytes (Err (Fault at kind)) =
+    (IsUnbuilt bytes → ⊥) × IsFaultAt program bytes at kind × (HasTooManyGates limit program → IsBeforeLog at kind)
+Answers limit program bytes (Err NoMemory) = Unit {0}
 
 -- the answer is this one, unless memory ran out
 abbrev pub IsUnlessNoMemory : Result (Unit {0}) RecheckFault → Result (Unit {0}) RecheckFault → Type 0

@@ -1,8 +1,7 @@
 -- The first fault of a certificate, with its line, from 1. Where the bytes are a certificate's text, its contents are judged in
 -- file order: line 3 is the first proof's query, line 5 says how many lines its log has, and line 6 is the first of these.
 use Rattle.std.specs.Prelude.{◌≡◌, ◌≢◌, ℕ, ◌+◌, List, [], ◌∷◌, length, ◌⊎◌}
-use Rattle.pv_tree.specs.declared.tree.Expr.{Expr}
-use Rattle.pv_tree.specs.declared.tree.Block.{Block}
+use Rattle.pv_bool.specs.Tree.{ProgramTree}
 use Rattle.pv_log.specs.declared.line.Line as line
 use Rattle.pv_log.specs.declared.fault.LineFault.{LineFault}
 use Rattle.pv_log.specs.Follows.{Follows, fault_of, LacksEmpty, FailsFirst}
@@ -29,26 +28,27 @@ abbrev pub number_of_log_line : ℕ → ℕ
 number_of_log_line n = 5 + n
 
 -- this line of the first log is the first that doesn't follow
-abbrev pub LineFails : Block → Expr → List Proof → ℕ → LineFault → Type 0
-LineFails block invariant proofs at fault =
+abbrev pub LineFails : ProgramTree → List Proof → ℕ → LineFault → Type 0
+LineFails program proofs at fault =
     BeginsWithStep proofs
     × (n : ℕ) × (at ≡ number_of_log_line n)
-    × FailsFirst (fault_of (step_formula block invariant).variables) (step_formula block invariant).clauses (first_log proofs) n fault
+    × FailsFirst (fault_of (step_formula program).variables) (step_formula program).clauses (first_log proofs) n fault
 
 -- each line of the first log follows, but it doesn't end with an empty one
-abbrev pub LogLacksEmpty : Block → Expr → List Proof → Type 0
-LogLacksEmpty block invariant proofs =
-    BeginsWithStep proofs × LacksEmpty (Follows (step_formula block invariant).variables) (step_formula block invariant).clauses (first_log proofs)
+abbrev pub LogLacksEmpty : ProgramTree → List Proof → Type 0
+LogLacksEmpty program proofs =
+    BeginsWithStep proofs × LacksEmpty (Follows (step_formula program).variables) (step_formula program).clauses (first_log proofs)
 
 -- a second proof stands behind the first, which is as it should be, from this line on
-abbrev pub HasSecondAt : Block → Expr → List Proof → ℕ → Type 0
-HasSecondAt block invariant [] at = ⊥
-HasSecondAt block invariant (p ∷ ps) at = (p.query ≡ Step 0) × RefutesStep block invariant p.log × (ps ≢ []) × (at ≡ number_of_log_line (length p.log + 1))
+abbrev pub HasSecondAt : ProgramTree → List Proof → ℕ → Type 0
+HasSecondAt program [] at = ⊥
+HasSecondAt program (p ∷ ps) at =
+    (p.query ≡ Step 0) × RefutesStep program p.log × (ps ≢ []) × (at ≡ number_of_log_line (length p.log + 1))
 
 -- this is the first fault
-abbrev pub IsFaultAt : Block → Expr → List ℕ → ℕ → Kind → Type 0
-IsFaultAt block invariant bytes at NotACertificate = FailsAt bytes at
-IsFaultAt block invariant bytes at (Line fault) = (c : Certificate) × IsTextOf bytes c × LineFails block invariant c.proofs at fault
-IsFaultAt block invariant bytes at NoEmpty = (c : Certificate) × IsTextOf bytes c × LogLacksEmpty block invariant c.proofs × (at ≡ 5)
-IsFaultAt block invariant bytes at WrongQuery =
-    (c : Certificate) × IsTextOf bytes c × (((BeginsWithStep c.proofs → ⊥) × (at ≡ 3)) ⊎ HasSecondAt block invariant c.proofs at)
+abbrev pub IsFaultAt : ProgramTree → List ℕ → ℕ → Kind → Type 0
+IsFaultAt program bytes at NotACertificate = FailsAt bytes at
+IsFaultAt program bytes at (Line fault) = (c : Certificate) × IsTextOf bytes c × LineFails program c.proofs at fault
+IsFaultAt program bytes at NoEmpty = (c : Certificate) × IsTextOf bytes c × LogLacksEmpty program c.proofs × (at ≡ 5)
+IsFaultAt program bytes at WrongQuery =
+    (c : Certificate) × IsTextOf bytes c × (((BeginsWithStep c.proofs → ⊥) × (at ≡ 3)) ⊎ HasSecondAt program c.proofs at)

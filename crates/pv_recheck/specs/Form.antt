@@ -6,14 +6,16 @@ use Rattle.pv_cert.specs.CertificateText.{NoFeed}
 abbrev pub IsLine : ℕ → List ℕ → List ℕ → Type 0
 IsLine zero text line = ⊥
 IsLine (suc zero) text line = (rest : List ℕ) × NoFeed line × (text ≡ line ++ 10 ∷ rest)
-IsLine (suc (suc n)) text line = (head : List ℕ) × (rest : List ℕ) × NoFeed head × (text ≡ head ++ 10 ∷ rest) × IsLine (suc n) rest line
+IsLine (suc (suc n)) text line =
+    (head : List ℕ) × (rest : List ℕ) × NoFeed head × (text ≡ head ++ 10 ∷ rest) × IsLine (suc n) rest line
 
 abbrev pub BeginsWith : List ℕ → List ℕ → Type 0
 BeginsWith prefix line = (rest : List ℕ) × (line ≡ prefix ++ rest)
 
 -- line 2 is another verdict than 'satisfied 0'
 abbrev pub HasOtherVerdict : List ℕ → Type 0
-HasOtherVerdict bytes = (line : List ℕ) × IsLine 2 bytes line × BeginsWith (codes "verdict ") line × (line ≢ codes "verdict satisfied 0")
+HasOtherVerdict bytes =
+    (line : List ℕ) × IsLine 2 bytes line × BeginsWith (codes "verdict ") line × (line ≢ codes "verdict satisfied 0")
 
 -- line 4 is a chain with reductions
 abbrev pub HasReductions : List ℕ → Type 0

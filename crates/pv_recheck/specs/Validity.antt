@@ -1,8 +1,8 @@
--- Certificates of 'satisfied' with k = 0, and which are valid for a block and an invariant.
-use Rattle.std.specs.Prelude.{◌≡◌, ℕ, List, [], ◌∷◌, length}
-use Rattle.pv_tree.specs.declared.tree.Expr.{Expr}
-use Rattle.pv_tree.specs.declared.tree.Block.{Block}
+-- Certificates of 'satisfied' with k = 0, and which are valid for a program.
+use Rattle.std.specs.Prelude.{◌≡◌, ℕ, ℤ, List, [], ◌∷◌, length}
+use Rattle.pv_bool.specs.Tree.{ProgramTree}
 use Rattle.pv_cnf.specs.Clause.{Cnf}
+use Rattle.pv_gate.specs.declared.netlist.Node.{Node}
 use Rattle.pv_log.specs.declared.line.Line.{Line}
 use Rattle.pv_log.specs.Follows.{Follows, IsAccepted}
 use Rattle.pv_cert.specs.declared.proof.Query.TheVariants.{Step}
@@ -11,25 +11,26 @@ use Rattle.pv_cert.specs.CertificateText.{satisfied_by, no_reduction, IsTextOf}
 use Rattle.pv_step.specs.Circuits.{circuit_of}
 use Rattle.pv_frames.specs.Formulas.{step_clauses}
 
--- the formula of step(0): some state has a scan that fails. It has a variable for each node of the step circuit
-abbrev pub step_formula : Block → Expr → Cnf
-step_formula block invariant = record {
-  variables = length (circuit_of block invariant).nodes;
-  clauses = step_clauses (circuit_of block invariant).nodes (circuit_of block invariant).fail;
-}
+-- the formula of step(0) of a circuit with these nodes: it has a variable for each of them
+abbrev pub formula_over : List Node → ℤ → Cnf
+formula_over nodes fail = record { variables = length nodes; clauses = step_clauses nodes fail }
+
+-- the formula of step(0): some state has a scan that fails
+abbrev pub step_formula : ProgramTree → Cnf
+step_formula program = formula_over (circuit_of program).nodes (circuit_of program).fail
 
 -- the log is accepted for the formula of step(0)
-abbrev pub RefutesStep : Block → Expr → List Line → Type 0
-RefutesStep block invariant log = IsAccepted (Follows (step_formula block invariant).variables) (step_formula block invariant).clauses log
+abbrev pub RefutesStep : ProgramTree → List Line → Type 0
+RefutesStep program log = IsAccepted (Follows (step_formula program).variables) (step_formula program).clauses log
 
--- step(0) is refuted for the machine of the block, without reductions
-pub record IsStepProof (block : Block) (invariant : Expr) (p : Proof) : Type 0 where
+-- step(0) is refuted for the machine of the program, without reductions
+pub record IsStepProof (program : ProgramTree) (p : Proof) : Type 0 where
   pub query : p.query ≡ Step 0
   pub chain : p.chain ≡ no_reduction
-  pub refutes : RefutesStep block invariant p.log
+  pub refutes : RefutesStep program p.log
 
 -- the bytes are the text of a certificate of 'satisfied' with k = 0, and its one proof refutes step(0)
-pub record IsValid (block : Block) (invariant : Expr) (bytes : List ℕ) : Type 0 where
+pub record IsValid (program : ProgramTree) (bytes : List ℕ) : Type 0 where
   pub proof : Proof
   pub is_text : IsTextOf bytes (satisfied_by (proof ∷ []))
-  pub is_proof : IsStepProof block invariant proof
+  pub is_proof : IsStepProof program proof

@@ -1,64 +1,66 @@
 //! The check of a certificate.
-ghost use Rattle.std.specs.Prelude.{◌≡◌, ◌↔◌, ◌<◌, ◌≤◌, ◌^◌, length, IfOk, OnOk, IfErr, IsTrue, Result, Err};
+ghost use Rattle.std.specs.Prelude.{◌≡◌, ◌↔◌, ◌<◌, ◌≤◌, ◌^◌, length, IfOk, OnOk, IfErr};
+ghost use Rattle.std.specs.Prelude.{IsTrue, Result, Err};
 ghost use Rattle.pv_gate.specs.Node.{Names, gate_count};
-ghost use Rattle.pv_frames.specs.Formulas.{step_clauses};
-ghost use Rattle.pv_mean.specs.Cells.{cells_of};
-ghost use Rattle.pv_mean.specs.Conditions.{HasNames};
+ghost use Rattle.pv_bool.specs.Programs.{program_tree};
 ghost use Rattle.pv_cert.specs.declared.proof.Query.{Query};
 ghost use Rattle.pv_recheck.specs.Form.{IsUnbuilt};
-ghost use Rattle.pv_recheck.specs.Validity.{step_formula, IsValid};
+ghost use Rattle.pv_recheck.specs.Validity.{formula_over, step_formula, IsValid};
 ghost use Rattle.pv_recheck.specs.Answers.{Answers, IsUnlessNoMemory};
-ghost use Rattle.pv_recheck.specs.Judging.{HasFewGates, ReadsAs, HasNoFormula, JudgesLog, JudgesProofs};
+ghost use Rattle.pv_recheck.specs.Judging.{HasFewGates, ReadsAs, HasNoFormula};
+ghost use Rattle.pv_recheck.specs.Judging.{JudgesLog, JudgesProofs};
 
 use crate::fault::{Kind, RecheckFault};
 use crate::form::is_unbuilt;
+use pv_bool::Program;
 use pv_cert::{CertFault, Certificate, Proof, Query, read};
 use pv_cnf::{ClauseView, Formula};
 use pv_frames::{push_step, variables};
 use pv_gate::{GateFault, MAX_INPUTS};
 use pv_log::{Checker, Log, Verdict};
 use pv_step::{StepCircuit, circuit};
-use pv_tree::{Block, Expr};
 use std::alloc::Global;
 
 /// So many gates a step circuit may have.
 pub const MAX_STEP_GATES: u32 = 1_000_000;
 
-/// Whether the bytes are a valid certificate of 'satisfied' with k = 0 for a block of BOOL variables
-/// and assignments and an invariant over its variables. The work is linear in the block, the
-/// certificate and the clauses that the log's hints name.
+/// Whether the bytes are a valid certificate of 'satisfied' with k = 0 for a program. The work is
+/// linear in the program, the certificate and the clauses that the log's hints name.
 ///
 /// The bytes are judged in this order: their form, the grammar of the whole, the first query, the
-/// number of gates of the step circuit, the log, and what stands in place of the end. So the fault is
-/// the first in the file, but for the grammar, which comes before all contents.
-pub fn check_certificate(
-    alloc: Global,
-    block: &Block,
-    invariant: &Expr,
-    bytes: &[u8],
-) -> Result<(), RecheckFault>
-    requires names { HasNames block.now invariant.now }
-    requires cells { length (cells_of block.now) ≤ MAX_INPUTS }
+/// number of gates of the step circuit, the log, and what stands in place of the end. So the fault
+/// is the first in the file, but for the grammar, which comes before all contents.
+pub fn check_certificate(alloc: Global, program: &Program, bytes: &[u8]) -> Result<(), RecheckFault>
+    requires { length program.now.bits.items ≤ MAX_INPUTS }
+
     // What is accepted is valid, and each refusal is as its case says.
-    ensures valid { OnOk result (IsValid block.now invariant.now bytes.now) }
-    ensures answer { Answers block.now invariant.now bytes.now result }
+    ensures valid { OnOk result (IsValid (program_tree program.now) bytes.now) }
+    ensures answer { Answers MAX_STEP_GATES (program_tree program.now) bytes.now result }
     // The case that holds is the answer.
-    ensures only { (other : Result (Unit {0}) RecheckFault) → (other ≡ Err RecheckFault.NoMemory → ⊥)
-        → Answers block.now invariant.now bytes.now other → IsUnlessNoMemory result other }
+    ensures only { (other : Result (Unit {0}) RecheckFault)
+        → (other ≡ Err RecheckFault.NoMemory → ⊥)
+        → Answers MAX_STEP_GATES (program_tree program.now) bytes.now other
+        → IsUnlessNoMemory result other }
 {
-    check(alloc, block, invariant, bytes)
+    check(alloc, program, MAX_STEP_GATES, bytes)
 }
 
-fn check(alloc: Global, block: &Block, invariant: &Expr, bytes: &[u8]) -> Result<(), RecheckFault>
-    requires names { HasNames block.now invariant.now }
-    requires cells { length (cells_of block.now) ≤ MAX_INPUTS }
-    ensures { Answers block.now invariant.now bytes.now result }
+/// The check under this limit on gates.
+pub(crate) fn check(
+    alloc: Global,
+    program: &Program,
+    limit: u32,
+    bytes: &[u8],
+) -> Result<(), RecheckFault>
+    requires bits { length program.now.bits.items ≤ MAX_INPUTS }
+    requires limit { limit ≤ MAX_STEP_GATES }
+    ensures { Answers limit (program_tree program.now) bytes.now result }
 {
     if is_unbuilt(bytes) {
         return Err(RecheckFault::Unbuilt);
     }
     match read_certificate(alloc, bytes) {
-        Ok(certificate) => check_proofs(alloc, block, invariant, certificate.proofs.as_slice()),
+        Ok(certificate) => check_proofs(alloc, program, limit, certificate.proofs.as_slice()),
         Err(fault) => Err(fault),
     }
 }
@@ -89,13 +91,13 @@ fn wrong_query(line: u64) -> RecheckFault
 /// The one proof that belongs to the verdict, and no other.
 fn check_proofs(
     alloc: Global,
-    block: &Block,
-    invariant: &Expr,
+    program: &Program,
+    limit: u32,
     proofs: &[Proof],
 ) -> Result<(), RecheckFault>
-    requires names { HasNames block.now invariant.now }
-    requires cells { length (cells_of block.now) ≤ MAX_INPUTS }
-    ensures { JudgesProofs block.now invariant.now proofs.now result }
+    requires bits { length program.now.bits.items ≤ MAX_INPUTS }
+    requires limit { limit ≤ MAX_STEP_GATES }
+    ensures { JudgesProofs limit (program_tree program.now) proofs.now result }
 {
     let Some((first, more)) = proofs.split_first() else {
         return Err(wrong_query(3));
@@ -103,7 +105,7 @@ fn check_proofs(
     if !is_step_zero(first.query) {
         return Err(wrong_query(3));
     }
-    if let Err(fault) = check_log(alloc, block, invariant, &first.log) {
+    if let Err(fault) = check_log(alloc, program, limit, &first.log) {
         return Err(fault);
     }
     if !more.is_empty() {
@@ -122,12 +124,12 @@ fn is_step_zero(query: Query) -> bool
 }
 
 /// The log, against the formula of step(0).
-fn check_log(alloc: Global, block: &Block, invariant: &Expr, log: &Log) -> Result<(), RecheckFault>
-    requires names { HasNames block.now invariant.now }
-    requires cells { length (cells_of block.now) ≤ MAX_INPUTS }
-    ensures { JudgesLog block.now invariant.now log.now result }
+fn check_log(alloc: Global, program: &Program, limit: u32, log: &Log) -> Result<(), RecheckFault>
+    requires bits { length program.now.bits.items ≤ MAX_INPUTS }
+    requires limit { limit ≤ MAX_STEP_GATES }
+    ensures { JudgesLog limit (program_tree program.now) log.now result }
 {
-    let formula = match step_formula(alloc, block, invariant) {
+    let formula = match step_formula(alloc, program, limit) {
         Ok(formula) => formula,
         Err(fault) => return Err(fault),
     };
@@ -147,16 +149,16 @@ fn check_log(alloc: Global, block: &Block, invariant: &Expr, log: &Log) -> Resul
     }
 }
 
-/// The formula of step(0), made from the block and the invariant.
-fn step_formula(alloc: Global, block: &Block, invariant: &Expr) -> Result<Formula, RecheckFault>
-    requires names { HasNames block.now invariant.now }
-    requires cells { length (cells_of block.now) ≤ MAX_INPUTS }
-    ensures formula { IfOk result (λ formula. formula ≡ step_formula block.now invariant.now) }
+/// The formula of step(0), made from the program.
+fn step_formula(alloc: Global, program: &Program, limit: u32) -> Result<Formula, RecheckFault>
+    requires bits { length program.now.bits.items ≤ MAX_INPUTS }
+    requires limit { limit ≤ MAX_STEP_GATES }
+    ensures formula { IfOk result (λ formula. formula ≡ step_formula (program_tree program.now)) }
     ensures small { IfOk result (λ formula. formula.variables < 2 ^ 31) }
-    ensures few { OnOk result (HasFewGates block.now invariant.now) }
-    ensures none { IfErr result (λ fault. HasNoFormula block.now invariant.now fault) }
+    ensures few { OnOk result (HasFewGates limit (program_tree program.now)) }
+    ensures none { IfErr result (λ fault. HasNoFormula limit (program_tree program.now) fault) }
 {
-    match circuit(alloc, block, invariant, MAX_STEP_GATES) {
+    match circuit(alloc, program, limit) {
         Ok(step) => formula_of(alloc, &step),
         Err(GateFault::Limit) => Err(RecheckFault::TooManyGates),
         Err(GateFault::NoMemory) => Err(RecheckFault::NoMemory),
@@ -167,7 +169,8 @@ fn step_formula(alloc: Global, block: &Block, invariant: &Expr) -> Result<Formul
 fn formula_of(alloc: Global, step: &StepCircuit) -> Result<Formula, RecheckFault>
     requires fail { Names (length step.now.gates.nodes) step.now.fail }
     requires gates { gate_count step.now.gates.nodes ≤ MAX_STEP_GATES }
-    ensures formula { IfOk result (λ formula. formula ≡ record { variables = length step.now.gates.nodes; clauses = step_clauses step.now.gates.nodes step.now.fail }) }
+    ensures formula { IfOk result
+        (λ formula. formula ≡ formula_over step.now.gates.nodes step.now.fail) }
     ensures small { IfOk result (λ formula. formula.variables < 2 ^ 31) }
     ensures err { IfErr result (λ fault. fault ≡ RecheckFault.NoMemory) }
 {

@@ -1,14 +1,17 @@
 //! Whether a certificate is of a form that isn't read yet.
 ghost use Rattle.std.specs.Prelude.{◌≡◌, ◌↔◌, ◌≢◌, List, ℕ, suc, codes, IfSome, IfNone, IsTrue};
-ghost use Rattle.pv_recheck.specs.Form.{IsLine, BeginsWith, HasOtherVerdict, HasReductions, IsUnbuilt};
+ghost use Rattle.pv_recheck.specs.Form.{IsLine, BeginsWith, HasOtherVerdict, HasReductions};
+ghost use Rattle.pv_recheck.specs.Form.{IsUnbuilt};
 
 use pv_cert::cut_line;
 
 /// Line 2 of a text, and what follows it.
 fn second(text: &[u8]) -> Option<(&[u8], &[u8])>
     ensures found { IfSome result (λ cut. IsLine 2 text.now cut.0.now) }
-    ensures rest { IfSome result (λ cut. (n : ℕ) (line : List ℕ) → IsLine (suc (suc (suc n))) text.now line ↔ IsLine (suc n) cut.1.now line) }
-    ensures none { IfNone result ((n : ℕ) (line : List ℕ) → IsLine (suc (suc n)) text.now line → ⊥) }
+    ensures rest { IfSome result (λ cut. (n : ℕ) (line : List ℕ)
+        → IsLine (suc (suc (suc n))) text.now line ↔ IsLine (suc n) cut.1.now line) }
+    ensures none { IfNone result
+        ((n : ℕ) (line : List ℕ) → IsLine (suc (suc n)) text.now line → ⊥) }
 {
     let (_, rest) = cut_line(text)?;
     cut_line(rest)
@@ -40,7 +43,8 @@ fn begins_with(text: &[u8], prefix: &[u8]) -> bool
 }
 
 fn is_other_verdict(line: &[u8]) -> bool
-    ensures { IsTrue result ↔ (BeginsWith (codes "verdict ") line.now × (line.now ≢ codes "verdict satisfied 0")) }
+    ensures { IsTrue result
+        ↔ (BeginsWith (codes "verdict ") line.now × (line.now ≢ codes "verdict satisfied 0")) }
 {
     if !begins_with(line, b"verdict ") {
         return false;

@@ -1,4 +1,6 @@
-pub mod TraceLemmas
+mod FirstCells
 mod ProgramLemmas
 mod PlaceLemmas
-pub mod MachineLemmas
+mod MachineLemmas
+mod EndLemmas
+pub mod ForCallers

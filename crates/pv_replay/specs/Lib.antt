@@ -1,4 +1,4 @@
-pub mod Traces
 pub mod Programs
+pub mod Beginnings
 pub mod Ends
 pub mod Machines

@@ -1,28 +1,24 @@
 -- A block whose names are numbers of cells, as the interpreter has it. No public clause cites this.
-use Rattle.std.specs.Prelude.{◌≡◌, ◌<◌, ℕ, List, [], ◌∷◌, length, map, ℤ, pos, slice_index_or, slice_set, position, bytes_eq, Some, All}
+use Rattle.std.specs.Prelude.{◌≡◌, ◌<◌, ℕ, List, [], ◌∷◌, length, ℤ, pos, slice_index_or, slice_set, position, bytes_eq, Some, All}
 use Rattle.std.specs.Coded.{×_prop}
 use Rattle.std.proofs.Props.{props}
 use Rattle.pv_word.specs.declared.types.Ty.TheVariants.{Bool}
 use Rattle.pv_word.specs.Types.{InRange, and_of, or_of, not_of}
-use Rattle.pv_tree.specs.declared.tree.Expr.{Expr}
-use Rattle.pv_tree.specs.declared.tree.Stmt.{Stmt}
-use Rattle.pv_tree.specs.declared.tree.Stmt.TheVariants.{Assign}
-use Rattle.pv_tree.specs.declared.tree.Operand.{Operand}
+use Rattle.pv_tree.specs.Tree.{OperandTree, ExprTree, StmtTree, assign}
 use Rattle.pv_mean.specs.declared.cell.Cell.{Cell}
-use Rattle.pv_mean.specs.Cells.{key_of_path}
-use Rattle.pv_mean.specs.Boolean.{StartsInBool}
 use Rattle.pv_mean.specs.Frames.{Frame}
+use Rattle.pv_mean.specs.Sources.{Source, entry_vars, first_cell_of}
 use Rattle.pv_mean.specs.Values.{number, value}
 use Rattle.pv_mean.specs.Statements.{normal, run_one, run_list}
 use Rattle.pv_replay.specs.declared.program.Term.{Term, Constant, Load, Not', And', Or'}
 use Rattle.pv_replay.specs.declared.program.Assignment.{Assignment}
 
 -- the parts of an assignment
-abbrev pub target_of : Stmt → Operand
-target_of (Assign target place e) = target
+abbrev pub target_of : StmtTree → OperandTree
+target_of (assign target place e) = target
 
-abbrev pub source_of : Stmt → Expr
-source_of (Assign target place e) = e
+abbrev pub source_of : StmtTree → ExprTree
+source_of (assign target place e) = e
 
 -- its cells are among the first n, its constants values of BOOL
 abbrev pub IsTerm : ℕ → Term → Type 0
@@ -46,6 +42,10 @@ AreBools frame = (k : ℕ) → InRange Bool (slice_index_or frame k (pos 0))
 pub record IsAssignment (n : ℕ) (a : Assignment) : Type 0 where
   pub target : a.target < n
   pub term : IsTerm n a.value
+
+-- a cell whose start value is one of BOOL
+abbrev pub StartsInBool : Cell → Type 0
+StartsInBool c = InRange Bool c.start
 
 -- the assignments and the term are over these cells, whose start values are of BOOL
 pub record IsResolved (cells : List Cell) (program : List Assignment) (t : Term) : Type 0 where
@@ -73,21 +73,21 @@ run_program (a ∷ more) frame = run_program more (slice_set frame a.target (val
 pub record IsNumberAmong (keys : List (List ℕ)) (key : List ℕ) (n : ℕ) : Type 0 where
   pub place : position (bytes_eq key) keys ≡ Some n
 
--- the keys of the cells' paths
-abbrev pub keys_of_cells : List Cell → List (List ℕ)
-keys_of_cells cells = map key_of_path cells
+-- in the source a name has the cell of its number among the keys
+abbrev pub IsNumbering : List (List ℕ) → Source → Type 0
+IsNumbering keys source = (key : List ℕ) (n : ℕ) → IsNumberAmong keys key n → first_cell_of (entry_vars source) key ≡ n
 
--- the term has the expression's value in each frame of cells with these keys
-pub record IsTermOf (keys : List (List ℕ)) (e : Expr) (t : Term) : Type 0 where
+-- the term has the expression's value in each frame
+pub record IsTermOf (keys : List (List ℕ)) (e : ExprTree) (t : Term) : Type 0 where
   pub within : IsTerm (length keys) t
-  pub same : (cells : List Cell) (frame : Frame) → keys_of_cells cells ≡ keys → length frame ≡ length cells → value cells frame e ≡ number (value_in frame t)
+  pub same : (source : Source) (frame : Frame) → IsNumbering keys source → value source frame e ≡ number (value_in frame t)
 
 -- the assignment does what the statement does
-pub record IsAssignmentOf (keys : List (List ℕ)) (s : Stmt) (a : Assignment) : Type 0 where
+pub record IsAssignmentOf (keys : List (List ℕ)) (s : StmtTree) (a : Assignment) : Type 0 where
   pub within : IsAssignment (length keys) a
-  pub same : (cells : List Cell) (frame : Frame) → keys_of_cells cells ≡ keys → length frame ≡ length cells → run_one cells frame s ≡ normal (slice_set frame a.target (value_in frame a.value))
+  pub same : (source : Source) (frame : Frame) → IsNumbering keys source → run_one source frame s ≡ normal (slice_set frame a.target (value_in frame a.value))
 
 -- the program does what the statements do
-pub record IsProgramOf (keys : List (List ℕ)) (ss : List Stmt) (program : List Assignment) : Type 0 where
+pub record IsProgramOf (keys : List (List ℕ)) (ss : List StmtTree) (program : List Assignment) : Type 0 where
   pub within : All (IsAssignment (length keys)) program
-  pub same : (cells : List Cell) (frame : Frame) → keys_of_cells cells ≡ keys → length frame ≡ length cells → run_list cells ss frame ≡ normal (run_program program frame)
+  pub same : (source : Source) (frame : Frame) → IsNumbering keys source → run_list source ss frame ≡ normal (run_program program frame)

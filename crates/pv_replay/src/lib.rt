@@ -1,14 +1,14 @@
-//! Replay of a trace on a block, scan by scan, up to the first scan that breaks an invariant.
+//! The interpreter: a trace, replayed on a block scan by scan.
 //!
-//! A block is turned into a program with numbered cells once (`program`), and the machine (`machine`) runs it over the
-//! scans of a trace (`trace`), which is read as it is replayed.
+//! Names are found once, before the first scan; then a scan works on numbers of cells alone.
 #![tactic(auto)]
 
 mod end;
+mod fault;
 pub mod laws;
 mod machine;
 mod program;
-mod trace;
 
 pub use end::End;
+pub use fault::ReplayFault;
 pub use machine::replay_block;

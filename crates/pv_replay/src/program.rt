@@ -1,17 +1,21 @@
-//! A block as it is replayed: its names are cell numbers, found once before the first scan.
-ghost use Rattle.std.specs.Prelude.{◌≡◌, length, slice_set, Contains, IfOk, IfErr, All};
+//! A block as it is replayed: its names are numbers of cells, found once before the first scan.
+ghost use Rattle.std.specs.Prelude.{◌≡◌, ◌<◌, ◌^◌, length, map, pos, true, slice_index_or, slice_set, Contains, IfOk, All};
 ghost use Rattle.pv_word.specs.declared.types.Ty.TheVariants.{Bool};
 ghost use Rattle.pv_word.specs.Types.{InRange};
-ghost use Rattle.pv_tree.specs.declared.fault.ReadFault.TheVariants.{NotOfForm};
-ghost use Rattle.pv_tree.specs.Scope.{key_of, statements_of, IsDeclared, IsDeclaredIn};
-ghost use Rattle.pv_mean.specs.Boolean.{BoolLiterals, HasBoolLiterals};
+ghost use Rattle.pv_tree.specs.Tree.{operand_tree, expr_tree, stmt_tree, body_trees};
+ghost use Rattle.pv_tree.specs.Names.{key_of, IsDeclared, IsDeclaredIn};
+ghost use Rattle.pv_tree.specs.FirstForm.{IsFirstExpr, IsFirstStmt};
+ghost use Rattle.pv_machine.specs.Roles.{is_input, is_stored};
 ghost use Rattle.pv_mean.specs.Frames.{input_len, begin, image_of};
+ghost use Rattle.pv_replay.specs.Beginnings.{begun, taken};
 ghost use Rattle.pv_replay.specs.Programs.{IsTerm, value_in, AreBools, IsAssignment, run_program, IsTermOf, IsAssignmentOf, IsProgramOf, IsNumberAmong, target_of, source_of};
 
+use pv_machine::Role;
 use pv_mean::Cell;
-use pv_tree::{BinaryOp, Block, Body, Expr, Operand, ReadFault, Root, Scope, Stmt, UnaryOp};
+use pv_rules::Scope;
+use pv_tree::{BinaryOp, Body, Expr, Operand, Root, Stmt, UnaryOp};
 use pv_word::Ty;
-use std::alloc::Global;
+use std::alloc::{AllocError, Global};
 
 /// An expression over the cells of a frame.
 #[derive(Drop)]
@@ -30,13 +34,13 @@ pub struct Assignment {
     pub value: Term,
 }
 
-/// The assignments of a block, in order. NotOfForm where a name isn't declared or a literal is none
-/// of BOOL.
-pub fn program_of(alloc: Global, scope: &Scope, block: &Block) -> Result<Vec<Assignment>, ReadFault>
-    ensures found { IfOk result (λ program. IsProgramOf scope.now (statements_of block.now.body) program.items) }
-    ensures refused { IfErr result (λ fault. fault ≡ NotOfForm → All (IsDeclaredIn scope.now) (statements_of block.now.body) → All HasBoolLiterals (statements_of block.now.body) → ⊥) }
+/// The assignments of a body, in order.
+pub fn program_of(alloc: Global, scope: &Scope, body: &Body) -> Result<Vec<Assignment>, AllocError>
+    requires declared { All (IsDeclaredIn scope.now) (body_trees body.now) }
+    requires form { All IsFirstStmt (body_trees body.now) }
+    ensures { IfOk result (λ program. IsProgramOf scope.now (body_trees body.now) program.items) }
 {
-    let Body::Scl(statements) = &block.body;
+    let Body::Scl(statements) = body;
     assignments_of(alloc, scope, statements)
 }
 
@@ -44,9 +48,10 @@ fn assignments_of(
     alloc: Global,
     scope: &Scope,
     statements: &[Stmt],
-) -> Result<Vec<Assignment>, ReadFault>
-    ensures found { IfOk result (λ program. IsProgramOf scope.now statements.now program.items) }
-    ensures refused { IfErr result (λ fault. fault ≡ NotOfForm → All (IsDeclaredIn scope.now) statements.now → All HasBoolLiterals statements.now → ⊥) }
+) -> Result<Vec<Assignment>, AllocError>
+    requires declared { All (IsDeclaredIn scope.now) (map stmt_tree statements.now) }
+    requires form { All IsFirstStmt (map stmt_tree statements.now) }
+    ensures { IfOk result (λ program. IsProgramOf scope.now (map stmt_tree statements.now) program.items) }
 {
     let mut program = Vec::with_capacity(alloc, statements.len())?;
     for statement in statements {
@@ -56,37 +61,26 @@ fn assignments_of(
     Ok(program)
 }
 
-fn assignment_of(alloc: Global, scope: &Scope, statement: &Stmt) -> Result<Assignment, ReadFault>
-    ensures found { IfOk result (λ a. IsAssignmentOf scope.now statement.now a) }
-    ensures refused { IfErr result (λ fault. fault ≡ NotOfForm → IsDeclaredIn scope.now statement.now → HasBoolLiterals statement.now → ⊥) }
+fn assignment_of(alloc: Global, scope: &Scope, statement: &Stmt) -> Result<Assignment, AllocError>
+    requires declared { IsDeclaredIn scope.now (stmt_tree statement.now) }
+    requires form { IsFirstStmt (stmt_tree statement.now) }
+    ensures { IfOk result (λ a. IsAssignmentOf scope.now (stmt_tree statement.now) a) }
 {
-    let target = cell_of(scope, target_of_statement(statement))?;
-    let value = term_of(alloc, scope, source_of_statement(statement))?;
+    let Stmt::Assign { target, value, .. } = statement;
+    let target = cell_of(scope, target);
+    let value = term_of(alloc, scope, value)?;
     Ok(Assignment { target, value })
 }
 
-fn target_of_statement(statement: &Stmt) -> &Operand
-    ensures { result.now ≡ target_of statement.now }
-{
-    let Stmt::Assign { target, .. } = statement;
-    target
-}
-
-fn source_of_statement(statement: &Stmt) -> &Expr
-    ensures { result.now ≡ source_of statement.now }
-{
-    let Stmt::Assign { value, .. } = statement;
-    value
-}
-
-/// The term of an expression. NotOfForm where a name isn't declared or a literal is none of BOOL.
-pub fn term_of(alloc: Global, scope: &Scope, expr: &Expr) -> Result<Term, ReadFault>
-    ensures found { IfOk result (λ term. IsTermOf scope.now expr.now term) }
-    ensures refused { IfErr result (λ fault. fault ≡ NotOfForm → IsDeclared scope.now expr.now → BoolLiterals expr.now → ⊥) }
+/// The term of an expression.
+pub fn term_of(alloc: Global, scope: &Scope, expr: &Expr) -> Result<Term, AllocError>
+    requires declared { IsDeclared scope.now (expr_tree expr.now) }
+    requires form { IsFirstExpr (expr_tree expr.now) }
+    ensures { IfOk result (λ term. IsTermOf scope.now (expr_tree expr.now) term) }
 {
     match expr {
-        Expr::Lit { value, .. } => constant(*value),
-        Expr::Read(operand) => Ok(Term::Load(cell_of(scope, operand)?)),
+        Expr::Lit { value, .. } => Ok(Term::Constant(*value)),
+        Expr::Read(operand) => Ok(Term::Load(cell_of(scope, operand))),
         Expr::Unary { op, arg, .. } => {
             let arg = Box::new(alloc, term_of(alloc, scope, arg)?)?;
             match op {
@@ -110,28 +104,13 @@ pub fn term_of(alloc: Global, scope: &Scope, expr: &Expr) -> Result<Term, ReadFa
     }
 }
 
-/// The term of a literal. NotOfForm where it is no value of BOOL.
-fn constant(value: i128) -> Result<Term, ReadFault>
-    ensures found { IfOk result (λ term. (term ≡ Term.Constant value) × InRange Bool value) }
-    ensures refused { IfErr result (λ fault. InRange Bool value → ⊥) }
-{
-    if pv_word::in_range(Ty::Bool, value) {
-        Ok(Term::Constant(value))
-    } else {
-        Err(ReadFault::NotOfForm)
-    }
-}
-
-/// The number of the operand's cell. NotOfForm where its name isn't declared.
-fn cell_of(scope: &Scope, operand: &Operand) -> Result<usize, ReadFault>
-    ensures found { IfOk result (λ n. IsNumberAmong scope.now (key_of operand.now) n) }
-    ensures refused { IfErr result (λ fault. Contains scope.now (key_of operand.now) → ⊥) }
+/// The number of the operand's cell.
+fn cell_of(scope: &Scope, operand: &Operand) -> usize
+    requires { Contains scope.now (key_of (operand_tree operand.now)) }
+    ensures { IsNumberAmong scope.now (key_of (operand_tree operand.now)) result }
 {
     let Root::Local { name, .. } = &operand.root;
-    match scope.find(name) {
-        Some(number) => Ok(number),
-        None => Err(ReadFault::NotOfForm),
-    }
+    scope.find(name).unwrap()
 }
 
 /// The value of a term in a frame.
@@ -154,7 +133,8 @@ pub fn value_of(term: &Term, frame: &[i128]) -> i128
     }
 }
 
-/// Puts the input's values into the input cells, in table order.
+/// Begins a scan: the input's values stand in the input cells, in table order, and what isn't stored from scan to scan is
+/// zero.
 pub fn place(cells: &[Cell], input: &[i128], frame: &mut [i128])
     requires cells { length frame.old ≡ length cells.now }
     requires inputs { length input.now ≡ input_len cells.now }
@@ -165,11 +145,35 @@ pub fn place(cells: &[Cell], input: &[i128], frame: &mut [i128])
 {
     let mut next = 0;
     for (number, cell) in cells.iter().enumerate() {
-        if cell.role.is_input() {
-            frame[number] = input[next];
-            next += 1;
-        }
+        let own = frame[number];
+        frame[number] = begun(cell.role, input, next, own);
+        next = taken(cell.role, next);
     }
+}
+
+/// The value with which a cell begins a scan.
+fn begun(role: Role, input: &[i128], next: usize, own: i128) -> i128
+    requires within { is_input role ≡ true → next < length input.now }
+    requires bools { AreBools input.now }
+    requires own { InRange Bool own }
+    ensures value { result ≡ begun (is_input role) (is_stored role) (slice_index_or input.now next (pos 0)) own }
+    ensures range { InRange Bool result }
+{
+    if role.is_input() {
+        input[next]
+    } else if role.is_stored() {
+        own
+    } else {
+        0
+    }
+}
+
+/// How many values of the input are taken behind a cell.
+fn taken(role: Role, next: usize) -> usize
+    requires { is_input role ≡ true → next < 2 ^ 63 }
+    ensures { result ≡ taken (is_input role) next }
+{
+    if role.is_input() { next + 1 } else { next }
 }
 
 /// Runs the assignments in order.

@@ -1,39 +1,36 @@
--- The nodes before a scan, one by one, and the literals of some of the cells.
-use Rattle.std.proofs.Common.{◌≡◌, ◌+◌, ◌<◌, ℕ, zero, suc, ℤ, pos, List, [], ◌∷◌, ◌++◌, length, map, refl, sym, ◌∙◌, ap, subst, arith, Bool, true, false, cond, drop, get_or, drop-cons, append_assoc, not, to_z, of_z, w32}
+-- The nodes before a scan, one by one, and the literals with which it begins.
+use Rattle.std.proofs.Common.{◌≡◌, ◌+◌, ◌<◌, ◌≤◌, ℕ, zero, suc, ℤ, pos, List, [], ◌∷◌, ◌++◌, length, map, refl, sym, ◌∙◌, ap, subst}
+use Rattle.std.proofs.Common.{arith}
+use Rattle.std.proofs.Common.{Bool, true, false, cond, not, take, get_or, length-take-le, to_z, of_z, w32}
+use Rattle.std.proofs.Common.{Some}
+use Rattle.std.specs.List.{count_by, range_with_len, slice_get}
 use Rattle.std.proofs.lemmas.Int.{to_z-of_z}
-use mir.Val.{SFits}
-use Rattle.std.specs.List.{count_by}
-use Rattle.std.specs.Prelude.{All}
-use Rattle.std.proofs.lemmas.List.{length-map}
-use Rattle.pv_tree.specs.declared.tree.Var.{Var}
-use Rattle.pv_tree.specs.declared.tree.Block.{Block}
-use Rattle.pv_tree.specs.Scope.{keys_of}
-use Rattle.std.proofs.lemmas.List.Sums.{sum_by_push}
+use Rattle.std.proofs.lemmas.List.{take_more}
+use Rattle.std.proofs.lemmas.List.Sums.{sum_by_push, sum_by-append, count_by-le-length}
 use Rattle.std.proofs.lemmas.List.FromFn.{map-range_with_len_more, length-map-range_with_len, get_or-map-range_with_len}
+use Rattle.std.proofs.lemmas.Option.{slice_get-get_or}
+use mir.Val.{SFits}
 use Rattle.pv_gate.specs.declared.netlist.Node.{Node}
 use Rattle.pv_gate.specs.declared.netlist.Node.TheVariants.{True, Input}
-use Rattle.pv_gate.specs.Node.{Names, is_gate, is_input, gate_count, input_count}
-use Rattle.pv_gate.specs.Netlist.{Netlist}
-use Rattle.pv_gate.specs.Build.{input_gate}
-use Rattle.pv_mean.specs.declared.cell.Cell.{Cell}
-use Rattle.pv_mean.specs.Cells.{key_of_path, cell_of, cells_of, is_input as takes_input}
-use Rattle.pv_mean.specs.Frames.{image_of, input_of}
-use Rattle.pv_step.specs.Circuits.{begin_nodes, begin_literals}
+use Rattle.pv_gate.specs.Node.{is_gate, is_input, gate_count, input_count, false_literal}
+use Rattle.pv_gate.specs.Netlist.{Netlist, IsNetlist, MayFollow}
+use Rattle.pv_gate.specs.Value.{value_of, node_values, literal_value}
+use Rattle.pv_gate.proofs.ForCallers.{IsNetlist-push, node_values_at}
+use Rattle.pv_bool.specs.declared.program.Bit.{Bit}
+use Rattle.pv_step.specs.Wiring.{next_net, next_literal}
+use Rattle.pv_step.specs.Circuits.{is_given, given_count, begin_nodes, begin_from, begin_literals}
 
-pub begin_nodes-more : (n : ℕ) → begin_nodes (n + 1) ≡ begin_nodes n ++ Input n ∷ []
+begin_nodes-more : (n : ℕ) → begin_nodes (n + 1) ≡ begin_nodes n ++ Input n ∷ []
 begin_nodes-more n = ap (λ (ns : List Node). True ∷ ns) (map-range_with_len_more (λ i. Input i) 0 n n (omega arith))
-
-pub begin_literals-more : (n : ℕ) → begin_literals (n + 1) ≡ begin_literals n ++ pos (2 + n) ∷ []
-begin_literals-more n = map-range_with_len_more (λ i. pos (2 + i)) 0 n n (omega arith)
 
 pub length-begin_nodes : (n : ℕ) → length (begin_nodes n) ≡ 1 + n
 length-begin_nodes n = omega (arith, length-map-range_with_len {X = Node} (λ i. Input i) 0 n)
 
-pub length-begin_literals : (n : ℕ) → length (begin_literals n) ≡ n
-length-begin_literals n = length-map-range_with_len {X = ℤ} (λ i. pos (2 + i)) 0 n
-
-count-more : (test : Node → Bool) (n : ℕ) (b : Bool) → test (Input n) ≡ b → count_by test (begin_nodes (n + 1)) ≡ count_by test (begin_nodes n) + cond b 1 0
-count-more test n b is = ap (count_by test) (begin_nodes-more n) ∙ (sum_by_push (λ x. cond (test x) 1 0) (begin_nodes n) (Input n) ∙ ap (λ t. count_by test (begin_nodes n) + cond t 1 0) is)
+count-more : (test : Node → Bool) (n : ℕ) (b : Bool) → test (Input n) ≡ b
+    → count_by test (begin_nodes (n + 1)) ≡ count_by test (begin_nodes n) + cond b 1 0
+count-more test n b is =
+    ap (count_by test) (begin_nodes-more n)
+    ∙ (sum_by_push (λ x. cond (test x) 1 0) (begin_nodes n) (Input n) ∙ ap (λ t. count_by test (begin_nodes n) + cond t 1 0) is)
 
 pub input_count-begin : (n : ℕ) → input_count (begin_nodes n) ≡ n
 input_count-begin zero = refl
@@ -47,97 +44,137 @@ gate_count-begin (suc n) =
     let next : suc n ≡ n + 1 = omega arith in
     ap (λ m. gate_count (begin_nodes m)) next ∙ omega (arith, count-more is_gate n false refl, gate_count-begin n)
 
--- ---- the loop that makes the inputs
+-- ---- they are in order, and an input has its own value
 
-pub at_inputs : (n limit : ℕ) (old : Netlist) → old ≡ record { nodes = begin_nodes n; limit = limit } → input_count old.nodes ≡ n
-at_inputs n limit old is = ap (λ (o : Netlist). input_count o.nodes) is ∙ input_count-begin n
+one_netlist : IsNetlist (True ∷ [])
+one_netlist = record { first = refl; each = λ k node at. alone k node at }
+  where
+    alone : (k : ℕ) (node : Node) → slice_get (True ∷ []) k ≡ Some node → MayFollow (take k (True ∷ [])) node
+    alone zero node at = let e : True ≡ node = cc in let P : Node → Type 0 = λ x. MayFollow [] x in subst P e refl
+    alone (suc k) node at = cc
 
-pub next_nodes : (n limit : ℕ) (old new : Netlist) → old ≡ record { nodes = begin_nodes n; limit = limit } → new ≡ record old { nodes = (input_gate old.nodes).nodes } → new ≡ record { nodes = begin_nodes (n + 1); limit = limit }
-next_nodes n limit old new is made =
-    let at : Netlist = record { nodes = begin_nodes n; limit = limit } in
-    let step : Netlist → Netlist = λ o. record o { nodes = (input_gate o.nodes).nodes } in
-    let named : List Node → ℕ → Netlist = λ ns i. record { nodes = ns ++ Input i ∷ []; limit = limit } in
-    let of : List Node → Netlist = λ ns. record { nodes = ns; limit = limit } in
-    made ∙ (ap step is ∙ (ap (named (begin_nodes n)) (input_count-begin n) ∙ ap of (sym (begin_nodes-more n))))
+pub netlist_begin : (n : ℕ) → IsNetlist (begin_nodes n)
+netlist_begin zero = one_netlist
+netlist_begin (suc n) =
+    let next : n + 1 ≡ suc n = omega arith in
+    let P : List Node → Type 0 = λ ns. IsNetlist ns in
+    subst P (sym (begin_nodes-more n) ∙ ap begin_nodes next) (IsNetlist-push (begin_nodes n) (Input n) (netlist_begin n)
+    (sym (input_count-begin n)))
 
-pub next_literal : (n limit : ℕ) (old : Netlist) (literal : ℤ) → old ≡ record { nodes = begin_nodes n; limit = limit } → literal ≡ (input_gate old.nodes).literal → literal ≡ pos (2 + n)
-next_literal n limit old literal is made =
-    let len : suc (length old.nodes) ≡ 2 + n = omega (arith, ap (λ (o : Netlist). length o.nodes) is, length-begin_nodes n) in
-    made ∙ ap pos len
+pub begin_value : (inputs : ℕ → Bool) (n k : ℕ) → k < n → value_of inputs (begin_nodes n) (pos (2 + k)) ≡ inputs k
+unfolding value_of
+begin_value inputs n k lt =
+    let e : 2 + k ≡ suc (suc k) = omega arith in
+    let nodes = map (λ i. Input i) (range_with_len 0 n) in
+    let within : k < length nodes = omega (arith, length-map-range_with_len {X = Node} (λ i. Input i) 0 n) in
+    let at : slice_get (begin_nodes n) (suc k) ≡ Some (Input k) =
+    slice_get-get_or nodes k True within ∙ ap Some (get_or-map-range_with_len (λ i. Input i) 0 n k k True lt (omega arith)) in
+    ap (λ m. literal_value (node_values inputs (begin_nodes n)) (pos m)) e
+    ∙ node_values_at inputs (begin_nodes n) (suc k) (Input k) (netlist_begin n) at
 
-pub next_literals : (n : ℕ) (before after : List ℤ) (literal : ℤ) → before ≡ begin_literals n → literal ≡ pos (2 + n) → after ≡ before ++ literal ∷ [] → after ≡ begin_literals (n + 1)
-next_literals n before after literal so_far is grown = grown ∙ (ap (λ ls. ls ++ literal ∷ []) so_far ∙ (ap (λ l. begin_literals n ++ l ∷ []) is ∙ sym (begin_literals-more n)))
+-- ---- the literals
+
+pub length-begin_from : (m : ℕ) (bits : List Bit) → length (begin_from m bits) ≡ length bits
+length-begin_from m [] = refl
+length-begin_from m (b ∷ bs) = by (is_given b.role) (length-begin_from (m + 1) bs) (length-begin_from m bs)
+  where
+    by : (t : Bool) → length (begin_from (m + 1) bs) ≡ length bs → length (begin_from m bs) ≡ length bs
+        → length (cond t (pos (2 + m) ∷ begin_from (m + 1) bs) (false_literal ∷ begin_from m bs)) ≡ suc (length bs)
+    by true h k = ap suc h
+    by false h k = ap suc k
+
+pub given_count-cons : (b : Bit) (bs : List Bit) → given_count (b ∷ bs) ≡ cond (is_given b.role) 1 0 + given_count bs
+given_count-cons b bs = sum_by_front
+  where
+    sum_by_front : given_count (b ∷ bs) ≡ cond (is_given b.role) 1 0 + given_count bs
+    sum_by_front = omega (arith, sum_by-append (λ (x : Bit). cond (is_given x.role) 1 0) (b ∷ []) bs)
+
+given_count-push : (bits : List Bit) (b : Bit) → given_count (bits ++ b ∷ []) ≡ given_count bits + cond (is_given b.role) 1 0
+given_count-push bits b = sum_by_push (λ (x : Bit). cond (is_given x.role) 1 0) bits b
+
+begin_from-push : (m : ℕ) (bits : List Bit) (b : Bit) → begin_from m (bits ++ b ∷ [])
+    ≡ begin_from m bits ++ cond (is_given b.role) (pos (2 + (m + given_count bits))) false_literal ∷ []
+begin_from-push m [] b = by (is_given b.role)
+  where
+    by : (t : Bool) → cond t (pos (2 + m) ∷ []) (false_literal ∷ []) ≡ cond t (pos (2 + (m + given_count []))) false_literal ∷ []
+    by true = let e : 2 + m ≡ 2 + (m + 0) = omega arith in ap (λ n. pos n ∷ []) e
+    by false = refl
+begin_from-push m (c ∷ bits) b = by (is_given c.role) (begin_from-push (m + 1) bits b) (begin_from-push m bits b) (given_count-cons c bits)
+  where
+    by : (t : Bool) → begin_from (m + 1) (bits ++ b ∷ []) ≡ begin_from (m + 1) bits ++ cond (is_given b.role)
+        (pos (2 + (m + 1 + given_count bits))) false_literal ∷ []
+        → begin_from m (bits ++ b ∷ []) ≡ begin_from m bits ++ cond (is_given b.role) (pos (2 + (m + given_count bits))) false_literal ∷ []
+        → given_count (c ∷ bits) ≡ cond t 1 0 + given_count bits
+        → cond t (pos (2 + m) ∷ begin_from (m + 1) (bits ++ b ∷ [])) (false_literal ∷ begin_from m (bits ++ b ∷ []))
+        ≡ cond t (pos (2 + m) ∷ begin_from (m + 1) bits) (false_literal ∷ begin_from m bits) ++ cond (is_given b.role)
+        (pos (2 + (m + given_count (c ∷ bits)))) false_literal ∷ []
+    by true h k n =
+        let e : m + 1 + given_count bits ≡ m + given_count (c ∷ bits) = omega arith in
+        ap (λ ls. pos (2 + m) ∷ ls) (h ∙ ap (λ i. begin_from (m + 1) bits ++ cond (is_given b.role) (pos (2 + i)) false_literal ∷ []) e)
+    by false h k n =
+        let e : m + given_count bits ≡ m + given_count (c ∷ bits) = omega arith in
+        ap (λ ls. false_literal ∷ ls) (k ∙ ap (λ i. begin_from m bits ++ cond (is_given b.role) (pos (2 + i)) false_literal ∷ []) e)
+
+-- ---- the loop that makes them
+
+module _ (bits : List Bit) (k : ℕ) (d : Bit) (lt : k < length bits) where
+  abbrev b : Bit
+  b = get_or bits k d
+
+  front : take (k + 1) bits ≡ take k bits ++ b ∷ []
+  front = take_more bits k d lt
+
+  next_count : given_count (take (k + 1) bits) ≡ given_count (take k bits) + cond (is_given b.role) 1 0
+  next_count = ap given_count front ∙ given_count-push (take k bits) b
+
+  pub next_nodes : (limit : ℕ) (old new : Netlist) → old ≡ record { nodes = begin_nodes (given_count (take k bits)); limit = limit }
+      → new ≡ next_net (is_given b.role) old
+      → new ≡ record { nodes = begin_nodes (given_count (take (k + 1) bits)); limit = limit }
+  next_nodes limit old new at made = made ∙ (ap (next_net (is_given b.role)) at ∙ (by (is_given b.role) ∙ ap of (sym next_count)))
+    where
+      of : ℕ → Netlist
+      of i = record { nodes = begin_nodes i; limit = limit }
+
+      by : (t : Bool) → next_net t (record { nodes = begin_nodes (given_count (take k bits)); limit = limit })
+          ≡ record { nodes = begin_nodes (given_count (take k bits) + cond t 1 0); limit = limit }
+      by true =
+          let named : ℕ → Netlist = λ i. record { nodes = begin_nodes (given_count (take k bits)) ++ Input i ∷ []; limit = limit } in
+          let with : List Node → Netlist = λ ns. record { nodes = ns; limit = limit } in
+          ap named (input_count-begin (given_count (take k bits))) ∙ ap with (sym (begin_nodes-more (given_count (take k bits))))
+      by false = let e : given_count (take k bits) ≡ given_count (take k bits) + 0 = omega arith in ap
+          (λ i. let at : Netlist = record { nodes = begin_nodes i; limit = limit } in at) e
+
+  pub next_literals : (limit : ℕ) (old : Netlist) (before after : List ℤ) (literal : ℤ)
+      → old ≡ record { nodes = begin_nodes (given_count (take k bits)); limit = limit } → before ≡ begin_literals (take k bits)
+      → literal ≡ next_literal (is_given b.role) old → after ≡ before ++ literal ∷ [] → after ≡ begin_literals (take (k + 1) bits)
+  next_literals limit old before after literal at so_far made grown =
+      grown ∙ (ap (λ ls. ls ++ literal ∷ []) so_far ∙ (ap (λ l. begin_literals (take k bits) ++ l ∷ [])
+      (made ∙ (ap (next_literal (is_given b.role)) at ∙ by (is_given b.role)))
+      ∙ (sym (begin_from-push 0 (take k bits) b) ∙ ap begin_literals (sym front))))
+    where
+      by : (t : Bool) → next_literal t (record { nodes = begin_nodes (given_count (take k bits)); limit = limit })
+          ≡ cond t (pos (2 + (0 + given_count (take k bits)))) false_literal
+      by true = let e : suc (length (begin_nodes (given_count (take k bits))))
+          ≡ 2 + (0 + given_count (take k bits)) = omega (arith, length-begin_nodes (given_count (take k bits))) in ap pos e
+      by false = refl
 
 -- a list after a push of a signed number
-pub pushed : (xs ys : List ℤ) (ok err : Bool) (z : ℤ) → ys ≡ cond ok (xs ++ to_z w32 (of_z w32 z) ∷ []) xs → ok ≡ not err → err ≡ false → SFits w32 z → ys ≡ xs ++ z ∷ []
+pub pushed : (xs ys : List ℤ) (ok err : Bool) (z : ℤ) → ys ≡ cond ok (xs ++ to_z w32 (of_z w32 z) ∷ []) xs → ok ≡ not err → err ≡ false
+    → SFits w32 z → ys ≡ xs ++ z ∷ []
 pushed xs ys ok err z e f h fits =
     let grown = λ (b : Bool). cond b (xs ++ to_z w32 (of_z w32 z) ∷ []) xs in
     e ∙ (ap grown (f ∙ ap not h) ∙ ap (λ l. xs ++ l ∷ []) (to_z-of_z w32 z fits))
 
--- ---- the loops that pick the literals of some cells
-
--- the cells and the literals from number n on, at its cell
-split_cells : (cells : List Cell) (n : ℕ) (cell : Cell) → n < length cells → cell ≡ get_or cells n cell → drop n cells ≡ cell ∷ drop (n + 1) cells
-split_cells cells n cell lt is =
-    let next : suc n ≡ n + 1 = omega arith in
-    drop-cons cells n cell lt ∙ (ap (λ c. c ∷ drop (suc n) cells) (sym is) ∙ ap (λ m. cell ∷ drop m cells) next)
-
-split_literals : (literals : List ℤ) (n : ℕ) → n < length literals → drop n literals ≡ get_or literals n (pos 0) ∷ drop (n + 1) literals
-split_literals literals n lt =
-    let next : suc n ≡ n + 1 = omega arith in
-    drop-cons literals n (pos 0) lt ∙ ap (λ m. get_or literals n (pos 0) ∷ drop m literals) next
-
-image_at : (cells : List Cell) (literals : List ℤ) (n : ℕ) (cell : Cell) → n < length cells → length literals ≡ length cells → cell ≡ get_or cells n cell → image_of (drop n cells) (drop n literals) ≡ cond (takes_input cell.role) (image_of (drop (n + 1) cells) (drop (n + 1) literals)) (get_or literals n (pos 0) ∷ image_of (drop (n + 1) cells) (drop (n + 1) literals))
-image_at cells literals n cell lt len is = ap (λ cs. image_of cs (drop n literals)) (split_cells cells n cell lt is) ∙ ap (image_of (cell ∷ drop (n + 1) cells)) (split_literals literals n (omega arith))
-
-input_at : (cells : List Cell) (literals : List ℤ) (n : ℕ) (cell : Cell) → n < length cells → length literals ≡ length cells → cell ≡ get_or cells n cell → input_of (drop n cells) (drop n literals) ≡ cond (takes_input cell.role) (get_or literals n (pos 0) ∷ input_of (drop (n + 1) cells) (drop (n + 1) literals)) (input_of (drop (n + 1) cells) (drop (n + 1) literals))
-input_at cells literals n cell lt len is = ap (λ cs. input_of cs (drop n literals)) (split_cells cells n cell lt is) ∙ ap (input_of (cell ∷ drop (n + 1) cells)) (split_literals literals n (omega arith))
-
--- one cell more, whose literal is picked, or isn't
-picked : (all found grown rest later : List ℤ) (l : ℤ) → all ≡ found ++ rest → rest ≡ l ∷ later → grown ≡ found ++ l ∷ [] → all ≡ grown ++ later
-picked all found grown rest later l so_far split is = so_far ∙ (ap (λ r. found ++ r) split ∙ (sym (append_assoc found (l ∷ []) later) ∙ ap (λ g. g ++ later) (sym is)))
-
-passed_over : (all found grown rest later : List ℤ) → all ≡ found ++ rest → rest ≡ later → grown ≡ found → all ≡ grown ++ later
-passed_over all found grown rest later so_far same is = so_far ∙ (ap (λ r. found ++ r) same ∙ ap (λ g. g ++ later) (sym is))
-
-pub image_picked : (cells : List Cell) (literals : List ℤ) (n : ℕ) (cell : Cell) (found grown : List ℤ) (taken : Bool) → n < length cells → length literals ≡ length cells → cell ≡ get_or cells n cell → taken ≡ takes_input cell.role → taken ≡ false → image_of cells literals ≡ found ++ image_of (drop n cells) (drop n literals) → grown ≡ found ++ get_or literals n (pos 0) ∷ [] → image_of cells literals ≡ grown ++ image_of (drop (n + 1) cells) (drop (n + 1) literals)
-image_picked cells literals n cell found grown taken lt len is role kept so_far grown_is =
-    let later = image_of (drop (n + 1) cells) (drop (n + 1) literals) in
-    let l = get_or literals n (pos 0) in
-    picked _ found grown _ later l so_far (image_at cells literals n cell lt len is ∙ ap (λ b. cond b later (l ∷ later)) (sym role ∙ kept)) grown_is
-
-pub image_passed : (cells : List Cell) (literals : List ℤ) (n : ℕ) (cell : Cell) (found grown : List ℤ) (taken : Bool) → n < length cells → length literals ≡ length cells → cell ≡ get_or cells n cell → taken ≡ takes_input cell.role → taken ≡ true → image_of cells literals ≡ found ++ image_of (drop n cells) (drop n literals) → grown ≡ found → image_of cells literals ≡ grown ++ image_of (drop (n + 1) cells) (drop (n + 1) literals)
-image_passed cells literals n cell found grown taken lt len is role kept so_far grown_is =
-    let later = image_of (drop (n + 1) cells) (drop (n + 1) literals) in
-    let l = get_or literals n (pos 0) in
-    passed_over _ found grown _ later so_far (image_at cells literals n cell lt len is ∙ ap (λ b. cond b later (l ∷ later)) (sym role ∙ kept)) grown_is
-
-pub input_picked : (cells : List Cell) (literals : List ℤ) (n : ℕ) (cell : Cell) (found grown : List ℤ) (taken : Bool) → n < length cells → length literals ≡ length cells → cell ≡ get_or cells n cell → taken ≡ takes_input cell.role → taken ≡ true → input_of cells literals ≡ found ++ input_of (drop n cells) (drop n literals) → grown ≡ found ++ get_or literals n (pos 0) ∷ [] → input_of cells literals ≡ grown ++ input_of (drop (n + 1) cells) (drop (n + 1) literals)
-input_picked cells literals n cell found grown taken lt len is role kept so_far grown_is =
-    let later = input_of (drop (n + 1) cells) (drop (n + 1) literals) in
-    let l = get_or literals n (pos 0) in
-    picked _ found grown _ later l so_far (input_at cells literals n cell lt len is ∙ ap (λ b. cond b (l ∷ later) later) (sym role ∙ kept)) grown_is
-
-pub input_passed : (cells : List Cell) (literals : List ℤ) (n : ℕ) (cell : Cell) (found grown : List ℤ) (taken : Bool) → n < length cells → length literals ≡ length cells → cell ≡ get_or cells n cell → taken ≡ takes_input cell.role → taken ≡ false → input_of cells literals ≡ found ++ input_of (drop n cells) (drop n literals) → grown ≡ found → input_of cells literals ≡ grown ++ input_of (drop (n + 1) cells) (drop (n + 1) literals)
-input_passed cells literals n cell found grown taken lt len is role kept so_far grown_is =
-    let later = input_of (drop (n + 1) cells) (drop (n + 1) literals) in
-    let l = get_or literals n (pos 0) in
-    passed_over _ found grown _ later so_far (input_at cells literals n cell lt len is ∙ ap (λ b. cond b (l ∷ later) later) (sym role ∙ kept)) grown_is
-
--- ---- what the beginning keeps
-
-pub names-begin : (n : ℕ) → All (Names (length (begin_nodes n))) (begin_literals n)
-names-begin n = λ k d lt.
-    let below : k < n = omega (arith, length-begin_literals n) in
-    let at : get_or (begin_literals n) k d ≡ pos (2 + k) = get_or-map-range_with_len (λ i. pos (2 + i)) 0 n k k d below (omega arith) in
-    let P : ℤ → Type 0 = λ l. Names (length (begin_nodes n)) l in
-    subst P (sym at) (record { from_one = omega arith; to_last = omega (arith, length-begin_nodes n) })
-
--- a block has as many keys as cells
-pub keys_count : (block : Block) → length (keys_of block.interface.vars.items) ≡ length (cells_of block)
-keys_count block = length-map block.interface.vars.items (λ (v : Var). v.name.key) ∙ sym (length-map block.interface.vars.items cell_of)
-
--- the cells have the keys of the variables
-pub keys_same : (vars : List Var) → map key_of_path (map cell_of vars) ≡ map (λ v. v.name.key) vars
-keys_same [] = refl
-keys_same (v ∷ vs) = ap (λ k. k ∷ map key_of_path (map cell_of vs)) (sym v.word) ∙ ap (λ ks. v.name.key ∷ ks) (keys_same vs)
+-- there is room for another input
+pub room : (bits : List Bit) (k limit most : ℕ) (old : Netlist) → old
+    ≡ record { nodes = begin_nodes (given_count (take k bits)); limit = limit } → k < length bits → length bits ≤ most
+    → input_count old.nodes < most
+room bits k limit most old at lt few =
+    omega (
+      arith,
+      ap (λ (g : Netlist). input_count g.nodes) at,
+      input_count-begin (given_count (take k bits)),
+      count_by-le-length
+          (λ (b : Bit). is_given b.role) (take k bits),
+      length-take-le k bits (omega arith),
+    )

@@ -1,26 +1,30 @@
--- A circuit only grows, and by gates alone.
-use Rattle.std.proofs.Common.{◌≡◌, ◌≤◌, ◌<◌, ◌+◌, ℕ, ℤ, pos, neg_ℤ, List, [], ◌∷◌, ◌++◌, length, refl, sym, ◌∙◌, ap, subst, arith, Option, Some, None, Result, Ok, Err, append-nil, append_assoc, length-append}
+-- A circuit only grows, and by gates alone. This holds of every gate without a condition, by cases on its tests. It gives the clause on
+-- Limit at each `?` (`gate_count-grows`), keeps names and values, and counts nodes (`others-grows`).
+--
+-- At a `?` whose clause is a record over the result: `at_fault` takes `c.from_residual.ensures.1` and what the fault means; the record's
+-- other fields are `tt`. `cond_both _ _ _ P` leaves its `_` open where no proof in it shows the test: a lemma `grown_if` by cases on the
+-- test, with tests and branches given, closes.
+use Rattle.std.proofs.Common.{◌≡◌, ◌≤◌, ◌<◌, ◌+◌, ℕ, suc, ℤ, pos, neg_ℤ, List, [], ◌∷◌, ◌++◌, length, map, refl, sym, ◌∙◌, ap, subst, arith}
+use Rattle.std.proofs.Common.{Option, Some, None, Result, Ok, Err, append-nil, append_assoc, length-append, drop, get_or, drop-cons, Bool}
+use Rattle.std.proofs.Common.{true, false, All}
+use Rattle.std.proofs.Common.{◌||◌, cond, to_z, of_z, w32}
 use Rattle.std.specs.Result.{IsErrAnd}
-use Rattle.std.proofs.Common.{suc, drop, get_or, drop-cons, Bool, true, false, ◌||◌, cond, to_z, of_z, w32}
-use Rattle.std.proofs.lemmas.Int.{to_z-of_z}
-use mir.Val.{SFits}
 use Rattle.std.specs.Ordering.{int_eq}
+use Rattle.std.proofs.lemmas.Int.{to_z-of_z}
+use Rattle.std.proofs.lemmas.List.{length-map, get_or-map}
 use Rattle.std.proofs.lemmas.List.Sums.{sum_by-append}
-use Rattle.pv_tree.specs.declared.tree.UnaryOp.{UnaryOp}
-use Rattle.pv_tree.specs.declared.tree.UnaryOp.TheVariants.{Not}
-use Rattle.pv_tree.specs.declared.tree.BinaryOp.{BinaryOp}
-use Rattle.pv_tree.specs.declared.tree.BinaryOp.TheVariants.{And as AndOp, Or as OrOp}
-use Rattle.pv_tree.specs.declared.tree.Expr.{Expr, Lit, Read, Unary', Binary', Paren'}
-use Rattle.pv_tree.specs.declared.tree.Stmt.{Stmt}
-use Rattle.pv_tree.specs.declared.tree.Stmt.TheVariants.{Assign}
+use mir.Val.{SFits}
 use Rattle.pv_gate.specs.declared.fault.GateFault.{GateFault}
 use Rattle.pv_gate.specs.declared.fault.GateFault.TheVariants.{Limit}
 use Rattle.pv_gate.specs.declared.netlist.Node.{Node}
 use Rattle.pv_gate.specs.declared.netlist.Node.TheVariants.{And}
 use Rattle.pv_gate.specs.Node.{is_gate, is_input, gate_count, input_count, true_literal, false_literal}
 use Rattle.pv_gate.specs.Netlist.{Netlist}
-use Rattle.pv_gate.specs.Build.{Made, IsBeyond, present, complemented, share, shared_at, number_of, lower, higher, and_gate, or_gate}
-use Rattle.pv_step.specs.Circuits.{Literals, Wires, with_made, unary_gate, binary_gate, expression_gate, assign_gate, statement_gates, scan_gate}
+use Rattle.pv_gate.specs.Build.{Made, IsBeyond, present, share, shared_at, number_of, lower, higher, and_gate, or_gate}
+use Rattle.pv_bool.specs.declared.program.Assignment.{Assignment}
+use Rattle.pv_bool.specs.Tree.{TermTree, constant, load, negation, conjunction, disjunction, AssignmentTree, assignment_tree}
+use Rattle.pv_bool.specs.Tree.{IsAssignmentOver}
+use Rattle.pv_step.specs.Circuits.{Literals, Wires, with_made, term_gate, assign_gate, body_gates, scan_gate}
 use Rattle.pv_step.specs.Wiring.{Gives}
 
 -- new has the nodes of old, and maybe gates after them
@@ -55,7 +59,15 @@ length-grows a b p = omega (arith, ap (λ (xs : List Node). length xs) p.is, len
 
 -- the nodes that aren't gates stay as many
 pub others-grows : (a b : List Node) → Grows a b → length b + gate_count a ≡ length a + gate_count b
-others-grows a b p = omega (arith, ap (λ (xs : List Node). length xs) p.is, length-append a p.added, ap gate_count p.is, gate_count-append a p.added, p.gates)
+others-grows a b p = omega (
+  arith,
+  ap (λ (xs : List Node). length xs) p.is,
+  length-append a p.added,
+  ap gate_count p.is,
+  gate_count-append
+      a p.added,
+  p.gates,
+)
 
 pub input_count-grows : (a b : List Node) → Grows a b → input_count b ≡ input_count a
 input_count-grows a b p = omega (arith, ap input_count p.is, input_count-append a p.added, p.inputs)
@@ -87,9 +99,11 @@ grown_and nodes a b =
     let new = share nodes (And (lower a b) (higher a b)) in
     let same = cond (int_eq b true_literal || int_eq a b) (present nodes a) new in
     let other = cond (int_eq a true_literal) (present nodes b) same in
-    grown_if (int_eq a false_literal || (int_eq b false_literal || int_eq a (neg_ℤ b))) nodes (present nodes false_literal) other (grown_itself nodes false_literal)
+    grown_if (int_eq a false_literal || (int_eq b false_literal || int_eq a (neg_ℤ b))) nodes (present nodes false_literal) other
+    (grown_itself nodes false_literal)
     (grown_if (int_eq a true_literal) nodes (present nodes b) same (grown_itself nodes b)
-    (grown_if (int_eq b true_literal || int_eq a b) nodes (present nodes a) new (grown_itself nodes a) (grown_share nodes (lower a b) (higher a b))))
+    (grown_if (int_eq b true_literal || int_eq a b) nodes (present nodes a) new (grown_itself nodes a)
+    (grown_share nodes (lower a b) (higher a b))))
 
 pub grows_and : (nodes : List Node) (a b : ℤ) → Grows nodes (and_gate nodes a b).nodes
 grows_and nodes a b = (grown_and nodes a b).grows
@@ -98,53 +112,57 @@ pub grows_or : (nodes : List Node) (a b : ℤ) → Grows nodes (or_gate nodes a 
 unfolding or_gate
 grows_or nodes a b = grows_and nodes (neg_ℤ a) (neg_ℤ b)
 
-pub grows_binary : (op : BinaryOp) (nodes : List Node) (a b : ℤ) → Grows nodes (binary_gate op nodes a b).nodes
-grows_binary AndOp nodes a b = grows_and nodes a b
-grows_binary OrOp nodes a b = grows_or nodes a b
+-- an operator's gate grows what it is given
+pub record GrowsBoth (op : List Node → ℤ → ℤ → Made) : Type 0 where
+  pub each : (nodes : List Node) (a b : ℤ) → Grows nodes (op nodes a b).nodes
 
-grows_unary : (op : UnaryOp) (nodes : List Node) (a : ℤ) → Grows nodes (unary_gate op nodes a).nodes
-grows_unary Not nodes a = grows_itself nodes
+pub both_and : GrowsBoth and_gate
+both_and = record { each = grows_and }
 
-pub grows_expression : (keys : List (List ℕ)) (literals : Literals) (nodes : List Node) (e : Expr) → Grows nodes (expression_gate keys literals nodes e).nodes
-grows_expression keys literals nodes (Lit ty v place) = grows_itself nodes
-grows_expression keys literals nodes (Read operand) = grows_itself nodes
-grows_expression keys literals nodes (Unary' op place p arg) =
-    let a = expression_gate keys literals nodes arg in
-    grows_twice nodes a.nodes (unary_gate op a.nodes a.literal).nodes (grows_expression keys literals nodes arg) (grows_unary op a.nodes a.literal)
-grows_expression keys literals nodes (Binary' op place p left q right) =
-    let a = expression_gate keys literals nodes left in
-    let b = expression_gate keys literals a.nodes right in
-    grows_twice nodes a.nodes (binary_gate op b.nodes a.literal b.literal).nodes (grows_expression keys literals nodes left)
-    (grows_twice a.nodes b.nodes (binary_gate op b.nodes a.literal b.literal).nodes (grows_expression keys literals a.nodes right) (grows_binary op b.nodes a.literal b.literal))
-grows_expression keys literals nodes (Paren' place p inner) = grows_expression keys literals nodes inner
+pub both_or : GrowsBoth or_gate
+both_or = record { each = grows_or }
 
-grows_assign : (keys : List (List ℕ)) (w : Wires) (s : Stmt) → Grows w.nodes (assign_gate keys w s).nodes
-grows_assign keys w (Assign target place e) = grows_expression keys w.literals w.nodes e
+-- what an operator makes of two terms
+abbrev pub pair_gate : (List Node → ℤ → ℤ → Made) → Literals → List Node → TermTree → TermTree → Made
+pair_gate op literals nodes s t =
+    with_made (term_gate literals nodes s) (λ ms a. with_made (term_gate literals ms t) (λ ns b. op ns a b))
 
-pub grows_statements : (keys : List (List ℕ)) (ss : List Stmt) (w : Wires) → Grows w.nodes (statement_gates keys ss w).nodes
-grows_statements keys [] w = grows_itself w.nodes
-grows_statements keys (s ∷ ss) w =
-    let next = assign_gate keys w s in
-    grows_twice w.nodes next.nodes (statement_gates keys ss next).nodes (grows_assign keys w s) (grows_statements keys ss next)
+pub grows_term : (literals : Literals) (nodes : List Node) (t : TermTree) → Grows nodes (term_gate literals nodes t).nodes
+grows_term literals nodes (constant b) = grows_itself nodes
+grows_term literals nodes (load n) = grows_itself nodes
+grows_term literals nodes (negation t) = grows_term literals nodes t
+grows_term literals nodes (conjunction s t) =
+    let a = term_gate literals nodes s in
+    let b = term_gate literals a.nodes t in
+    let whole = and_gate b.nodes a.literal b.literal in
+    grows_twice nodes a.nodes whole.nodes (grows_term literals nodes s)
+    (grows_twice a.nodes b.nodes whole.nodes (grows_term literals a.nodes t) (grows_and b.nodes a.literal b.literal))
+grows_term literals nodes (disjunction s t) =
+    let a = term_gate literals nodes s in
+    let b = term_gate literals a.nodes t in
+    let whole = or_gate b.nodes a.literal b.literal in
+    grows_twice nodes a.nodes whole.nodes (grows_term literals nodes s)
+    (grows_twice a.nodes b.nodes whole.nodes (grows_term literals a.nodes t) (grows_or b.nodes a.literal b.literal))
+
+pub grows_body : (body : List AssignmentTree) (w : Wires) → Grows w.nodes (body_gates body w).nodes
+grows_body [] w = grows_itself w.nodes
+grows_body (a ∷ body) w =
+    let next = assign_gate w a in
+    grows_twice w.nodes next.nodes (body_gates body next).nodes (grows_term w.literals w.nodes a.value) (grows_body body next)
 
 -- ---- what calls give
 
 -- what a call returns at the exit of a `?` whose fault is the callee's
-pub at_fault : (old new : Netlist) (made : Made) (result : Result ℤ GateFault) (fault : GateFault) → IsErrAnd result (λ f. f ≡ fault) → (fault ≡ Limit → IsBeyond old made) → Gives old new made result
+pub at_fault : (old new : Netlist) (made : Made) (result : Result ℤ GateFault) (fault : GateFault) → IsErrAnd result (λ f. f ≡ fault)
+    → (fault ≡ Limit → IsBeyond old made)
+    → Gives old new made result
 at_fault old new made (Ok z) fault is beyond = absurd is
 at_fault old new made (Err f) fault is beyond = record { literal = tt; nodes = tt; limit = λ e. beyond (sym is ∙ cc) }
 
 -- what a part of it goes beyond, the whole does
-pub beyond_more : (old middle : Netlist) (part made : Made) → middle.limit ≡ old.limit → Grows part.nodes made.nodes → IsBeyond middle part → IsBeyond old made
+beyond_more : (old middle : Netlist) (part made : Made) → middle.limit ≡ old.limit → Grows part.nodes made.nodes → IsBeyond middle part
+    → IsBeyond old made
 beyond_more old middle part made same more far = omega (arith, gate_count-grows part.nodes made.nodes more)
-
--- a literal's complement, once it is made
-pub gives_complemented : (old new : Netlist) (made other : Made) (literal z : ℤ) → made ≡ other → literal ≡ made.literal → new ≡ record old { nodes = made.nodes } → z ≡ neg_ℤ literal → Gives old new (complemented other) (Ok z)
-gives_complemented old new made other literal z same e f h =
-    let P : Made → Type 0 = λ m. Gives old new (complemented m) (Ok z) in
-    subst P same (record { literal = h ∙ ap neg_ℤ e; nodes = f; limit = λ x. cc })
-
--- ---- signed numbers that are passed on
 
 pub passed : (x y : ℤ) → SFits w32 x → x ≡ y → to_z w32 (of_z w32 x) ≡ y
 passed x y fits e = to_z-of_z w32 x fits ∙ e
@@ -152,50 +170,76 @@ passed x y fits e = to_z-of_z w32 x fits ∙ e
 pub passed_complement : (x a : ℤ) → SFits w32 x → SFits w32 a → x ≡ neg_ℤ (to_z w32 (of_z w32 a)) → to_z w32 (of_z w32 x) ≡ neg_ℤ a
 passed_complement x a fits fits_a e = to_z-of_z w32 x fits ∙ (e ∙ ap neg_ℤ (to_z-of_z w32 a fits_a))
 
-pub and_passed : (nodes : List Node) (x y a b : ℤ) → x ≡ a → y ≡ b → and_gate nodes x y ≡ and_gate nodes a b
-and_passed nodes x y a b e f = ap (λ z. and_gate nodes z y) e ∙ ap (λ z. and_gate nodes a z) f
-
 -- ---- where an operand goes beyond the limit, the whole does
 
--- what an operator makes of its operands
-abbrev pub operands_gate : List (List ℕ) → Literals → List Node → BinaryOp → Expr → Expr → Made
-operands_gate keys literals nodes op left right = with_made (expression_gate keys literals nodes left) (λ ms a. with_made (expression_gate keys literals ms right) (λ ns b. binary_gate op ns a b))
+module _ (op : List Node → ℤ → ℤ → Made) (more : GrowsBoth op) (old : Netlist) (literals : Literals) where
+  pub beyond_left : (l s t : TermTree) (made : Made) → l ≡ s → made ≡ pair_gate op literals old.nodes s t
+      → IsBeyond old (term_gate literals old.nodes l) → IsBeyond old made
+  beyond_left l s t made e is far =
+      let a = term_gate literals old.nodes s in
+      let b = term_gate literals a.nodes t in
+      let whole = op b.nodes a.literal b.literal in
+      let P : TermTree → Type 0 = λ x. IsBeyond old (term_gate literals old.nodes x) in
+      let Q : Made → Type 0 = λ m. IsBeyond old m in
+      subst Q (sym is) (beyond_more old old a whole refl (grows_twice a.nodes b.nodes whole.nodes (grows_term literals a.nodes t)
+      (more.each b.nodes a.literal b.literal)) (subst P e far))
 
-pub beyond_left : (old : Netlist) (keys : List (List ℕ)) (literals : Literals) (op : BinaryOp) (l left right : Expr) (made : Made) → l ≡ left → made ≡ operands_gate keys literals old.nodes op left right → IsBeyond old (expression_gate keys literals old.nodes l) → IsBeyond old made
-beyond_left old keys literals op l left right made e is far =
-    let a = expression_gate keys literals old.nodes left in
-    let b = expression_gate keys literals a.nodes right in
-    let whole = binary_gate op b.nodes a.literal b.literal in
-    let P : Expr → Type 0 = λ x. IsBeyond old (expression_gate keys literals old.nodes x) in
-    let Q : Made → Type 0 = λ m. IsBeyond old m in
-    subst Q (sym is) (beyond_more old old a whole refl
-    (grows_twice a.nodes b.nodes whole.nodes (grows_expression keys literals a.nodes right) (grows_binary op b.nodes a.literal b.literal))
-    (subst P e far))
+  pub beyond_right : (middle : Netlist) (l s r t : TermTree) (made : Made) → l ≡ s → r ≡ t
+      → middle ≡ record old { nodes = (term_gate literals old.nodes l).nodes } → made ≡ pair_gate op literals old.nodes s t
+      → IsBeyond middle (term_gate literals middle.nodes r) → IsBeyond old made
+  beyond_right middle l s r t made e f there is far =
+      let a = term_gate literals old.nodes s in
+      let b = term_gate literals a.nodes t in
+      let whole = op b.nodes a.literal b.literal in
+      let after_left : Netlist = record old { nodes = a.nodes } in
+      let at : middle ≡ after_left = there ∙ ap (λ x. let n : Netlist = record old { nodes = (term_gate literals old.nodes x).nodes } in
+      n) e in
+      let P : TermTree → Type 0 = λ x. IsBeyond after_left (term_gate literals after_left.nodes x) in
+      let Q : Netlist → Type 0 = λ m. IsBeyond m (term_gate literals m.nodes r) in
+      let R : Made → Type 0 = λ m. IsBeyond old m in
+      subst R (sym is) (beyond_more old after_left b whole refl (more.each b.nodes a.literal b.literal) (subst P f (subst Q at far)))
 
-pub beyond_right : (old middle : Netlist) (keys : List (List ℕ)) (literals : Literals) (op : BinaryOp) (l left r right : Expr) (made : Made) → l ≡ left → r ≡ right → middle ≡ record old { nodes = (expression_gate keys literals old.nodes l).nodes } → made ≡ operands_gate keys literals old.nodes op left right → IsBeyond middle (expression_gate keys literals middle.nodes r) → IsBeyond old made
-beyond_right old middle keys literals op l left r right made e f there is far =
-    let a = expression_gate keys literals old.nodes left in
-    let b = expression_gate keys literals a.nodes right in
-    let whole = binary_gate op b.nodes a.literal b.literal in
-    let after_left : Netlist = record old { nodes = a.nodes } in
-    let at : middle ≡ after_left = there ∙ ap (λ x. let n : Netlist = record old { nodes = (expression_gate keys literals old.nodes x).nodes } in n) e in
-    let P : Expr → Type 0 = λ x. IsBeyond after_left (expression_gate keys literals after_left.nodes x) in
-    let Q : Netlist → Type 0 = λ m. IsBeyond m (expression_gate keys literals m.nodes r) in
-    let R : Made → Type 0 = λ m. IsBeyond old m in
-    subst R (sym is) (beyond_more old after_left b whole refl (grows_binary op b.nodes a.literal b.literal) (subst P f (subst Q at far)))
-
--- where a statement goes beyond the limit, all of them do
-pub beyond_later : (keys : List (List ℕ)) (all : List Stmt) (i : ℕ) (s : Stmt) (w start : Wires) (before limit : ℕ) → i < length all → s ≡ get_or all i s → statement_gates keys (drop i all) w ≡ statement_gates keys all start → before ≡ limit → before < gate_count (assign_gate keys w s).nodes → limit < gate_count (statement_gates keys all start).nodes
-beyond_later keys all i s w start before limit lt is same same_limit far =
-    let split : drop i all ≡ s ∷ drop (suc i) all = drop-cons all i s lt ∙ ap (λ x. x ∷ drop (suc i) all) (sym is) in
-    let more = gate_count-grows (assign_gate keys w s).nodes (statement_gates keys (drop (suc i) all) (assign_gate keys w s)).nodes (grows_statements keys (drop (suc i) all) (assign_gate keys w s)) in
-    let whole : statement_gates keys (drop (suc i) all) (assign_gate keys w s) ≡ statement_gates keys all start = sym (ap (λ ss. statement_gates keys ss w) split) ∙ same in
+-- where an assignment goes beyond the limit, all of them do
+pub beyond_later : (all : List Assignment) (i : ℕ) (a : Assignment) (w start : Wires) (before limit : ℕ) → i < length all
+    → a ≡ get_or all i a
+    → body_gates (map assignment_tree (drop i all)) w ≡ body_gates (map assignment_tree all) start → before ≡ limit
+    → before < gate_count (assign_gate w (assignment_tree a)).nodes
+    → limit < gate_count (body_gates (map assignment_tree all) start).nodes
+beyond_later all i a w start before limit lt is same same_limit far =
+    let rest = map assignment_tree (drop (suc i) all) in
+    let split : drop i all ≡ a ∷ drop (suc i) all = drop-cons all i a lt ∙ ap (λ x. x ∷ drop (suc i) all) (sym is) in
+    let next = assign_gate w (assignment_tree a) in
+    let more = gate_count-grows next.nodes (body_gates rest next).nodes (grows_body rest next) in
+    let whole : body_gates rest next ≡ body_gates (map assignment_tree all) start = sym
+    (ap (λ (xs : List Assignment). body_gates (map assignment_tree xs) w) split) ∙ same in
     omega (arith, more, ap (λ (v : Wires). gate_count v.nodes) whole)
 
--- where the statements go beyond the limit, the scan does
-pub beyond_scan : (keys : List (List ℕ)) (ss all : List Stmt) (w : Wires) (invariant : Expr) (limit : ℕ) → ss ≡ all → limit < gate_count (statement_gates keys ss w).nodes → limit < gate_count (scan_gate keys all w invariant).nodes
-beyond_scan keys ss all w invariant limit same far =
-    let end = statement_gates keys all w in
-    let P : List Stmt → Type 0 = λ xs. limit < gate_count (statement_gates keys xs w).nodes in
+-- where the assignments go beyond the limit, the scan does
+pub beyond_scan : (body all : List Assignment) (w : Wires) (holds : TermTree) (limit : ℕ) → body ≡ all
+    → limit < gate_count (body_gates (map assignment_tree body) w).nodes
+    → limit < gate_count (scan_gate (map assignment_tree all) w holds).nodes
+beyond_scan body all w holds limit same far =
+    let end = body_gates (map assignment_tree all) w in
+    let P : List Assignment → Type 0 = λ xs. limit < gate_count (body_gates (map assignment_tree xs) w).nodes in
     let at : limit < gate_count end.nodes = subst P same far in
-    omega (arith, gate_count-grows end.nodes (scan_gate keys all w invariant).nodes (grows_expression keys end.literals end.nodes invariant))
+    omega (arith, gate_count-grows end.nodes (scan_gate (map assignment_tree all) w holds).nodes (grows_term end.literals end.nodes holds))
+
+-- ---- the assignment that the loop has come to
+
+pub over_at : (n m : ℕ) (all : List Assignment) (i : ℕ) (a : Assignment) → m ≡ n → i < length all → a ≡ get_or all i a
+    → All (IsAssignmentOver n) (map assignment_tree all) → IsAssignmentOver m (assignment_tree a)
+over_at n m all i a same lt is over =
+    let below : i < length (map assignment_tree all) = omega (arith, length-map all assignment_tree) in
+    let at : get_or (map assignment_tree all) i (assignment_tree a)
+    ≡ assignment_tree a = get_or-map assignment_tree all i a (assignment_tree a) lt ∙ ap assignment_tree (sym is) in
+    let P : AssignmentTree → Type 0 = λ t. IsAssignmentOver n t in
+    let Q : ℕ → Type 0 = λ k. IsAssignmentOver k (assignment_tree a) in
+    subst Q (sym same) (subst P at (over i (assignment_tree a) below))
+
+-- all assignments of a program, as a call has them
+pub over_all : (n m : ℕ) (body all : List Assignment) → m ≡ n → body ≡ all → All (IsAssignmentOver n) (map assignment_tree all)
+    → All (IsAssignmentOver m) (map assignment_tree body)
+over_all n m body all e f over =
+    let P : List Assignment → Type 0 = λ xs. All (IsAssignmentOver n) (map assignment_tree xs) in
+    let Q : ℕ → Type 0 = λ k. All (IsAssignmentOver k) (map assignment_tree body) in
+    subst Q (sym e) (subst P (sym f) over)

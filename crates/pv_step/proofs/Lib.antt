@@ -1,7 +1,7 @@
 pub mod Growth
 pub mod Beginning
-pub mod Outcome
+pub mod Picks
 pub mod Meaning
-pub mod Evaluation
-pub mod CellLists
+pub mod Outcome
 pub mod ScanLaws
+pub mod ForCallers

@@ -1,62 +1,27 @@
--- The gates have the values of the statements: what stands beside each cell has the cell's value.
-use Rattle.std.proofs.Common.{◌≡◌, ◌<◌, ℕ, ℤ, pos, neg_ℤ, List, [], ◌∷◌, length, map, Bool, true, false, not, ◌&&◌, ◌||◌, cond, refl, sym, ◌∙◌, ap, subst, inl, inr, arith, get_or, set, Some, None, bytes_eq}
-use Rattle.std.specs.Prelude.{Contains}
-use Rattle.std.specs.List.{position_or_len, AllByRecursion}
+-- The gates name nodes and have the values of the terms: what stands beside each bit has the bit's value.
+--
+-- Three inductions over a term are kept apart: it grows (no condition), it names nodes (it names bits that there are), it has the value.
+-- Each then is a few lines.
+use Rattle.std.proofs.Common.{◌≡◌, ◌<◌, ℕ, suc, ℤ, pos, neg_ℤ, List, [], ◌∷◌, length, Bool, true, false, not, ◌&&◌, ◌||◌, cond}
+use Rattle.std.proofs.Common.{refl, sym, ◌∙◌, ap, subst, inl, inr, arith}
+use Rattle.std.proofs.Common.{get_or, set, Some, None, Option, All}
+use Rattle.std.specs.List.{AllByRecursion}
 use Rattle.std.specs.Ordering.{int_eq}
-use Rattle.std.proofs.lemmas.Bool.{false≢true, cases_eq, cases_lt}
-use Rattle.std.proofs.lemmas.Slice.Eq.{bytes_eq-Decides}
-use Rattle.std.proofs.lemmas.List.{length-map, length-set, get_or-set_same, get_or-set_other}
-use Rattle.std.proofs.lemmas.List.Sums.{fails_before_first, passes_at_first}
-use Rattle.pv_word.specs.declared.types.Ty.TheVariants.{Bool as BoolType}
-use Rattle.pv_word.specs.Types.{not_of, and_of, or_of}
-use Rattle.pv_word.specs.Wrap.{wrap_at}
-use Rattle.pv_word.specs.Bits.{pattern_at}
-use Rattle.pv_tree.specs.declared.tree.UnaryOp.TheVariants.{Not}
-use Rattle.pv_tree.specs.declared.tree.BinaryOp.{BinaryOp}
-use Rattle.pv_tree.specs.declared.tree.BinaryOp.TheVariants.{And as AndOp, Or as OrOp}
-use Rattle.pv_tree.specs.declared.tree.Operand.{Operand}
-use Rattle.pv_tree.specs.declared.tree.Expr.{Expr, Lit, Read, Unary', Binary', Paren'}
-use Rattle.pv_tree.specs.declared.tree.Stmt.{Stmt}
-use Rattle.pv_tree.specs.declared.tree.Stmt.TheVariants.{Assign}
-use Rattle.pv_tree.specs.Scope.{key_of, IsDeclared, IsDeclaredIn}
+use Rattle.std.proofs.lemmas.Bool.{cases_eq}
+use Rattle.std.proofs.lemmas.List.{length-set, get_or-set_same, get_or-set_other, get_or-map, map-set}
 use Rattle.pv_gate.specs.declared.netlist.Node.{Node}
 use Rattle.pv_gate.specs.declared.netlist.Node.TheVariants.{And}
 use Rattle.pv_gate.specs.Node.{Names, true_literal, false_literal}
 use Rattle.pv_gate.specs.Netlist.{IsNetlist, MayFollow}
 use Rattle.pv_gate.specs.Value.{value_of}
-use Rattle.pv_gate.specs.Build.{Made, present, share, shared_at, number_of as node_number, lower, higher, and_gate, or_gate}
-use Rattle.pv_gate.proofs.Building.{Names-neg, Names-more, Names-lower, Names-higher}
-use Rattle.pv_gate.proofs.Lists.{IsNetlist-push, one_node}
-use Rattle.pv_gate.proofs.Values.{value_of-append}
-use Rattle.pv_gate.proofs.OperationValues.{and_builds, or_builds}
-use Rattle.pv_mean.specs.declared.cell.Cell.{Cell}
-use Rattle.pv_mean.specs.Cells.{key_of_path}
-use Rattle.pv_mean.specs.Frames.{Frame}
-use Rattle.pv_mean.proofs.Numbers.{IsNumber}
-use Rattle.pv_step.specs.Circuits.{Literals, Wires, number_of, constant, binary_gate, expression_gate, assign_gate, statement_gates}
-use Rattle.pv_step.specs.Bits.{number_of_bit}
-use Rattle.pv_step.proofs.Growth.{Grows, length-grows, grows_expression}
-
--- ---- operators on bits
-
-pub not_bit : (a : Bool) → not_of BoolType (number_of_bit a) ≡ number_of_bit (not a)
-unfolding wrap_at pattern_at
-not_bit true = refl
-not_bit false = refl
-
-pub and_bit : (a b : Bool) → and_of BoolType (number_of_bit a) (number_of_bit b) ≡ number_of_bit (a && b)
-unfolding wrap_at pattern_at
-and_bit true true = refl
-and_bit true false = refl
-and_bit false true = refl
-and_bit false false = refl
-
-pub or_bit : (a b : Bool) → or_of BoolType (number_of_bit a) (number_of_bit b) ≡ number_of_bit (not (not a && not b))
-unfolding wrap_at pattern_at
-or_bit true true = refl
-or_bit true false = refl
-or_bit false true = refl
-or_bit false false = refl
+use Rattle.pv_gate.specs.Build.{Made, present, share, shared_at, number_of, lower, higher, and_gate, or_gate}
+use Rattle.pv_gate.proofs.ForCallers.{Names-neg, Names-more, Names-lower, Names-higher, IsNetlist-push, one_node, value_of-append}
+use Rattle.pv_gate.proofs.ForCallers.{value_of-neg, value_of-true, value_of-false, and_builds, or_builds}
+use Rattle.pv_bool.specs.Tree.{TermTree, constant, load, negation, conjunction, disjunction, AssignmentTree, IsTermOver, IsAssignmentOver}
+use Rattle.pv_bool.specs.Scans.{value_in, run_body}
+use Rattle.pv_step.specs.Circuits.{Literals, Wires, constant_literal, term_gate, assign_gate, body_gates}
+use Rattle.pv_step.specs.Correct.{values_of}
+use Rattle.pv_step.proofs.Growth.{Grows, length-grows, grows_term}
 
 -- ---- nodes in order
 
@@ -64,15 +29,17 @@ netlist_if : (b : Bool) (x y : Made) → IsNetlist x.nodes → IsNetlist y.nodes
 netlist_if true x y p q = p
 netlist_if false x y p q = q
 
-netlist_shared : (nodes : List Node) (node : Node) (o : _) → IsNetlist nodes → MayFollow nodes node → IsNetlist (shared_at nodes node o).nodes
+netlist_shared : (nodes : List Node) (node : Node) (o : Option ℕ) → IsNetlist nodes → MayFollow nodes node
+    → IsNetlist (shared_at nodes node o).nodes
 netlist_shared nodes node (Some n) h next = h
 netlist_shared nodes node None h next = IsNetlist-push nodes node h next
 
 netlist_share : (nodes : List Node) (node : Node) → IsNetlist nodes → MayFollow nodes node → IsNetlist (share nodes node).nodes
 unfolding share
-netlist_share nodes node h next = netlist_shared nodes node (node_number node nodes) h next
+netlist_share nodes node h next = netlist_shared nodes node (number_of node nodes) h next
 
-netlist_and : (nodes : List Node) (a b : ℤ) → IsNetlist nodes → Names (length nodes) a → Names (length nodes) b → IsNetlist (and_gate nodes a b).nodes
+netlist_and : (nodes : List Node) (a b : ℤ) → IsNetlist nodes → Names (length nodes) a → Names (length nodes) b
+    → IsNetlist (and_gate nodes a b).nodes
 unfolding and_gate
 netlist_and nodes a b h p q =
     let new = share nodes (And (lower a b) (higher a b)) in
@@ -83,7 +50,8 @@ netlist_and nodes a b h p q =
     (netlist_if (int_eq b true_literal || int_eq a b) (present nodes a) new h
     (netlist_share nodes (And (lower a b) (higher a b)) h (Names-lower (length nodes) a b p q, Names-higher (length nodes) a b p q))))
 
-netlist_or : (nodes : List Node) (a b : ℤ) → IsNetlist nodes → Names (length nodes) a → Names (length nodes) b → IsNetlist (or_gate nodes a b).nodes
+netlist_or : (nodes : List Node) (a b : ℤ) → IsNetlist nodes → Names (length nodes) a → Names (length nodes) b
+    → IsNetlist (or_gate nodes a b).nodes
 unfolding or_gate
 netlist_or nodes a b h p q = netlist_and nodes (neg_ℤ a) (neg_ℤ b) h (Names-neg (length nodes) a p) (Names-neg (length nodes) b q)
 
@@ -92,11 +60,6 @@ netlist_or nodes a b h p q = netlist_and nodes (neg_ℤ a) (neg_ℤ b) h (Names-
 -- each literal names a node
 pub record AreNamed (nodes : List Node) (literals : Literals) : Type 0 where
   pub each : (k : ℕ) → k < length literals → Names (length nodes) (get_or literals k (pos 0))
-
--- the literals have the frame's values
-pub record Stand (inputs : ℕ → Bool) (nodes : List Node) (literals : Literals) (frame : Frame) : Type 0 where
-  pub same_length : length frame ≡ length literals
-  pub value : (k : ℕ) → k < length literals → get_or frame k (pos 0) ≡ number_of_bit (value_of inputs nodes (get_or literals k (pos 0)))
 
 -- what is made names a node
 pub record IsNamed (made : Made) : Type 0 where
@@ -107,50 +70,20 @@ pub value-grows : (inputs : ℕ → Bool) (a b : List Node) (l : ℤ) → Grows 
 value-grows inputs a b l more names = ap (λ ns. value_of inputs ns l) more.is ∙ value_of-append inputs a more.added l names
 
 pub named-grows : (a b : List Node) (literals : Literals) → Grows a b → AreNamed a literals → AreNamed b literals
-named-grows a b literals more named = record { each = λ k lt. Names-more (length a) (length b) (get_or literals k (pos 0)) (length-grows a b more) (named.each k lt) }
+named-grows a b literals more named =
+    record { each = λ k lt. Names-more (length a) (length b) (get_or literals k (pos 0)) (length-grows a b more) (named.each k lt) }
 
-pub stand-grows : (inputs : ℕ → Bool) (a b : List Node) (literals : Literals) (frame : Frame) → Grows a b → AreNamed a literals → Stand inputs a literals frame → Stand inputs b literals frame
-stand-grows inputs a b literals frame more named stand = record {
-  same_length = stand.same_length;
-  value = λ k lt. stand.value k lt ∙ ap number_of_bit (sym (value-grows inputs a b (get_or literals k (pos 0)) more (named.each k lt)));
-}
+pub values-grow : (inputs : ℕ → Bool) (a b : List Node) (literals : Literals) → Grows a b → AreNamed a literals
+    → values_of inputs b literals ≡ values_of inputs a literals
+values-grow inputs a b [] more named = refl
+values-grow inputs a b (l ∷ ls) more named =
+    ap (λ v. v ∷ values_of inputs b ls) (value-grows inputs a b l more (named.each 0 (omega arith)))
+    ∙ ap (λ vs. value_of inputs a l ∷ vs) (values-grow inputs a b ls more (record { each = λ k lt. named.each (suc k) (omega arith) }))
 
--- ---- where a name's literal stands
+pub named_from_all : (nodes : List Node) (literals : Literals) → All (Names (length nodes)) literals → AreNamed nodes literals
+named_from_all nodes literals all = record { each = λ k lt. all k (pos 0) lt }
 
-same_key : (key : List ℕ) → bytes_eq key key ≡ true
-same_key key = (bytes_eq-Decides key key).1 refl
-
-pub position_within : (keys : List (List ℕ)) (key : List ℕ) → Contains keys key → position_or_len (bytes_eq key) keys < length keys
-position_within keys key there =
-    elim (cases_lt (position_or_len (bytes_eq key) keys) (length keys)) [
-      | inl lt ↦ lt
-      | inr ge ↦ absurd (false≢true (sym (fails_before_first (bytes_eq key) keys there.0 key (omega (arith, there.1))) ∙ (ap (bytes_eq key) there.2 ∙ same_key key)))
-    ]
-
-pub number_is : (cells : List Cell) (keys : List (List ℕ)) (operand : Operand) → map key_of_path cells ≡ keys → Contains keys (key_of operand) → IsNumber cells (key_of operand) (number_of keys operand)
-number_is cells keys operand same there =
-    let key = key_of operand in
-    let P : List (List ℕ) → Type 0 = λ ks. Contains ks key in
-    let of = map key_of_path cells in
-    let lt : position_or_len (bytes_eq key) of < length of = position_within of key (subst P (sym same) there) in
-    let Q : List (List ℕ) → Type 0 = λ ks. IsNumber cells key (position_or_len (bytes_eq key) ks) in
-    subst Q same (record {
-      within = omega (arith, lt, length-map cells key_of_path);
-      here = passes_at_first (bytes_eq key) of [] lt;
-      before = λ k below. fails_before_first (bytes_eq key) of k [] below;
-    })
-
--- ---- expressions name nodes
-
-named_present : (nodes : List Node) (l : ℤ) → IsNetlist nodes → Names (length nodes) l → IsNamed (present nodes l)
-named_present nodes l h names = record { netlist = h; names = names }
-
-Names-constant : (nodes : List Node) (v : ℤ) → IsNetlist nodes → Names (length nodes) (constant v)
-Names-constant nodes v h = lead (int_eq v (pos 1))
-  where
-    lead : (b : Bool) → Names (length nodes) (cond b true_literal false_literal)
-    lead true = record { from_one = omega arith; to_last = omega (arith, one_node nodes h) }
-    lead false = record { from_one = omega arith; to_last = omega (arith, one_node nodes h) }
+-- ---- terms name nodes
 
 named_and : (nodes : List Node) (a b : ℤ) → IsNetlist nodes → Names (length nodes) a → Names (length nodes) b → IsNamed (and_gate nodes a b)
 named_and nodes a b h p q = record { netlist = netlist_and nodes a b h p q; names = (and_builds nodes a b h p q).names }
@@ -158,53 +91,137 @@ named_and nodes a b h p q = record { netlist = netlist_and nodes a b h p q; name
 named_or : (nodes : List Node) (a b : ℤ) → IsNetlist nodes → Names (length nodes) a → Names (length nodes) b → IsNamed (or_gate nodes a b)
 named_or nodes a b h p q = record { netlist = netlist_or nodes a b h p q; names = (or_builds nodes a b h p q).names }
 
-named_binary : (op : BinaryOp) (nodes : List Node) (a b : ℤ) → IsNetlist nodes → Names (length nodes) a → Names (length nodes) b → IsNamed (binary_gate op nodes a b)
-named_binary AndOp nodes a b h p q = named_and nodes a b h p q
-named_binary OrOp nodes a b h p q = named_or nodes a b h p q
+named_constant : (nodes : List Node) (b : Bool) → IsNetlist nodes → Names (length nodes) (constant_literal b)
+named_constant nodes true h = record { from_one = omega arith; to_last = omega (arith, one_node nodes h) }
+named_constant nodes false h = record { from_one = omega arith; to_last = omega (arith, one_node nodes h) }
 
-pub named_expression : (keys : List (List ℕ)) (literals : Literals) (nodes : List Node) (e : Expr) → length literals ≡ length keys → IsNetlist nodes → AreNamed nodes literals → IsDeclared keys e → IsNamed (expression_gate keys literals nodes e)
-named_expression keys literals nodes (Lit ty v place) len h named there = named_present nodes (constant v) h (Names-constant nodes v h)
-named_expression keys literals nodes (Read operand) len h named there =
-    named_present nodes (get_or literals (number_of keys operand) (pos 0)) h (named.each (number_of keys operand) (omega (arith, position_within keys (key_of operand) there)))
-named_expression keys literals nodes (Unary' Not place p arg) len h named there =
-    let a = expression_gate keys literals nodes arg in
-    let is = named_expression keys literals nodes arg len h named there in
-    named_present a.nodes (neg_ℤ a.literal) is.netlist (Names-neg (length a.nodes) a.literal is.names)
-named_expression keys literals nodes (Binary' op place p left q right) len h named there =
-    let a = expression_gate keys literals nodes left in
-    let b = expression_gate keys literals a.nodes right in
-    let l = named_expression keys literals nodes left len h named there.0 in
-    let r = named_expression keys literals a.nodes right len l.netlist (named-grows nodes a.nodes literals (grows_expression keys literals nodes left) named) there.1 in
-    named_binary op b.nodes a.literal b.literal r.netlist (Names-more (length a.nodes) (length b.nodes) a.literal (length-grows a.nodes b.nodes (grows_expression keys literals a.nodes right)) l.names) r.names
-named_expression keys literals nodes (Paren' place p inner) len h named there = named_expression keys literals nodes inner len h named there
+pub named_term : (literals : Literals) (nodes : List Node) (t : TermTree) → IsNetlist nodes → AreNamed nodes literals
+    → IsTermOver (length literals) t → IsNamed (term_gate literals nodes t)
+named_term literals nodes (constant b) h named over = record { netlist = h; names = named_constant nodes b h }
+named_term literals nodes (load n) h named over = record { netlist = h; names = named.each n over }
+named_term literals nodes (negation t) h named over =
+    let a = term_gate literals nodes t in
+    let is = named_term literals nodes t h named over in
+    record { netlist = is.netlist; names = Names-neg (length a.nodes) a.literal is.names }
+named_term literals nodes (conjunction s t) h named over =
+    let a = term_gate literals nodes s in
+    let b = term_gate literals a.nodes t in
+    let l = named_term literals nodes s h named over.0 in
+    let r = named_term literals a.nodes t l.netlist (named-grows nodes a.nodes literals (grows_term literals nodes s) named) over.1 in
+    named_and b.nodes a.literal b.literal r.netlist (Names-more (length a.nodes) (length b.nodes) a.literal
+    (length-grows a.nodes b.nodes (grows_term literals a.nodes t)) l.names) r.names
+named_term literals nodes (disjunction s t) h named over =
+    let a = term_gate literals nodes s in
+    let b = term_gate literals a.nodes t in
+    let l = named_term literals nodes s h named over.0 in
+    let r = named_term literals a.nodes t l.netlist (named-grows nodes a.nodes literals (grows_term literals nodes s) named) over.1 in
+    named_or b.nodes a.literal b.literal r.netlist (Names-more (length a.nodes) (length b.nodes) a.literal
+    (length-grows a.nodes b.nodes (grows_term literals a.nodes t)) l.names) r.names
 
--- ---- statements name nodes
+-- ---- assignments name nodes
 
-named_set : (nodes : List Node) (literals : Literals) (n : ℕ) (l : ℤ) → n < length literals → AreNamed nodes literals → Names (length nodes) l → AreNamed nodes (set literals n l)
-named_set nodes literals n l lt named names = record {
-  each = λ k below. elim (cases_eq k n) [
-    | inl e ↦ let P : ℤ → Type 0 = λ z. Names (length nodes) z in subst P (sym (ap (λ j. get_or (set literals n l) j (pos 0)) e ∙ get_or-set_same literals n l (pos 0) lt)) names
-    | inr ne ↦ let P : ℤ → Type 0 = λ z. Names (length nodes) z in subst P (sym (get_or-set_other literals n k l (pos 0) ne)) (named.each k (omega (arith, length-set literals n l)))
-  ];
-}
+named_set : (nodes : List Node) (literals : Literals) (n : ℕ) (l : ℤ) → n < length literals → AreNamed nodes literals
+    → Names (length nodes) l → AreNamed nodes (set literals n l)
+named_set nodes literals n l lt named names =
+    let P : ℤ → Type 0 = λ z. Names (length nodes) z in
+    record {
+      each = λ k below. elim (cases_eq k n) [
+        | inl e ↦ subst P (sym (ap (λ j. get_or (set literals n l) j (pos 0)) e ∙ get_or-set_same literals n l (pos 0) lt)) names
+        | inr ne ↦ subst P (sym (get_or-set_other literals n k l (pos 0) ne)) (named.each k (omega (arith, length-set literals n l)))
+      ];
+    }
 
--- the wires name nodes
-pub record AreWires (keys : List (List ℕ)) (w : Wires) : Type 0 where
-  pub same_length : length w.literals ≡ length keys
+-- the wires name nodes, with a literal for each of n bits
+pub record AreWires (n : ℕ) (w : Wires) : Type 0 where
+  pub same_length : length w.literals ≡ n
   pub netlist : IsNetlist w.nodes
   pub named : AreNamed w.nodes w.literals
 
-pub wires_assign : (keys : List (List ℕ)) (w : Wires) (s : Stmt) → AreWires keys w → IsDeclaredIn keys s → AreWires keys (assign_gate keys w s)
-wires_assign keys w (Assign target place e) is there =
-    let made = expression_gate keys w.literals w.nodes e in
-    let named = named_expression keys w.literals w.nodes e is.same_length is.netlist is.named there.1 in
-    let n = number_of keys target in
+over_literals : (n m : ℕ) (t : TermTree) → m ≡ n → IsTermOver n t → IsTermOver m t
+over_literals n m t e over = subst (λ k. IsTermOver k t) (sym e) over
+
+pub wires_named : (n : ℕ) (w : Wires) (t : TermTree) → AreWires n w → IsTermOver n t → IsNamed (term_gate w.literals w.nodes t)
+wires_named n w t is over = named_term w.literals w.nodes t is.netlist is.named (over_literals n (length w.literals) t is.same_length over)
+
+pub wires_assign : (n : ℕ) (w : Wires) (a : AssignmentTree) → AreWires n w → IsAssignmentOver n a → AreWires n (assign_gate w a)
+wires_assign n w a is over =
+    let made = term_gate w.literals w.nodes a.value in
+    let named = wires_named n w a.value is over.value in
     record {
-      same_length = length-set w.literals n made.literal ∙ is.same_length;
+      same_length = length-set w.literals a.target made.literal ∙ is.same_length;
       netlist = named.netlist;
-      named = named_set made.nodes w.literals n made.literal (omega (arith, position_within keys (key_of target) there.0, is.same_length)) (named-grows w.nodes made.nodes w.literals (grows_expression keys w.literals w.nodes e) is.named) named.names;
+      named = named_set made.nodes w.literals a.target made.literal (omega (arith, over.target, is.same_length))
+          (named-grows w.nodes made.nodes w.literals (grows_term w.literals w.nodes a.value) is.named) named.names;
     }
 
-pub wires_statements : (keys : List (List ℕ)) (ss : List Stmt) (w : Wires) → AreWires keys w → AllByRecursion (IsDeclaredIn keys) ss → AreWires keys (statement_gates keys ss w)
-wires_statements keys [] w is there = is
-wires_statements keys (s ∷ ss) w is there = wires_statements keys ss (assign_gate keys w s) (wires_assign keys w s is there.0) there.1
+pub wires_body : (n : ℕ) (body : List AssignmentTree) (w : Wires) → AreWires n w → AllByRecursion (IsAssignmentOver n) body
+    → AreWires n (body_gates body w)
+wires_body n [] w is over = is
+wires_body n (a ∷ body) w is over = wires_body n body (assign_gate w a) (wires_assign n w a is over.0) over.1
+
+-- ---- values
+
+or_is : (x y : Bool) → not (not x && not y) ≡ (x || y)
+or_is true y = refl
+or_is false true = refl
+or_is false false = refl
+
+constant_value : (inputs : ℕ → Bool) (nodes : List Node) (b : Bool) → IsNetlist nodes → value_of inputs nodes (constant_literal b) ≡ b
+constant_value inputs nodes true h = value_of-true inputs nodes h
+constant_value inputs nodes false h = value_of-false inputs nodes h
+
+module _ (inputs : ℕ → Bool) where
+  pub value_term : (literals : Literals) (nodes : List Node) (t : TermTree) → IsNetlist nodes → AreNamed nodes literals
+      → IsTermOver (length literals) t
+      → value_of inputs (term_gate literals nodes t).nodes (term_gate literals nodes t).literal
+      ≡ value_in (values_of inputs nodes literals) t
+  value_term literals nodes (constant b) h named over = constant_value inputs nodes b h
+  value_term literals nodes (load n) h named over = sym (get_or-map (value_of inputs nodes) literals n (pos 0) false over)
+  value_term literals nodes (negation t) h named over =
+      let a = term_gate literals nodes t in
+      let is = named_term literals nodes t h named over in
+      value_of-neg inputs a.nodes (length a.nodes) a.literal is.names ∙ ap not (value_term literals nodes t h named over)
+  value_term literals nodes (conjunction s t) h named over =
+      let a = term_gate literals nodes s in
+      let b = term_gate literals a.nodes t in
+      let grown = grows_term literals nodes s in
+      let more = grows_term literals a.nodes t in
+      let l = named_term literals nodes s h named over.0 in
+      let at_a = named-grows nodes a.nodes literals grown named in
+      let r = named_term literals a.nodes t l.netlist at_a over.1 in
+      let left = value-grows inputs a.nodes b.nodes a.literal more l.names ∙ value_term literals nodes s h named over.0 in
+      let right = value_term literals a.nodes t l.netlist at_a over.1
+      ∙ ap (λ f. value_in f t) (values-grow inputs nodes a.nodes literals grown named) in
+      (and_builds b.nodes a.literal b.literal r.netlist (Names-more (length a.nodes) (length b.nodes) a.literal
+      (length-grows a.nodes b.nodes more) l.names) r.names).value inputs
+      ∙ (ap (λ x. x && value_of inputs b.nodes b.literal) left ∙ ap (λ y. value_in (values_of inputs nodes literals) s && y) right)
+  value_term literals nodes (disjunction s t) h named over =
+      let a = term_gate literals nodes s in
+      let b = term_gate literals a.nodes t in
+      let grown = grows_term literals nodes s in
+      let more = grows_term literals a.nodes t in
+      let l = named_term literals nodes s h named over.0 in
+      let at_a = named-grows nodes a.nodes literals grown named in
+      let r = named_term literals a.nodes t l.netlist at_a over.1 in
+      let left = value-grows inputs a.nodes b.nodes a.literal more l.names ∙ value_term literals nodes s h named over.0 in
+      let right = value_term literals a.nodes t l.netlist at_a over.1
+      ∙ ap (λ f. value_in f t) (values-grow inputs nodes a.nodes literals grown named) in
+      (or_builds b.nodes a.literal b.literal r.netlist (Names-more (length a.nodes) (length b.nodes) a.literal
+      (length-grows a.nodes b.nodes more) l.names) r.names).value inputs
+      ∙ (or_is (value_of inputs b.nodes a.literal) (value_of inputs b.nodes b.literal)
+      ∙ (ap (λ x. x || value_of inputs b.nodes b.literal) left ∙ ap (λ y. value_in (values_of inputs nodes literals) s || y) right))
+
+  -- the literals behind the assignments have the values of the frame behind them
+  pub value_body : (n : ℕ) (body : List AssignmentTree) (w : Wires) → AreWires n w → AllByRecursion (IsAssignmentOver n) body
+      → values_of inputs (body_gates body w).nodes (body_gates body w).literals ≡ run_body body (values_of inputs w.nodes w.literals)
+  value_body n [] w is over = refl
+  value_body n (a ∷ body) w is over =
+      let made = term_gate w.literals w.nodes a.value in
+      let frame = values_of inputs w.nodes w.literals in
+      let one : values_of inputs made.nodes (set w.literals a.target made.literal) ≡ set frame a.target (value_in frame a.value) =
+      map-set (value_of inputs made.nodes) w.literals a.target made.literal
+      ∙ (ap (λ f. set f a.target (value_of inputs made.nodes made.literal))
+      (values-grow inputs w.nodes made.nodes w.literals (grows_term w.literals w.nodes a.value) is.named)
+      ∙ ap (λ v. set frame a.target v) (value_term w.literals w.nodes a.value is.netlist is.named
+      (over_literals n (length w.literals) a.value is.same_length over.0.value))) in
+      value_body n body (assign_gate w a) (wires_assign n w a is over.0) over.1 ∙ ap (run_body body) one

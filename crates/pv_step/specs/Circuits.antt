@@ -1,88 +1,113 @@
--- The step circuit of a block of BOOL variables and assignments with an invariant: the gates of one scan. A cell is one bit, so one
--- literal stands beside each cell, as one value does in a frame.
-use Rattle.std.specs.Prelude.{List, [], ◌∷◌, length, map, ℕ, ◌+◌, ℤ, pos, neg_ℤ, bytes_eq, slice_index_or, slice_set, if◌then◌else◌}
-use Rattle.std.specs.List.{position_or_len, range_with_len}
-use Rattle.std.specs.Ordering.{int_eq}
-use Rattle.pv_tree.specs.declared.tree.UnaryOp.{UnaryOp}
-use Rattle.pv_tree.specs.declared.tree.UnaryOp.TheVariants.{Not}
-use Rattle.pv_tree.specs.declared.tree.BinaryOp.{BinaryOp}
-use Rattle.pv_tree.specs.declared.tree.BinaryOp.TheVariants.{And, Or}
-use Rattle.pv_tree.specs.declared.tree.Operand.{Operand}
-use Rattle.pv_tree.specs.declared.tree.Expr.{Expr, Lit, Read, Unary', Binary', Paren'}
-use Rattle.pv_tree.specs.declared.tree.Stmt.{Stmt}
-use Rattle.pv_tree.specs.declared.tree.Stmt.TheVariants.{Assign}
-use Rattle.pv_tree.specs.declared.tree.Block.{Block}
-use Rattle.pv_tree.specs.Scope.{keys_of, key_of, statements_of}
+-- The step circuit of a Boolean program: the gates of one scan. One literal stands beside each bit, as one value does in a frame.
+use Rattle.std.specs.Prelude.{ℕ, ◌+◌, ℤ, pos, neg_ℤ, Bool, true, false, ◌||◌, List, [], ◌∷◌, map, count_by}
+use Rattle.std.specs.Prelude.{slice_index_or, slice_set, if◌then◌else◌}
+use Rattle.std.specs.List.{range_with_len}
+use Rattle.pv_machine.specs.declared.role.Role.{Role}
+use Rattle.pv_machine.specs.Roles.{is_input, is_stored}
 use Rattle.pv_gate.specs.declared.netlist.Node.{Node}
 use Rattle.pv_gate.specs.declared.netlist.Node.TheVariants.{True, Input}
 use Rattle.pv_gate.specs.Node.{true_literal, false_literal}
-use Rattle.pv_gate.specs.Build.{Made, present, and_gate, or_gate}
-use Rattle.pv_mean.specs.Cells.{cells_of}
-use Rattle.pv_mean.specs.Frames.{image_of, input_of}
+use Rattle.pv_gate.specs.Build.{Made, present, complemented, and_gate, or_gate}
+use Rattle.pv_bool.specs.declared.program.Bit.{Bit}
+use Rattle.pv_bool.specs.Tree.{TermTree, constant, load, negation, conjunction, disjunction, AssignmentTree, ProgramTree}
 
--- the literals of all cells, in the order of the table
+-- the literals of all bits, in their order
 abbrev pub Literals : Type 0
 Literals = List ℤ
 
--- the nodes before the scan: constant true, and an input for each of n cells
+-- ---- the beginning
+
+-- a state or an input has a value for the bit; other bits begin each scan as false
+abbrev pub is_given : Role → Bool
+is_given role = is_input role || is_stored role
+
+-- how many of the bits are given
+abbrev pub given_count : List Bit → ℕ
+given_count bits = count_by (λ b. is_given b.role) bits
+
+-- the nodes before the scan: constant true, and n inputs
 abbrev pub begin_nodes : ℕ → List Node
 begin_nodes n = True ∷ map (λ i. Input i) (range_with_len 0 n)
 
--- the literals with which the scan begins: cell i has node 2 + i, which is input i
-abbrev pub begin_literals : ℕ → Literals
-begin_literals n = map (λ i. pos (2 + i)) (range_with_len 0 n)
+-- the literals of n input nodes, from input m on: input i is node 2 + i
+abbrev pub input_literals : ℕ → ℕ → Literals
+input_literals m n = map (λ i. pos (2 + i)) (range_with_len m n)
 
--- ---- expressions
+-- the literals with which the scan begins, where m inputs were taken before: each given bit takes the next input, others are false
+abbrev pub begin_from : ℕ → List Bit → Literals
+begin_from m [] = []
+begin_from m (b ∷ bs) = if is_given b.role then pos (2 + m) ∷ begin_from (m + 1) bs else false_literal ∷ begin_from m bs
 
--- the number of the variable of this key
-abbrev pub number_of : List (List ℕ) → Operand → ℕ
-number_of keys operand = position_or_len (bytes_eq (key_of operand)) keys
+abbrev pub begin_literals : List Bit → Literals
+begin_literals bits = begin_from 0 bits
 
--- TRUE is constant true, and FALSE its complement
-abbrev pub constant : ℤ → ℤ
-constant v = if int_eq v (pos 1) then true_literal else false_literal
+-- ---- the literals of some bits
 
-abbrev pub unary_gate : UnaryOp → List Node → ℤ → Made
-unary_gate Not nodes a = present nodes (neg_ℤ a)
+abbrev pub first_literal : Literals → ℤ
+first_literal [] = pos 0
+first_literal (l ∷ ls) = l
 
-abbrev pub binary_gate : BinaryOp → List Node → ℤ → ℤ → Made
-binary_gate And nodes a b = and_gate nodes a b
-binary_gate Or nodes a b = or_gate nodes a b
+abbrev pub other_literals : Literals → Literals
+other_literals [] = []
+other_literals (l ∷ ls) = ls
+
+-- those of the bits whose role passes
+abbrev pub picked : (Role → Bool) → List Bit → Literals → Literals
+picked test [] ls = []
+picked test (b ∷ bs) ls =
+    if test b.role then first_literal ls ∷ picked test bs (other_literals ls) else picked test bs (other_literals ls)
+
+-- those of the stored bits
+abbrev pub stored_literals : List Bit → Literals → Literals
+stored_literals bits ls = picked is_stored bits ls
+
+-- those of the input bits
+abbrev pub taken_literals : List Bit → Literals → Literals
+taken_literals bits ls = picked is_input bits ls
+
+-- ---- terms
 
 -- goes on with what is made, over the nodes that there are then
 abbrev pub with_made : Made → (List Node → ℤ → Made) → Made
 with_made made next = next made.nodes made.literal
 
--- the literal of an expression, its parts made first and the left operand before the right one
-abbrev pub expression_gate : List (List ℕ) → Literals → List Node → Expr → Made
-expression_gate keys literals nodes (Lit ty v place) = present nodes (constant v)
-expression_gate keys literals nodes (Read operand) = present nodes (slice_index_or literals (number_of keys operand) (pos 0))
-expression_gate keys literals nodes (Unary' op place p arg) = with_made (expression_gate keys literals nodes arg) (λ ns a. unary_gate op ns a)
-expression_gate keys literals nodes (Binary' op place p left q right) = with_made (expression_gate keys literals nodes left) (λ ms a. with_made (expression_gate keys literals ms right) (λ ns b. binary_gate op ns a b))
-expression_gate keys literals nodes (Paren' place p inner) = expression_gate keys literals nodes inner
+-- true is constant true, and false its complement
+abbrev pub constant_literal : Bool → ℤ
+constant_literal true = true_literal
+constant_literal false = false_literal
 
--- ---- statements
+-- the literal of a term, its parts made first and the left one before the right one
+abbrev pub term_gate : Literals → List Node → TermTree → Made
+term_gate literals nodes (constant b) = present nodes (constant_literal b)
+term_gate literals nodes (load n) = present nodes (slice_index_or literals n (pos 0))
+term_gate literals nodes (negation t) = complemented (term_gate literals nodes t)
+term_gate literals nodes (conjunction s t) =
+    with_made (term_gate literals nodes s) (λ ms a. with_made (term_gate literals ms t) (λ ns b. and_gate ns a b))
+term_gate literals nodes (disjunction s t) =
+    with_made (term_gate literals nodes s) (λ ms a. with_made (term_gate literals ms t) (λ ns b. or_gate ns a b))
 
--- the nodes that there are, and the cells' literals
+-- ---- assignments
+
+-- the nodes that there are, and the bits' literals
 pub record Wires : Type 0 where
   pub nodes : List Node
   pub literals : Literals
 
 -- what is made becomes the target's literal
-abbrev pub assign_made : List (List ℕ) → Literals → Operand → Made → Wires
-assign_made keys literals target made = record { nodes = made.nodes; literals = slice_set literals (number_of keys target) made.literal }
+abbrev pub assign_made : Literals → ℕ → Made → Wires
+assign_made literals target made = record { nodes = made.nodes; literals = slice_set literals target made.literal }
 
-abbrev pub assign_gate : List (List ℕ) → Wires → Stmt → Wires
-assign_gate keys w (Assign target place e) = assign_made keys w.literals target (expression_gate keys w.literals w.nodes e)
+abbrev pub assign_gate : Wires → AssignmentTree → Wires
+assign_gate w a = assign_made w.literals a.target (term_gate w.literals w.nodes a.value)
 
--- the statements in order
-abbrev pub statement_gates : List (List ℕ) → List Stmt → Wires → Wires
-statement_gates keys [] w = w
-statement_gates keys (s ∷ ss) w = statement_gates keys ss (assign_gate keys w s)
+-- the assignments in order
+abbrev pub body_gates : List AssignmentTree → Wires → Wires
+body_gates [] w = w
+body_gates (a ∷ body) w = body_gates body (assign_gate w a)
 
--- the invariant's literal after the statements
-abbrev pub scan_gate : List (List ℕ) → List Stmt → Wires → Expr → Made
-scan_gate keys ss w invariant = expression_gate keys (statement_gates keys ss w).literals (statement_gates keys ss w).nodes invariant
+-- the requirement's literal behind the assignments
+abbrev pub scan_gate : List AssignmentTree → Wires → TermTree → Made
+scan_gate body w holds = term_gate (body_gates body w).literals (body_gates body w).nodes holds
 
 -- ---- the scan
 
@@ -96,9 +121,11 @@ trap_literal = false_literal
 abbrev pub over_literal : ℤ
 over_literal = false_literal
 
--- the scan fails where it isn't done, or where it is and the invariant's literal p is false
+-- the scan fails where it isn't done, or where it is and the requirement's literal p is false
 abbrev pub fail_gate : List Node → ℤ → Made
-fail_gate nodes p = with_made (or_gate nodes trap_literal over_literal) (λ ms stopped. with_made (and_gate ms done_literal (neg_ℤ p)) (λ ns broken. or_gate ns stopped broken))
+fail_gate nodes p =
+    with_made (or_gate nodes trap_literal over_literal)
+    (λ ms stopped. with_made (and_gate ms done_literal (neg_ℤ p)) (λ ns broken. or_gate ns stopped broken))
 
 -- it is done and doesn't fail
 abbrev pub ok_gate : List Node → ℤ → Made
@@ -107,37 +134,42 @@ ok_gate nodes fail = and_gate nodes done_literal (neg_ℤ fail)
 -- a step circuit, as a list of nodes and the literals that stand for a scan's begin, end and outcome
 pub record Circuit : Type 0 where
   pub nodes : List Node
-  -- of the kept cells at the beginning
+  -- of the stored bits at the beginning
   pub state_in : Literals
-  -- of the input cells
+  -- of the input bits
   pub input : Literals
-  -- of the kept cells at the end
+  -- of the stored bits at the end
   pub state_out : Literals
   pub ok : ℤ
   pub fail : ℤ
 
-abbrev pub begin_wires : Block → Wires
-begin_wires block = record { nodes = begin_nodes (length (cells_of block)); literals = begin_literals (length (cells_of block)) }
+-- a circuit of these parts
+abbrev pub circuit_with : List Node → Literals → Literals → Literals → ℤ → ℤ → Circuit
+circuit_with nodes state_in input state_out ok fail =
+    record { nodes = nodes; state_in = state_in; input = input; state_out = state_out; ok = ok; fail = fail }
 
-abbrev pub end_wires : Block → Wires
-end_wires block = statement_gates (keys_of block.interface.vars.items) (statements_of block.body) (begin_wires block)
+abbrev pub begin_wires : List Bit → Wires
+begin_wires bits = record { nodes = begin_nodes (given_count bits); literals = begin_literals bits }
 
--- the invariant's literal, on the cells' end values
-abbrev pub invariant_gate : Block → Expr → Made
-invariant_gate block invariant = scan_gate (keys_of block.interface.vars.items) (statements_of block.body) (begin_wires block) invariant
+abbrev pub end_wires : ProgramTree → Wires
+end_wires program = body_gates program.body (begin_wires program.bits)
 
-abbrev pub outcome : Block → Made → Made → Circuit
-outcome block fail ok = record {
+-- the requirement's literal, on the bits' end values
+abbrev pub holds_gate : ProgramTree → Made
+holds_gate program = scan_gate program.body (begin_wires program.bits) program.holds
+
+abbrev pub outcome : ProgramTree → Made → Made → Circuit
+outcome program fail ok = record {
   nodes = ok.nodes;
-  state_in = image_of (cells_of block) (begin_wires block).literals;
-  input = input_of (cells_of block) (begin_wires block).literals;
-  state_out = image_of (cells_of block) (end_wires block).literals;
+  state_in = stored_literals program.bits (begin_wires program.bits).literals;
+  input = taken_literals program.bits (begin_wires program.bits).literals;
+  state_out = stored_literals program.bits (end_wires program).literals;
   ok = ok.literal;
   fail = fail.literal;
 }
 
-abbrev pub judged : Block → Made → Circuit
-judged block fail = outcome block fail (ok_gate fail.nodes fail.literal)
+abbrev pub judged : ProgramTree → Made → Circuit
+judged program fail = outcome program fail (ok_gate fail.nodes fail.literal)
 
-unfoldable pub circuit_of : Block → Expr → Circuit
-circuit_of block invariant = judged block (with_made (invariant_gate block invariant) fail_gate)
+unfoldable pub circuit_of : ProgramTree → Circuit
+circuit_of program = judged program (with_made (holds_gate program) fail_gate)

@@ -1,4 +1,6 @@
+-- what public clauses cite
 pub mod Circuits
+pub mod Correct
 pub mod Made
-pub mod Bits
+-- what private clauses cite
 pub mod Wiring

@@ -1,185 +1,108 @@
-//! The gates of expressions and statements.
-ghost use Rattle.std.specs.Prelude.{◌≡◌, ◌<◌, ◌≤◌, ◌+◌, neg_ℤ, length, pos, slice_index_or, Contains, IfOk, OnOk, All};
-ghost use Rattle.pv_tree.specs.Scope.{key_of, statements_of, IsDeclared, IsDeclaredIn};
+//! The gates of terms and assignments.
+ghost use Rattle.std.specs.Prelude.{◌≡◌, ◌<◌, ◌≤◌, length, map, IfOk, OnOk, All};
 ghost use Rattle.pv_gate.specs.declared.fault.GateFault.TheVariants.{Limit};
 ghost use Rattle.pv_gate.specs.Node.{Names, gate_count};
-ghost use Rattle.pv_gate.specs.Build.{or_gate};
-ghost use Rattle.pv_step.specs.Circuits.{number_of, constant, unary_gate, binary_gate, expression_gate, assign_gate, statement_gates, scan_gate};
-ghost use Rattle.pv_step.specs.Wiring.{Gives};
+ghost use Rattle.pv_bool.specs.Tree.{term_tree, assignment_tree, IsTermOver, IsAssignmentOver};
+ghost use Rattle.pv_bool.specs.Programs.{program_tree};
+ghost use Rattle.pv_step.specs.Circuits.{constant_literal, term_gate, assign_gate, body_gates};
+ghost use Rattle.pv_step.specs.Circuits.{scan_gate};
+ghost use Rattle.pv_step.specs.Wiring.{wires, Gives};
 
+use pv_bool::{Assignment, Program, Term};
 use pv_gate::{FALSE, GateFault, Gates, TRUE};
-use pv_tree::{BinaryOp, Block, Body, Expr, Operand, Root, Scope, Stmt, UnaryOp};
 
-/// The invariant's literal at the end of a scan from these literals of the scope's variables, which
+/// The requirement's literal at the end of a program's scan from these literals of its bits, which
 /// then are those at its end. Limit where it needs more gates than the limit allows.
 pub(crate) fn scan(
     gates: &mut Gates,
-    scope: &Scope,
-    block: &Block,
-    invariant: &Expr,
+    program: &Program,
     literals: &mut [i32],
 ) -> Result<i32, GateFault>
-    requires declared { All (IsDeclaredIn scope.now) (statements_of block.now.body) }
-    requires invariant { IsDeclared scope.now invariant.now }
-    requires cells { length literals.old ≡ length scope.now }
+    requires bits { length literals.old ≡ length program.now.bits.items }
     requires literals { All (Names (length gates.old.nodes)) literals.old }
-    ensures made { Gives gates.old gates.new (scan_gate scope.now (statements_of block.now.body) (record { nodes = gates.old.nodes; literals = literals.old }) invariant.now) result }
-    ensures end { OnOk result (literals.new ≡ (statement_gates scope.now (statements_of block.now.body) (record { nodes = gates.old.nodes; literals = literals.old })).literals) }
+    ensures made { Gives gates.old gates.new
+        (scan_gate (program_tree program.now).body (wires gates.old literals.old)
+        (program_tree program.now).holds) result }
+    ensures end { OnOk result (literals.new
+        ≡ (body_gates (program_tree program.now).body (wires gates.old literals.old)).literals) }
     ensures names { IfOk result (λ literal. Names (length gates.new.nodes) literal) }
 {
-    assign_all(gates, scope, statements_of(block), literals)?;
-    expression(gates, scope, literals, invariant)
+    assign_all(gates, &program.body, literals)?;
+    literal_of(gates, literals, &program.holds)
 }
 
-fn statements_of(block: &Block) -> &[Stmt]
-    ensures { result.now ≡ statements_of block.now.body }
-{
-    let Body::Scl(statements) = &block.body;
-    statements
-}
-
-/// The literal of an expression over the literals of the scope's variables. Operands are made from
-/// left to right. Limit where it needs more gates than the limit allows.
-fn expression(
-    gates: &mut Gates,
-    scope: &Scope,
-    literals: &[i32],
-    expr: &Expr,
-) -> Result<i32, GateFault>
-    requires declared { IsDeclared scope.now expr.now }
-    requires cells { length literals.now ≡ length scope.now }
+/// The literal of a term over the literals of the bits. Parts are made from left to right. Limit
+/// where it needs more gates than the limit allows.
+fn literal_of(gates: &mut Gates, literals: &[i32], term: &Term) -> Result<i32, GateFault>
+    requires over { IsTermOver (length literals.now) (term_tree term.now) }
     requires literals { All (Names (length gates.old.nodes)) literals.now }
-    ensures made { Gives gates.old gates.new (expression_gate scope.now literals.now gates.old.nodes expr.now) result }
+    ensures made { Gives gates.old gates.new
+        (term_gate literals.now gates.old.nodes (term_tree term.now)) result }
     ensures names { IfOk result (λ literal. Names (length gates.new.nodes) literal) }
     ensures longer { length gates.old.nodes ≤ length gates.new.nodes }
 {
-    match expr {
-        Expr::Lit { value, .. } => Ok(constant(gates, *value)),
-        Expr::Read(operand) => Ok(literals[number_of(scope, operand)]),
-        Expr::Unary { op, arg, .. } => {
-            let arg = expression(gates, scope, literals, arg)?;
-            Ok(unary(gates, *op, arg))
+    match term {
+        Term::Constant(value) => Ok(constant(gates, *value)),
+        Term::Load(bit) => Ok(literals[*bit as usize]),
+        Term::Not(inner) => {
+            let inner = literal_of(gates, literals, inner)?;
+            Ok(gates.complement(inner))
         }
-        Expr::Binary {
-            op,
-            left,
-            right,
-            ..
-        } => {
-            let left = expression(gates, scope, literals, left)?;
-            let right = expression(gates, scope, literals, right)?;
-            binary(gates, *op, left, right)
+        Term::And(left, right) => {
+            let left = literal_of(gates, literals, left)?;
+            let right = literal_of(gates, literals, right)?;
+            gates.and(left, right)
         }
-        Expr::Paren(_, inner) => expression(gates, scope, literals, inner),
+        Term::Or(left, right) => {
+            let left = literal_of(gates, literals, left)?;
+            let right = literal_of(gates, literals, right)?;
+            gates.or(left, right)
+        }
     }
 }
 
-/// Makes the gates of the statements in order: each target's literal becomes that of its value.
-fn assign_all(
-    gates: &mut Gates,
-    scope: &Scope,
-    statements: &[Stmt],
-    literals: &mut [i32],
-) -> Result<(), GateFault>
-    requires declared { All (IsDeclaredIn scope.now) statements.now }
-    requires cells { length literals.old ≡ length scope.now }
-    requires literals { All (Names (length gates.old.nodes)) literals.old }
-    ensures made { OnOk result (statement_gates scope.now statements.now (record { nodes = gates.old.nodes; literals = literals.old }) ≡ record { nodes = gates.new.nodes; literals = literals.new }) }
-    ensures same_limit { OnOk result (gates.new.limit ≡ gates.old.limit) }
-    ensures limit { result ≡ Err Limit → gates.old.limit < gate_count (statement_gates scope.now statements.now (record { nodes = gates.old.nodes; literals = literals.old })).nodes }
-    ensures literals { OnOk result (All (Names (length gates.new.nodes)) literals.new) }
-    ensures longer { length gates.old.nodes ≤ length gates.new.nodes }
-{
-    for statement in statements {
-        assign(gates, scope, statement, literals)?;
-    }
-    Ok(())
-}
-
-fn assign(
-    gates: &mut Gates,
-    scope: &Scope,
-    statement: &Stmt,
-    literals: &mut [i32],
-) -> Result<(), GateFault>
-    requires declared { IsDeclaredIn scope.now statement.now }
-    requires cells { length literals.old ≡ length scope.now }
-    requires literals { All (Names (length gates.old.nodes)) literals.old }
-    ensures made { OnOk result (assign_gate scope.now (record { nodes = gates.old.nodes; literals = literals.old }) statement.now ≡ record { nodes = gates.new.nodes; literals = literals.new }) }
-    ensures same_limit { OnOk result (gates.new.limit ≡ gates.old.limit) }
-    ensures limit { result ≡ Err Limit → gates.old.limit < gate_count (assign_gate scope.now (record { nodes = gates.old.nodes; literals = literals.old }) statement.now).nodes }
-    ensures literals { OnOk result (All (Names (length gates.new.nodes)) literals.new) }
-    ensures longer { length gates.old.nodes ≤ length gates.new.nodes }
-{
-    let Stmt::Assign { target, value, .. } = statement;
-    let literal = expression(gates, scope, literals, value)?;
-    literals[number_of(scope, target)] = literal;
-    Ok(())
-}
-
-/// The number of the operand's variable.
-fn number_of(scope: &Scope, operand: &Operand) -> usize
-    requires { Contains scope.now (key_of operand.now) }
-    ensures number { result ≡ number_of scope.now operand.now }
-    ensures within { result < length scope.now }
-{
-    let Root::Local { name, .. } = &operand.root;
-    scope.find(name).unwrap()
-}
-
-/// The literal of a value of BOOL.
-fn constant(gates: &Gates, value: i128) -> i32
-    ensures literal { result ≡ constant value }
+/// The literal of a constant.
+fn constant(gates: &Gates, value: bool) -> i32
+    ensures literal { result ≡ constant_literal value }
     ensures names { Names (length gates.now.nodes) result }
 {
     // Node 1 is there.
     let _count = gates.nodes();
-    if value == 1 { TRUE } else { FALSE }
+    if value { TRUE } else { FALSE }
 }
 
-fn unary(gates: &Gates, op: UnaryOp, arg: i32) -> i32
-    requires { Names (length gates.now.nodes) arg }
-    ensures literal { result ≡ (unary_gate op gates.now.nodes arg).literal }
-    ensures nodes { (unary_gate op gates.now.nodes arg).nodes ≡ gates.now.nodes }
-    ensures names { Names (length gates.now.nodes) result }
-{
-    match op {
-        UnaryOp::Not => complement(gates, arg),
-    }
-}
-
-fn binary(gates: &mut Gates, op: BinaryOp, left: i32, right: i32) -> Result<i32, GateFault>
-    requires left { Names (length gates.old.nodes) left }
-    requires right { Names (length gates.old.nodes) right }
-    ensures made { Gives gates.old gates.new (binary_gate op gates.old.nodes left right) result }
-    ensures names { IfOk result (λ literal. Names (length gates.new.nodes) literal) }
+/// Makes the gates of the assignments in order: each target's literal becomes that of its value.
+fn assign_all(gates: &mut Gates, body: &[Assignment], literals: &mut [i32]) -> Result<(), GateFault>
+    requires body { All (IsAssignmentOver (length literals.old)) (map assignment_tree body.now) }
+    requires literals { All (Names (length gates.old.nodes)) literals.old }
+    ensures made { OnOk result
+        (body_gates (map assignment_tree body.now) (wires gates.old literals.old)
+        ≡ wires gates.new literals.new) }
+    ensures same_limit { OnOk result (gates.new.limit ≡ gates.old.limit) }
+    ensures limit { result ≡ Err Limit → gates.old.limit
+        < gate_count (body_gates (map assignment_tree body.now) (wires gates.old literals.old)).nodes }
+    ensures literals { OnOk result (All (Names (length gates.new.nodes)) literals.new) }
     ensures longer { length gates.old.nodes ≤ length gates.new.nodes }
 {
-    match op {
-        BinaryOp::And => gates.and(left, right),
-        BinaryOp::Or => or(gates, left, right),
+    for assignment in body {
+        assign(gates, assignment, literals)?;
     }
+    Ok(())
 }
 
-/// The literal of `left OR right`: one of the two is true where not both complements are.
-fn or(gates: &mut Gates, left: i32, right: i32) -> Result<i32, GateFault>
-    requires left { Names (length gates.old.nodes) left }
-    requires right { Names (length gates.old.nodes) right }
-    ensures made { Gives gates.old gates.new (or_gate gates.old.nodes left right) result }
-    ensures names { IfOk result (λ literal. Names (length gates.new.nodes) literal) }
+fn assign(gates: &mut Gates, assignment: &Assignment, literals: &mut [i32]) -> Result<(), GateFault>
+    requires over { IsAssignmentOver (length literals.old) (assignment_tree assignment.now) }
+    requires literals { All (Names (length gates.old.nodes)) literals.old }
+    ensures made { OnOk result
+        (assign_gate (wires gates.old literals.old) (assignment_tree assignment.now)
+        ≡ wires gates.new literals.new) }
+    ensures same_limit { OnOk result (gates.new.limit ≡ gates.old.limit) }
+    ensures limit { result ≡ Err Limit → gates.old.limit
+        < gate_count (assign_gate (wires gates.old literals.old) (assignment_tree assignment.now)).nodes }
+    ensures literals { OnOk result (All (Names (length gates.new.nodes)) literals.new) }
     ensures longer { length gates.old.nodes ≤ length gates.new.nodes }
 {
-    let (left, right) = (complement(gates, left), complement(gates, right));
-    let neither = gates.and(left, right)?;
-    Ok(complement(gates, neither))
-}
-
-/// The literal's complement, which fits since there are few nodes.
-pub(crate) fn complement(gates: &Gates, literal: i32) -> i32
-    requires { Names (length gates.now.nodes) literal }
-    ensures complement { result ≡ neg_ℤ literal }
-    ensures names { Names (length gates.now.nodes) result }
-{
-    let _count = gates.nodes();
-    -literal
+    let literal = literal_of(gates, literals, &assignment.value)?;
+    literals[assignment.target as usize] = literal;
+    Ok(())
 }

@@ -1,110 +1,108 @@
-//! The circuit of one scan of a block.
-ghost use Rattle.std.specs.Prelude.{◌≡◌, ◌<◌, ◌≤◌, ◌+◌, length, neg_ℤ, [], ◌∷◌, Ok, Err, IfOk, OnOk, OnErr};
-ghost use Rattle.pv_tree.specs.Scope.{keys_of};
+//! The circuit of one scan of a program.
+ghost use Rattle.std.specs.Prelude.{◌≡◌, ◌<◌, ◌≤◌, ◌+◌, length, neg_ℤ, [], ◌∷◌, Ok, Err};
+ghost use Rattle.std.specs.Prelude.{IfOk, OnOk, OnErr};
 ghost use Rattle.pv_gate.specs.declared.fault.GateFault.TheVariants.{Limit, NoMemory};
 ghost use Rattle.pv_gate.specs.declared.netlist.Node.TheVariants.{True};
-ghost use Rattle.pv_gate.specs.Node.{Names, gate_count};
-ghost use Rattle.pv_mean.specs.Cells.{cells_of};
-ghost use Rattle.pv_mean.specs.Frames.{image_of, input_of};
-ghost use Rattle.pv_step.specs.Circuits.{begin_nodes, begin_literals, circuit_of};
-ghost use Rattle.pv_mean.specs.Conditions.{HasNames};
-ghost use Rattle.pv_step.specs.Bits.{IsCircuit};
+ghost use Rattle.pv_gate.specs.Node.{Names, gate_count, input_count};
+ghost use Rattle.pv_bool.specs.Programs.{program_tree};
+ghost use Rattle.pv_step.specs.Circuits.{is_given, given_count, begin_nodes, begin_literals};
+ghost use Rattle.pv_step.specs.Circuits.{stored_literals, taken_literals, circuit_with, circuit_of};
+ghost use Rattle.pv_step.specs.Correct.{IsCircuit};
+ghost use Rattle.pv_step.specs.Wiring.{next_net, next_literal};
 ghost use Rattle.pv_step.specs.Made.{IsStepCircuit};
 
-use crate::build::{complement, scan};
+use crate::build::scan;
 use crate::made::StepCircuit;
-use pv_gate::{GateFault, Gates, MAX_GATES, MAX_INPUTS, make};
-use pv_mean::{Cell, cells};
-use pv_tree::{Block, Expr, Scope, scope_of};
+use pv_bool::{Bit, Program};
+use pv_gate::{FALSE, GateFault, Gates, MAX_GATES, MAX_INPUTS, make};
+use pv_machine::Role;
 use std::alloc::Global;
 
-/// The step circuit of a block of BOOL variables and assignments, with an invariant over its
-/// variables. Node 1 is true, and node 2 + i is the input of cell i.
+/// The step circuit of a program. Node 1 is true, and the input nodes follow, one for each bit that
+/// is stored or an input, in the order of the bits. Other bits begin as false.
 ///
 /// Limit exactly where it has more than `limit` gates, unless memory runs out first, which is the other
 /// error.
-pub fn circuit(
-    alloc: Global,
-    block: &Block,
-    invariant: &Expr,
-    limit: u32,
-) -> Result<StepCircuit, GateFault>
+pub fn circuit(alloc: Global, program: &Program, limit: u32) -> Result<StepCircuit, GateFault>
     requires gates { limit ≤ MAX_GATES }
-    requires cells { length (cells_of block.now) ≤ MAX_INPUTS }
-    requires names { HasNames block.now invariant.now }
-    ensures made { IfOk result (λ c. IsStepCircuit (circuit_of block.now invariant.now) limit c) }
-    ensures within { OnOk result (gate_count (circuit_of block.now invariant.now).nodes ≤ limit) }
-    ensures limit { result ≡ Err Limit → limit < gate_count (circuit_of block.now invariant.now).nodes }
-    ensures few { OnOk result (length (circuit_of block.now invariant.now).nodes ≤ 1 + length (cells_of block.now) + limit) }
-    ensures kept { OnOk result (IsCircuit (circuit_of block.now invariant.now)) }
+    requires bits { length program.now.bits.items ≤ MAX_INPUTS }
+    ensures made { IfOk result
+        (λ c. IsStepCircuit (circuit_of (program_tree program.now)) limit c) }
+    ensures within { OnOk result
+        (gate_count (circuit_of (program_tree program.now)).nodes ≤ limit) }
+    ensures limit { result ≡ Err Limit
+        → limit < gate_count (circuit_of (program_tree program.now)).nodes }
+    ensures few { OnOk result (length (circuit_of (program_tree program.now)).nodes
+        ≤ 1 + length program.now.bits.items + limit) }
+    ensures kept { OnOk result (IsCircuit (circuit_of (program_tree program.now))) }
 {
-    let scope = or_no_memory(scope_of(alloc, block))?;
-    let cells = or_no_memory(cells(alloc, block))?;
     let gates = or_no_memory(make(alloc, limit))?;
-    build(alloc, &scope, &cells, block, invariant, gates)
+    build(alloc, program, gates)
 }
 
-/// The circuit of a block with these names and cells, on node 1 alone.
-fn build(
-    alloc: Global,
-    scope: &Scope,
-    cells: &[Cell],
-    block: &Block,
-    invariant: &Expr,
-    mut gates: Gates,
-) -> Result<StepCircuit, GateFault>
-    requires scope { scope.now ≡ keys_of block.now.interface.vars.items }
-    requires cells { cells.now ≡ cells_of block.now }
-    requires few { length cells.now ≤ MAX_INPUTS }
+/// The circuit of a program, on node 1 alone.
+fn build(alloc: Global, program: &Program, mut gates: Gates) -> Result<StepCircuit, GateFault>
+    requires bits { length program.now.bits.items ≤ MAX_INPUTS }
     requires empty { gates.nodes ≡ True ∷ [] }
-    requires names { HasNames block.now invariant.now }
-    ensures made { IfOk result (λ c. IsStepCircuit (circuit_of block.now invariant.now) gates.limit c) }
-    ensures within { OnOk result (gate_count (circuit_of block.now invariant.now).nodes ≤ gates.limit) }
-    ensures limit { result ≡ Err Limit → gates.limit < gate_count (circuit_of block.now invariant.now).nodes }
+    ensures made { IfOk result
+        (λ c. IsStepCircuit (circuit_of (program_tree program.now)) gates.limit c) }
+    ensures within { OnOk result
+        (gate_count (circuit_of (program_tree program.now)).nodes ≤ gates.limit) }
+    ensures limit { result ≡ Err Limit
+        → gates.limit < gate_count (circuit_of (program_tree program.now)).nodes }
 {
-    let begin = inputs(alloc, &mut gates, cells.len())?;
+    let begin = inputs(alloc, &mut gates, &program.bits)?;
     let mut end = or_no_memory(Vec::from_slice(alloc, &begin))?;
-    let ok = scan(&mut gates, scope, block, invariant, &mut end)?;
-    judged(alloc, cells, gates, &begin, &end, ok)
+    let ok = scan(&mut gates, program, &mut end)?;
+    judged(alloc, program, gates, &begin, &end, ok)
 }
 
-/// The circuit of these nodes, with the invariant's literal at the end of the scan.
+/// The circuit of these nodes, with the requirement's literal at the end of the scan.
 ///
 /// The scan takes one path: it is done, with neither trap nor loop bound, and so the gates of its
-/// outcome fold to the invariant's literal and its complement.
+/// outcome fold to the requirement's literal and its complement.
 fn judged(
     alloc: Global,
-    cells: &[Cell],
+    program: &Program,
     gates: Gates,
     begin: &[i32],
     end: &[i32],
     ok: i32,
 ) -> Result<StepCircuit, GateFault>
-    requires begin { length begin.now ≡ length cells.now }
-    requires end { length end.now ≡ length cells.now }
+    requires begin { length begin.now ≡ length program.now.bits.items }
+    requires end { length end.now ≡ length program.now.bits.items }
     requires ok { Names (length gates.nodes) ok }
-    requires circuit { IsCircuit (record { nodes = gates.nodes; state_in = image_of cells.now begin.now; input = input_of cells.now begin.now; state_out = image_of cells.now end.now; ok = ok; fail = neg_ℤ ok }) }
+    requires circuit { IsCircuit (circuit_with gates.nodes
+        (stored_literals program.now.bits.items begin.now)
+        (taken_literals program.now.bits.items begin.now)
+        (stored_literals program.now.bits.items end.now) ok (neg_ℤ ok)) }
     ensures gates { IfOk result (λ c. c.gates ≡ gates) }
-    ensures state_in { IfOk result (λ c. c.state_in.items ≡ image_of cells.now begin.now) }
-    ensures input { IfOk result (λ c. c.input.items ≡ input_of cells.now begin.now) }
-    ensures state_out { IfOk result (λ c. c.state_out.items ≡ image_of cells.now end.now) }
+    ensures state_in { IfOk result
+        (λ c. c.state_in.items ≡ stored_literals program.now.bits.items begin.now) }
+    ensures input { IfOk result
+        (λ c. c.input.items ≡ taken_literals program.now.bits.items begin.now) }
+    ensures state_out { IfOk result
+        (λ c. c.state_out.items ≡ stored_literals program.now.bits.items end.now) }
     ensures ok { IfOk result (λ c. c.ok ≡ ok) }
     ensures fail { IfOk result (λ c. c.fail ≡ neg_ℤ ok) }
     ensures within { gate_count gates.nodes ≤ gates.limit }
     ensures err { OnErr result (result ≡ Err NoMemory) }
 {
-    let fail = complement(&gates, ok);
+    // There are no more gates than the limit allows.
+    let _count = gates.nodes();
+    let fail = gates.complement(ok);
     Ok(StepCircuit {
-        state_in: kept(alloc, cells, begin)?,
-        input: taken(alloc, cells, begin)?,
-        state_out: kept(alloc, cells, end)?,
+        state_in: stored(alloc, &program.bits, begin)?,
+        input: taken(alloc, &program.bits, begin)?,
+        state_out: stored(alloc, &program.bits, end)?,
         gates,
         ok,
         fail,
     })
 }
 
-/// What a call made whose one error is want of memory.
+/// What a call made whose one error is want of memory. That the call made this very value lets the
+/// caller cite the call's own clauses.
 fn or_no_memory<T, E: Drop>(made: Result<T, E>) -> Result<T, GateFault>
     ensures made { IfOk result (λ value. made ≡ Ok value) }
     ensures err { OnErr result (result ≡ Err NoMemory) }
@@ -115,17 +113,18 @@ fn or_no_memory<T, E: Drop>(made: Result<T, E>) -> Result<T, GateFault>
     }
 }
 
-/// An input node for each of the cells, with their literals.
-fn inputs(alloc: Global, gates: &mut Gates, count: usize) -> Result<Vec<i32>, GateFault>
+/// The literals with which a scan begins, and an input node for each bit that is stored or an input.
+fn inputs(alloc: Global, gates: &mut Gates, bits: &[Bit]) -> Result<Vec<i32>, GateFault>
     requires empty { gates.old.nodes ≡ True ∷ [] }
-    requires count { count ≤ MAX_INPUTS }
-    ensures literals { IfOk result (λ literals. literals.items ≡ begin_literals count) }
-    ensures nodes { OnOk result (gates.new ≡ record gates.old { nodes = begin_nodes count }) }
+    requires count { length bits.now ≤ MAX_INPUTS }
+    ensures literals { IfOk result (λ literals. literals.items ≡ begin_literals bits.now) }
+    ensures nodes { OnOk result
+        (gates.new ≡ record gates.old { nodes = begin_nodes (given_count bits.now) }) }
     ensures err { OnErr result (result ≡ Err NoMemory) }
 {
-    let mut literals = or_no_memory(Vec::with_capacity(alloc, count))?;
-    for _ in 0..count {
-        let literal = gates.input()?;
+    let mut literals = or_no_memory(Vec::with_capacity(alloc, bits.len()))?;
+    for bit in bits {
+        let literal = begin_literal(gates, bit.role)?;
         if literals.push(literal).is_err() {
             return Err(GateFault::NoMemory);
         }
@@ -133,30 +132,44 @@ fn inputs(alloc: Global, gates: &mut Gates, count: usize) -> Result<Vec<i32>, Ga
     Ok(literals)
 }
 
-/// The literals of the kept cells.
-fn kept(alloc: Global, cells: &[Cell], literals: &[i32]) -> Result<Vec<i32>, GateFault>
-    requires { length literals.now ≡ length cells.now }
-    ensures literals { IfOk result (λ found. found.items ≡ image_of cells.now literals.now) }
+/// The next input's literal for a bit that is stored or an input, and false for another.
+fn begin_literal(gates: &mut Gates, role: Role) -> Result<i32, GateFault>
+    requires { input_count gates.old.nodes < MAX_INPUTS }
+    ensures literal { IfOk result (λ literal. literal ≡ next_literal (is_given role) gates.old) }
+    ensures nodes { OnOk result (gates.new ≡ next_net (is_given role) gates.old) }
+    ensures err { OnErr result (result ≡ Err NoMemory) }
+{
+    if role.is_input() || role.is_stored() {
+        gates.input()
+    } else {
+        Ok(FALSE)
+    }
+}
+
+/// The literals of the stored bits.
+fn stored(alloc: Global, bits: &[Bit], literals: &[i32]) -> Result<Vec<i32>, GateFault>
+    requires { length literals.now ≡ length bits.now }
+    ensures literals { IfOk result (λ found. found.items ≡ stored_literals bits.now literals.now) }
     ensures err { OnErr result (result ≡ Err NoMemory) }
 {
     let mut found = Vec::new(alloc);
-    for (number, cell) in cells.iter().enumerate() {
-        if !cell.role.is_input() && found.push(literals[number]).is_err() {
+    for (number, bit) in bits.iter().enumerate() {
+        if bit.role.is_stored() && found.push(literals[number]).is_err() {
             return Err(GateFault::NoMemory);
         }
     }
     Ok(found)
 }
 
-/// The literals of the input cells.
-fn taken(alloc: Global, cells: &[Cell], literals: &[i32]) -> Result<Vec<i32>, GateFault>
-    requires { length literals.now ≡ length cells.now }
-    ensures literals { IfOk result (λ found. found.items ≡ input_of cells.now literals.now) }
+/// The literals of the input bits.
+fn taken(alloc: Global, bits: &[Bit], literals: &[i32]) -> Result<Vec<i32>, GateFault>
+    requires { length literals.now ≡ length bits.now }
+    ensures literals { IfOk result (λ found. found.items ≡ taken_literals bits.now literals.now) }
     ensures err { OnErr result (result ≡ Err NoMemory) }
 {
     let mut found = Vec::new(alloc);
-    for (number, cell) in cells.iter().enumerate() {
-        if cell.role.is_input() && found.push(literals[number]).is_err() {
+    for (number, bit) in bits.iter().enumerate() {
+        if bit.role.is_input() && found.push(literals[number]).is_err() {
             return Err(GateFault::NoMemory);
         }
     }

@@ -1,44 +1,61 @@
 //! The circuit of a latch, by the public calls.
-ghost use Rattle.std.specs.Prelude.{◌≤◌, length};
-ghost use Rattle.pv_mean.specs.Cells.{cells_of};
+ghost use Rattle.std.specs.Prelude.{◌≡◌, ℕ, length, IfOk};
+ghost use Rattle.pv_bool.specs.Tree.{term_tree, IsTermOver};
 
-use crate::{StepCircuit, circuit};
+use crate::circuit;
+use pv_bool::{Assignment, Bit, Program, Term};
 use pv_gate::{GateFault, Node};
-use pv_tree::{read_block, read_expression, scope_of};
-use std::alloc::Global;
+use pv_machine::Role;
+use std::alloc::{AllocError, Global};
 use std::test::Fail;
 
-const LATCH: &[u8] = b"FUNCTION_BLOCK Latch
-VAR_INPUT start, stop : BOOL; END_VAR
-VAR_OUTPUT run : BOOL; END_VAR
-run := (start OR run) AND NOT stop;
-END_FUNCTION_BLOCK
-";
-
-/// The circuit of the latch with this invariant.
-fn latch(
-    alloc: Global,
-    invariant: &[u8],
-    limit: u32,
-) -> Result<Result<StepCircuit, GateFault>, Fail>
-    requires { limit ≤ 1000 }
+fn and(alloc: Global, left: Term, right: Term) -> Result<Term, AllocError>
+    requires left { IsTermOver 3 (term_tree left) }
+    requires right { IsTermOver 3 (term_tree right) }
+    ensures { IfOk result (λ t. IsTermOver 3 (term_tree t)) }
 {
-    let block = read_block(alloc, 0, LATCH)?;
-    let invariant = read_expression(alloc, 0, invariant)?;
-    let scope = scope_of(alloc, &block)?;
-    let few = block.interface.vars.len() <= 1000;
-    if few && scope.declares(&invariant) {
-        Ok(circuit(alloc, &block, &invariant, limit))
-    } else {
-        Err(Fail::from("the latch isn't of the form"))
-    }
+    Ok(Term::And(Box::new(alloc, left)?, Box::new(alloc, right)?))
 }
 
-// Nodes 2, 3 and 4 are start, stop and run. The last gate is both operands of the invariant, which
+fn or(alloc: Global, left: Term, right: Term) -> Result<Term, AllocError>
+    requires left { IsTermOver 3 (term_tree left) }
+    requires right { IsTermOver 3 (term_tree right) }
+    ensures { IfOk result (λ t. IsTermOver 3 (term_tree t)) }
+{
+    Ok(Term::Or(Box::new(alloc, left)?, Box::new(alloc, right)?))
+}
+
+fn not(alloc: Global, term: Term) -> Result<Term, AllocError>
+    requires { IsTermOver 3 (term_tree term) }
+    ensures { IfOk result (λ t. IsTermOver 3 (term_tree t)) }
+{
+    Ok(Term::Not(Box::new(alloc, term)?))
+}
+
+/// `run := (start OR run) AND NOT stop`, over the bits start, stop and run, of which the last has this
+/// role.
+fn latch(alloc: Global, run: Role, holds: Term) -> Result<Program, AllocError>
+    requires { IsTermOver 3 (term_tree holds) }
+    ensures { IfOk result (λ p. length p.bits.items ≡ 3) }
+{
+    let bit = |role| Bit { role, start: false };
+    let bits = Vec::from_slice(alloc, &[bit(Role::Input), bit(Role::Input), bit(run)])?;
+    let on = or(alloc, Term::Load(0), Term::Load(2))?;
+    let off = not(alloc, Term::Load(1))?;
+    let value = and(alloc, on, off)?;
+    let mut body = Vec::new(alloc);
+    body.push(Assignment { target: 2, value })?;
+    Ok(Program { bits, body, holds })
+}
+
+// Nodes 2, 3 and 4 are start, stop and run. The last gate is both operands of the requirement, which
 // fails where it is true.
 #[test]
 fn step_of_a_latch(rt: HostRuntime) -> Result<(), Fail> {
-    let step = latch(rt.alloc(), b"NOT (run AND stop)", 3)??;
+    let both = and(rt.alloc(), Term::Load(2), Term::Load(1))?;
+    let holds = not(rt.alloc(), both)?;
+    let program = latch(rt.alloc(), Role::Kept, holds)?;
+    let step = circuit(rt.alloc(), &program, 3)?;
     assert_eq!(rt; step.gates.nodes(), 7);
     assert_eq!(rt; step.gates.node(4), Node::Input(2));
     assert_eq!(rt; step.gates.node(5), Node::And(-2, -4));
@@ -50,16 +67,23 @@ fn step_of_a_latch(rt: HostRuntime) -> Result<(), Fail> {
     assert_eq!(rt; step.ok, -7);
     assert_eq!(rt; step.fail, 7);
 
-    let full = latch(rt.alloc(), b"NOT (run AND stop)", 2)?;
+    let full = circuit(rt.alloc(), &program, 2);
     assert!(rt; matches!(&full, Err(GateFault::Limit)));
     Ok(())
 }
 
-// The gates fold, so an invariant of constants alone needs none besides the statement's two.
+// A bit that is neither stored nor an input has no node and begins as false, so the gates fold: the
+// last one is `start AND NOT stop`, and the requirement of constants needs none.
 #[test]
 fn constants_fold(rt: HostRuntime) -> Result<(), Fail> {
-    let step = latch(rt.alloc(), b"NOT (TRUE AND stop OR FALSE)", 2)??;
-    assert_eq!(rt; step.gates.nodes(), 6);
+    let both = and(rt.alloc(), Term::Constant(true), Term::Load(1))?;
+    let either = or(rt.alloc(), both, Term::Constant(false))?;
+    let holds = not(rt.alloc(), either)?;
+    let program = latch(rt.alloc(), Role::Brief, holds)?;
+    let step = circuit(rt.alloc(), &program, 1)?;
+    assert_eq!(rt; step.gates.nodes(), 4);
+    assert_eq!(rt; step.gates.node(4), Node::And(2, -3));
+    assert_eq!(rt; step.state_out.as_slice(), [].as_slice());
     assert_eq!(rt; step.ok, -3);
     assert_eq!(rt; step.fail, 3);
     Ok(())

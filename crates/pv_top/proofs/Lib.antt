@@ -1,11 +1,7 @@
-mod CaseLemmas
 mod WordsLemmas
-mod ProjectLemmas
-mod ShapeLemmas
-mod ShapeAnswers
-mod OneProject
-mod OneAnswer
+mod Unique
+mod Stages
+mod Proved
+mod Said
 mod Exact
-mod StopLemmas
-mod RecheckLemmas
-mod SayLemmas
+mod Promised

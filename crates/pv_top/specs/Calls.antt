@@ -2,15 +2,14 @@
 use Rattle.std.specs.Prelude.{◌≡◌, ◌≢◌, ◌⊎◌, ◌↔◌, ℕ, List, [], ◌∷◌, Option, Some, codes}
 use Rattle.pv_edge.specs.Faults.{HasRisen}
 use Rattle.pv_edge.specs.Files.{FileMap}
-use Rattle.pv_edge.specs.Sink.{Takes, TakesPart}
+use Rattle.pv_edge.specs.Sink.{Takes, TakesLess}
 use Rattle.pv_top.specs.declared.words.Command.{Command}
-use Rattle.pv_top.specs.declared.words.Command.TheVariants.{Replay, Recheck}
-use Rattle.pv_top.specs.declared.answer.Answer.{Answer}
-use Rattle.pv_top.specs.declared.answer.Answer.TheVariants.{Refusal}
-use Rattle.pv_top.specs.declared.answer.Refusal.TheVariants.{Words}
-use Rattle.pv_top.specs.Answers.{status_of, text_of}
+use Rattle.pv_top.specs.declared.words.Command.TheVariants as command
+use Rattle.pv_top.specs.declared.outcome.Outcome.{Outcome}
+use Rattle.pv_top.specs.declared.outcome.Outcome.TheVariants.{NoCommand, Replay, Recheck}
+use Rattle.pv_top.specs.Texts.{status_of, text_of}
 use Rattle.pv_top.specs.Replays.{SaysReplay, ReplaysExactly}
-use Rattle.pv_top.specs.Rechecks.{SaysRecheck, RechecksExactly}
+use Rattle.pv_top.specs.Rechecks.{HoldsSatisfied, SaysRecheck, RechecksExactly}
 
 -- a run of the program, seen from outside: its words and its status, what the files are told to hold, what the sink has taken
 -- and the counts of faults, before and after
@@ -20,6 +19,8 @@ pub record Call : Type 0 where
   pub status : ℕ
   pub reads : ℕ
   pub reads_after : ℕ
+  pub writes : ℕ
+  pub writes_after : ℕ
   pub sink : ℕ
   pub sink_after : ℕ
   pub taken : Option (List ℕ)
@@ -39,25 +40,33 @@ IsCommand words = (first : List ℕ) × (second : List ℕ) × (IsReplay words f
 
 -- the words spell the command
 abbrev pub Spells : List (List ℕ) → Command → Type 0
-Spells words (Replay case trace) = IsReplay words case.now trace.now
-Spells words (Recheck case certificate) = IsRecheck words case.now certificate.now
+Spells words (command.Replay case trace) = IsReplay words case.now trace.now
+Spells words (command.Recheck case certificate) = IsRecheck words case.now certificate.now
 
--- what an answer to the words says is so
-pub data Says (told : Option FileMap) (words : List (List ℕ)) (answer : Answer) : Type 0 where
-  no_command : (IsCommand words → ⊥) → answer ≡ Refusal Words → Says told words answer
-  of_replay : (case_file trace_file : List ℕ) → IsReplay words case_file trace_file → SaysReplay told case_file trace_file answer → Says told words answer
-  of_recheck : (case_file certificate_file : List ℕ) → IsRecheck words case_file certificate_file → SaysRecheck told case_file certificate_file answer → Says told words answer
+-- what the words came to is so
+abbrev pub Says : Option FileMap → List (List ℕ) → Outcome → Type 0
+Says told words NoCommand = IsCommand words → ⊥
+Says told words (Replay result) =
+    (case_file : List ℕ) × (file : List ℕ) × IsReplay words case_file file × SaysReplay told case_file file result
+Says told words (Recheck result) =
+    (case_file : List ℕ) × (file : List ℕ) × IsRecheck words case_file file × SaysRecheck told case_file file result
 
--- the answer's text went to the sink: all of it behind what was there, or after status 7 and 9 a prefix of it
-pub record Delivers (answer : Answer) (code : ℕ) (taken taken_after : Option (List ℕ)) : Type 0 where
-  pub status : code ≢ 7 → code ≢ 9 → code ≡ status_of answer
-  pub whole : code ≢ 7 → code ≢ 9 → Takes (text_of answer) taken taken_after
-  pub part : TakesPart (text_of answer) taken taken_after
+-- the outcome's text went to the sink: all of it behind what was there, with the outcome's status; or, with status 7 or 9, less
+-- than all of it; or memory ended before a text was offered
+pub data Delivers (outcome : Outcome) (status : ℕ) (taken taken_after : Option (List ℕ)) : Type 0 where
+  whole : (text : List ℕ) → text_of outcome ≡ Some text → status ≡ status_of outcome → Takes text taken taken_after
+      → Delivers outcome status taken taken_after
+  part : (text : List ℕ) → text_of outcome ≡ Some text → (status ≡ 7) ⊎ (status ≡ 9) → TakesLess text taken taken_after
+      → Delivers outcome status taken taken_after
+  silent : status ≡ 9 → taken_after ≡ taken → Delivers outcome status taken taken_after
 
--- the answer that the words have on these files is delivered, or want of memory came before there was one
-pub data Answers (call : Call) : Type 0 where
-  answers : (answer : Answer) → Says call.told call.words answer → Delivers answer call.status call.taken call.taken_after → Answers call
-  silent : call.status ≡ 9 → call.taken_after ≡ call.taken → Answers call
+-- the words came to an outcome that is so, whose text is delivered. It is that a file can't be read only where the count of failed
+-- reads rose, whatever the status is then
+pub record Answers (call : Call) : Type 0 where
+  pub outcome : Outcome
+  pub says : Says call.told call.words outcome
+  pub unread : status_of outcome ≡ 6 → HasRisen call.reads call.reads_after
+  pub delivers : Delivers outcome call.status call.taken call.taken_after
 
 -- the status is none of a read fault, a write fault and want of memory
 pub record IsSettled (status : ℕ) : Type 0 where
@@ -74,10 +83,20 @@ pub record Promises (call : Call) : Type 0 where
   -- status 5 comes exactly where the words are no command's
   pub no_command : IsSettled call.status → (call.status ≡ 5) ↔ (IsCommand call.words → ⊥)
   -- where the files tell their bytes, the status comes exactly where they hold what it says, and the text that goes with it is taken
-  pub replay : (files : FileMap) (case_file trace_file : List ℕ) → call.told ≡ Some files → IsReplay call.words case_file trace_file → IsSettled call.status
+  pub replay : (files : FileMap) (case_file trace_file : List ℕ) → call.told ≡ Some files → IsReplay call.words case_file trace_file
+      → IsSettled call.status
       → ReplaysExactly files case_file trace_file call.status (IsTakenIn call)
-  pub recheck : (files : FileMap) (case_file certificate_file : List ℕ) → call.told ≡ Some files → IsRecheck call.words case_file certificate_file → IsSettled call.status
+  pub recheck : (files : FileMap) (case_file certificate_file : List ℕ) → call.told ≡ Some files
+      → IsRecheck call.words case_file certificate_file → IsSettled call.status
       → RechecksExactly files case_file certificate_file call.status (IsTakenIn call)
-  -- a read fault and a write fault are told only where their count rose
+  -- a recheck ends with status 0 only where the requirement is satisfied, whoever made the certificate
+  pub satisfied : (case_file certificate_file : List ℕ) → IsRecheck call.words case_file certificate_file → call.status ≡ 0
+      → HoldsSatisfied call.told case_file
+  -- a read fault and a write fault are told only where their count rose. After a settled status that of reads is as before, and after
+  -- each but a write fault that of the sink
   pub unread : call.status ≡ 6 → HasRisen call.reads call.reads_after
+  pub all_read : IsSettled call.status → call.reads_after ≡ call.reads
   pub unwritten : call.status ≡ 7 → HasRisen call.sink call.sink_after
+  pub all_written : call.status ≢ 7 → call.sink_after ≡ call.sink
+  -- no command of today writes a file
+  pub no_writes : call.writes_after ≡ call.writes

@@ -1,18 +1,25 @@
--- A case's project: the block that its source reads as, and the invariant over it.
+-- What a case and its source say together: the block that is run, with the requirement over it.
 use Rattle.std.specs.Prelude.{◌≡◌, ℕ, List}
-use Rattle.pv_tree.specs.declared.name.Name.{Name}
-use Rattle.pv_tree.specs.declared.tree.Expr.{Expr}
-use Rattle.pv_tree.specs.declared.tree.Block.{Block}
-use Rattle.pv_tree.specs.Scope.{keys_of, IsDeclared, KeepsNames}
-use Rattle.pv_tree.specs.Shape.{expr_shape, block_shape}
-use Rattle.pv_tree.specs.Reading.{ReadsBlock, ReadsExpression, ReadsName}
-use Rattle.pv_top.specs.Cases.{CaseData}
+use Rattle.pv_types.specs.declared.name.Name.{Name}
+use Rattle.pv_tree.specs.Tree.{ExprTree, BlockTree}
+use Rattle.pv_tree.specs.Names.{HasNames}
+use Rattle.pv_scl_parse.specs.Reading.{ReadsBlock, ReadsExpression, ReadsName}
+use Rattle.pv_mean.specs.Sources.{Source, source_of}
+use Rattle.pv_case.specs.Cases.{CaseData}
 
--- the source reads as the block, which has the name that the case's entry reads as and keeps the rules on names; the case's
--- invariant reads as the expression, whose names the block declares
-pub record IsProject (case : CaseData) (source : List ℕ) (block : Block) (a : Expr) : Type 0 where
-  pub reads : ReadsBlock 0 source (block_shape block)
-  pub entry : (name : Name) × ReadsName case.entry name × (name.key ≡ block.name.key)
-  pub names : KeepsNames block
-  pub invariant : ReadsExpression 0 case.invariant (expr_shape a)
-  pub declared : IsDeclared (keys_of block.interface.vars.items) a
+pub record Project : Type 0 where
+  pub case : CaseData
+  pub block : BlockTree
+  pub requirement : ExprTree
+
+-- what is run
+abbrev pub source_in : Project → Source
+source_in p = source_of p.block p.case.limits.loop_bound
+
+-- the source's bytes read as the block, which has the name that the case's entry reads as and keeps the rules on names; the
+-- case's invariant reads as the requirement, whose names the block declares
+pub record IsProject (bytes : List ℕ) (p : Project) : Type 0 where
+  pub reads : ReadsBlock 0 bytes p.block
+  pub entry : (name : Name) × ReadsName p.case.entry name × (name.key ≡ p.block.name.key)
+  pub requires : ReadsExpression 0 p.case.invariant p.requirement
+  pub names : HasNames p.block p.requirement

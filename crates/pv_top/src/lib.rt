@@ -1,21 +1,27 @@
 //! The commands of plcv, over the files and the sink that they are handed.
+//!
+//! A command goes through stages: its case, the source that the case names, its second file. Each stage has a module with what it
+//! reads and why it may stop there; `outcome` is what a run came to, with its status and its text. `specs/Calls` has the
+//! promises of `run`.
 #![tactic(auto)]
 
-ghost use Rattle.std.specs.Prelude.{◌≡◌, ◌≤◌, ◌⊎◌, IfSome, map, string_bytes};
+ghost use Rattle.std.specs.Prelude.{◌≡◌, ◌≢◌, ◌⊎◌, map, string_bytes};
 ghost use Rattle.pv_edge.specs.Faults.{HasRisen};
-ghost use Rattle.pv_top.specs.Answers.{status_of};
+ghost use Rattle.pv_top.specs.Inputs.{Counts};
+ghost use Rattle.pv_top.specs.Texts.{status_of};
 ghost use Rattle.pv_top.specs.Calls.{Says, Delivers, Promises};
 
-mod answer;
 mod case;
-mod inputs;
 pub mod laws;
+mod outcome;
+mod read;
 mod recheck;
 mod replay;
+mod source;
 mod words;
 
-pub use answer::Status;
-use answer::{Answer, NO_MEMORY, Refusal, WRITE_FAULT, answer_in};
+pub use outcome::Status;
+use outcome::{NO_MEMORY, Outcome, WRITE_FAULT};
 use pv_edge::{Files, Sink, SinkFault, Text};
 use recheck::recheck;
 use replay::replay;
@@ -41,6 +47,8 @@ pub fn run<F: Files, S: Sink>(
       status = result;
       reads = F.read_faults files.old;
       reads_after = F.read_faults files.new;
+      writes = F.write_faults files.old;
+      writes_after = F.write_faults files.new;
       sink = S.faults out.old;
       sink_after = S.faults out.new;
       taken = S.taken out.old;
@@ -48,42 +56,40 @@ pub fn run<F: Files, S: Sink>(
     }) }
 {
     let _ = kept;
-    match answer_of(alloc, words, files) {
-        Some(answer) => print(alloc, out, &answer),
-        None => NO_MEMORY,
-    }
+    let outcome = outcome_of(alloc, words, files);
+    print(alloc, out, &outcome)
 }
 
-/// What the command has to say, or None for want of memory.
-fn answer_of<F: Files>(alloc: Global, words: &[String], files: &mut F) -> Option<Answer>
+/// What the words come to.
+fn outcome_of<F: Files>(alloc: Global, words: &[String], files: &mut F) -> Outcome
     ensures files { F.told files.new ≡ F.told files.old }
-    ensures says { IfSome result (Says (F.told files.old) (map string_bytes words.now)) }
-    ensures unread { IfSome result (λ answer. status_of answer ≡ 6 → HasRisen (F.read_faults files.old) (F.read_faults files.new)) }
+    ensures says { Says (F.told files.old) (map string_bytes words.now) result }
+    ensures counted { Counts (status_of result) (F.read_faults files.old) (F.read_faults files.new) }
+    ensures writes { F.write_faults files.new ≡ F.write_faults files.old }
 {
     match read_words(words) {
-        None => Some(Answer::Refusal(Refusal::Words)),
-        Some(Command::Replay { case, trace }) => answer_in(replay(alloc, files, case, trace)),
+        None => Outcome::NoCommand,
+        Some(Command::Replay { case, trace }) => {
+            Outcome::Replay(replay(alloc, files, case, trace))
+        }
         Some(Command::Recheck { case, certificate }) => {
-            answer_in(recheck(alloc, files, case, certificate))
+            Outcome::Recheck(recheck(alloc, files, case, certificate))
         }
     }
 }
 
-/// Makes the answer's text whole and offers it to the sink.
-fn print<S: Sink>(alloc: Global, out: &mut S, answer: &Answer) -> Status
-    ensures status { (result ≡ status_of answer.now) ⊎ ((result ≡ 7) ⊎ (result ≡ 9)) }
-    ensures delivers { Delivers answer.now result (S.taken out.old) (S.taken out.new) }
+/// Makes the outcome's text whole and offers it to the sink.
+fn print<S: Sink>(alloc: Global, out: &mut S, outcome: &Outcome) -> Status
+    ensures delivers { Delivers outcome.now result (S.taken out.old) (S.taken out.new) }
     ensures unwritten { result ≡ 7 → HasRisen (S.faults out.old) (S.faults out.new) }
+    ensures all_written { result ≢ 7 → S.faults out.new ≡ S.faults out.old }
 {
-    let Ok(text) = answer.text(alloc) else {
+    let Ok(text) = outcome.text(alloc) else {
         return NO_MEMORY;
     };
     match pv_edge::write_all(out, text.as_bytes()) {
-        Ok(()) => answer.status(),
+        Ok(()) => outcome.status(),
         Err(SinkFault::Failed) => WRITE_FAULT,
         Err(SinkFault::NoMemory) => NO_MEMORY,
     }
 }
-
-#[cfg(test)]
-mod tests;

@@ -1,11 +1,3 @@
-pub mod Shape
-pub mod Expressions
-pub mod Statements
-pub mod Declarations
-pub mod Reading
-pub mod Readers
-pub mod Scope
-pub mod Form
-pub mod Tokens
-pub mod Stretches
-pub mod Words
+pub mod Tree
+pub mod FirstForm
+pub mod Names

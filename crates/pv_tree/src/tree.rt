@@ -1,9 +1,7 @@
-//! The trees of sources: blocks, declarations, statements and expressions.
-ghost use Rattle.std.specs.Prelude.{◌≡◌};
-ghost use Rattle.std.specs.Str.{str_to_ascii_lowercase};
+//! The trees of sources: blocks, statements and expressions.
 
-use crate::name::Name;
-use crate::place::Place;
+use pv_machine::Place;
+use pv_types::{Interface, Name};
 use pv_word::Ty;
 
 /// An expression.
@@ -82,51 +80,6 @@ pub enum Stmt {
     },
 }
 
-/// The kind of a variable.
-#[derive(Clone, Copy, PartialEq, Eq, Debug)]
-pub enum Section {
-    /// VAR_INPUT.
-    Input,
-    /// VAR_OUTPUT.
-    Output,
-    /// VAR.
-    Static,
-}
-
-/// The type of a declaration.
-#[derive(Clone, Copy, PartialEq, Eq, Debug)]
-pub enum DeclType {
-    /// A simple type.
-    Plain(Ty),
-}
-
-/// A literal: its type where it has one of its own, its value, and its first token's place.
-#[derive(Clone, Copy, PartialEq, Eq, Debug)]
-pub struct Literal {
-    pub ty: Option<Ty>,
-    pub value: i128,
-    pub place: Place,
-}
-
-/// A declared variable, with its start value where one is written, and the place of its name.
-#[derive(Drop)]
-pub struct Var {
-    pub name: Name,
-    pub section: Section,
-    pub ty: DeclType,
-    pub start: Option<Literal>,
-    pub place: Place,
-    /// A variable's name is a word, and its key is that word in lower case.
-    pub ghost word: { name.key ≡ str_to_ascii_lowercase name.spelled },
-}
-
-/// The variables of a block in the order of their declarations, and the type of the value that a function has.
-#[derive(Drop)]
-pub struct Interface {
-    pub vars: Vec<Var>,
-    pub value: Option<Ty>,
-}
-
 /// The kind of a block.
 #[derive(Clone, Copy, PartialEq, Eq, Debug)]
 pub enum BlockKind {
@@ -141,7 +94,7 @@ pub enum Body {
     Scl(Vec<Stmt>),
 }
 
-/// A block, with the place of its opening word.
+/// A block, with the place of its name's first token, where a doubled name is reported.
 #[derive(Drop)]
 pub struct Block {
     pub kind: BlockKind,

@@ -1,4 +1,6 @@
 -- The laws of patterns and their bits.
+-- A mask `n & (2 ^ w - 1)` on `cast_unsigned` is a pattern in one step (`pattern-lowest`, by `and_mask`), with no division in the
+-- code.
 use Rattle.std.proofs.Common.{◌≡◌, ℕ, zero, suc, ◌+◌, ◌-◌, ◌*◌, ◌/◌, ◌%◌, ◌^◌, ◌<◌, ◌≤◌, arith, refl, ap, sym, subst, ◌∙◌, Bool, nat_lt, ⊎_elim}
 use Rattle.std.specs.Prelude.{ℤ, pos, negsuc, ◌≤ℤ◌, ◌<ℤ◌, FitsSigned, ◌+ℤ◌, ◌-ℤ◌, min, max, bit_and, if◌then◌else◌}
 use Rattle.std.specs.Int.{bit_at, w128, cast_unsigned}

@@ -1,4 +1,9 @@
 -- The laws of congruence modulo m, and of what is left of a number modulo m.
+-- Every fact about `wrap` comes from congruence. Show `IsCongruent (2 ^ w) a b` by `congruent-sum`, `-difference`, `-negation`,
+-- `-product`, `-trans`, `-divisor` of this module, then `wrap-congruent_same`. Two numbers in range with the same pattern or the
+-- same bits are one: `in_range-congruent`, `in_range-pattern_same`, `has_bits-unique`. Equations on whole numbers go to `omega
+-- (arith, ints)`. A product with an unknown power of 2 is one atom to `omega`: give it the equations multiplied out (`ap (λ n. n *
+-- m) e`). `pow-le-pow_right` at two numerals computes away: write `{i = ..} {j = ..}`.
 use Rattle.std.proofs.Common.{◌≡◌, ℕ, ◌+◌, ◌-◌, ◌*◌, ◌/◌, ◌%◌, ◌<◌, ◌≤◌, arith, refl, ap, sym, ◌∙◌, ⊎_elim}
 use Rattle.std.specs.Prelude.{ℤ, pos, negsuc, neg_ℤ, ◌+ℤ◌, ◌-ℤ◌, ◌*ℤ◌, unsigned_abs}
 use Rattle.std.proofs.lemmas.Int.{ints}

@@ -1,4 +1,5 @@
 -- The laws of the types: each has a bit, and at most 32.
+-- `width_of ty` at a variable type closes by cases alone in small functions (`least`, `greatest`, `in_range`).
 use Rattle.std.proofs.Common.{ℕ, ◌+◌, ◌-◌, ◌<◌, ◌≤◌, ◌^◌, arith, Bool as Truth, true, false}
 use Rattle.std.specs.Prelude.{ℤ}
 use Rattle.std.proofs.lemmas.Int.{ints}

@@ -1,4 +1,9 @@
 -- The laws of the number of w bits that is left of a whole number.
+-- The laws here and in `BitLaws` and `DivisionLaws` stand over a width and a sign; at a type give them `width_of ty`,
+-- `is_signed_of ty` and `wide ty`. `wrap_at` and `pattern_at` are `unfoldable`, so goals stay short: unfold them in the few lemmas
+-- that tie them to `residue`, and cite the laws elsewhere. What code computes at `i128` appears as `to_z w128 (of_z w128 z)`:
+-- `to_z-of_z w128 z fits`, with `record { sfits = c.CALL.type_inv }` for a call's result and `c.ranges.x` for an argument, takes
+-- it off; with such equations in a `let`, `omega (arith, ints)` uses them.
 use Rattle.std.proofs.Common.{◌≡◌, ℕ, ◌+◌, ◌-◌, ◌*◌, ◌<◌, ◌≤◌, ◌^◌, arith, ap, sym, ◌∙◌, Bool, true, false}
 use Rattle.std.specs.Prelude.{ℤ, pos, ◌+ℤ◌, ◌-ℤ◌, ◌*ℤ◌}
 use Rattle.std.proofs.lemmas.Int.{ints}

@@ -1,5 +1,7 @@
-use Rattle.pv_top.proofs.SayLemmas.{promised}
+use Rattle.pv_top.proofs.Promised.{promised}
 use Rattle.pv_top.proofs.run.Goals as goal
 
-pub returns-in-Some-clause-promises : goal.returns-in-Some-clause-promises
-returns-in-Some-clause-promises g c = promised _ c.in-Some.answer c.in-Some.ensures.says c.print.ensures.delivers c.in-Some.ensures.unread c.print.ensures.unwritten
+pub returns-clause-promises : goal.returns-clause-promises
+returns-clause-promises g c =
+    promised _ c.outcome_of-outcome.result c.outcome_of-outcome.ensures.says c.outcome_of-outcome.ensures.counted c.print.ensures.delivers
+    c.print.ensures.unwritten c.print.ensures.all_written c.outcome_of-outcome.ensures.writes

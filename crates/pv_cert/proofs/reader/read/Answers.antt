@@ -1,4 +1,4 @@
-use Rattle.pv_cert.proofs.Whole.{reads-ok, reads-complete, reads-stuck, reads-refused}
+use Rattle.pv_cert.proofs.Whole.{reads-ok, reads-complete, reads-writable, reads-stuck, reads-refused}
 use Rattle.pv_cert.proofs.reader.read.Goals as goal
 
 pub returns-clause-found : goal.returns-clause-found
@@ -12,3 +12,6 @@ returns-clause-stuck c = reads-stuck c.args.bytes.now c.read_lines.result c.read
 
 pub returns-clause-refused : goal.returns-clause-refused
 returns-clause-refused c = reads-refused c.args.bytes.now c.read_lines.result c.read_lines.ensures
+
+pub returns-clause-writable : goal.returns-clause-writable
+returns-clause-writable c = reads-writable c.args.bytes.now c.read_lines.result c.read_lines.ensures

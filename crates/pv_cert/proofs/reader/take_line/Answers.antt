@@ -8,3 +8,6 @@ returns-in-Counted c = rw c.in-Counted.is c.take_count.ensures
 
 pub returns-in-Lines : goal.returns-in-Lines
 returns-in-Lines c = rw c.in-Lines.is c.take_log_line.ensures
+
+pub returns-in-Reduced : goal.returns-in-Reduced
+returns-in-Reduced c = rw c.in-Reduced.is c.take_chain.ensures

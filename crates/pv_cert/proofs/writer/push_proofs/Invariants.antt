@@ -1,8 +1,11 @@
 use Rattle.std.proofs.Common.{◌≡◌, ◌++◌, take}
-use Rattle.std.specs.List.{flat_map}
-use Rattle.pv_cert.specs.CertificateText.{text_of_lines, proof_lines}
+use Rattle.std.specs.List.{flat_map, AllByRecursion}
+use Rattle.pv_cert.specs.CertificateText.{text_of_lines, proof_lines, HasProofText}
 use Rattle.pv_cert.proofs.writer.push_proofs.Given as goal
 
--- the proofs so far are written
+-- the proofs so far are written, and have a text
 abbrev pub invariant-loop-proof : goal.invariant-loop-proof
-invariant-loop-proof l = l.text.items ≡ l.initial.text.items ++ text_of_lines (flat_map proof_lines (take l.proof-index l.proofs))
+invariant-loop-proof l = record {
+  text : l.text.items ≡ l.initial.text.items ++ text_of_lines (flat_map proof_lines (take l.proof-index l.proofs));
+  valid : AllByRecursion HasProofText (take l.proof-index l.proofs);
+}

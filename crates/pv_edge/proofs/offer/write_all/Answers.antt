@@ -1,14 +1,23 @@
-use Rattle.std.proofs.Common.{◌∙◌}
-use Rattle.pv_edge.proofs.Taking.{takes-step, takes-end, takes-zero}
+use Rattle.std.proofs.Common.{◌∙◌, ◌<◌, length, rules}
+use Rattle.pv_edge.proofs.Taking.{takes-step, takes-end, takes-zero, offered}
 use Rattle.pv_edge.proofs.offer.write_all.Goals as goal
 
 pub returns-in-Ok-eq0-clause-err : goal.returns-in-Ok-eq0-clause-err
-returns-in-Ok-eq0-clause-err g c = takes-end _ _ _ _ _ c.loop-rest.invariant.0 (takes-zero _ _ _ _ c.in-Ok-eq0.field-0-test c.in-Ok-eq0.ensures.ok)
+returns-in-Ok-eq0-clause-err g c =
+    let more : 0 < length c.loop-rest.rest.now = search rules in
+    takes-end _ _ _ _ _ more c.loop-rest.invariant.front (takes-zero _ _ _ _ c.in-Ok-eq0.field-0-test c.in-Ok-eq0.ensures.ok)
 
 pub loop-rest-preserved : goal.loop-rest-preserved
 loop-rest-preserved g c =
     let inv = c.loop-rest.invariant in
-    (takes-step _ inv.0.0 _ _ _ _ _ inv.0.1 inv.0.2 c.in-Ok.ensures.ok _ c.split_at.ensures.back, c.in-Ok.ensures.only_faults (λ none. absurd (c.in-Ok.n-test.1 none)) ∙ inv.1)
+    let more : 0 < length c.loop-rest.rest.now = search rules in
+    record {
+      front = takes-step _ inv.front.0 _ _ _ _ _ inv.front.1 inv.front.2 c.in-Ok.ensures.ok _ c.split_at.ensures.back;
+      faults = c.in-Ok.ensures.only_faults (λ none. absurd (c.in-Ok.n-test.1 none)) ∙ inv.faults;
+      idle = λ none. offered _ inv.front.0 _ more inv.front.1 none;
+    }
 
 pub returns-in-Err-clause-err : goal.returns-in-Err-clause-err
-returns-in-Err-clause-err g c = takes-end _ _ _ _ _ c.loop-rest.invariant.0 c.in-Err.ensures.err
+returns-in-Err-clause-err g c =
+    let more : 0 < length c.loop-rest.rest.now = search rules in
+    takes-end _ _ _ _ _ more c.loop-rest.invariant.front c.in-Err.ensures.err

@@ -1,4 +1,4 @@
-use Rattle.pv_log.proofs.Spelled.{reads-ok, reads-complete, reads-stuck, reads-refused}
+use Rattle.pv_log.proofs.Spelled.{reads-ok, reads-complete, reads-stuck, reads-refused, reads-writable}
 use Rattle.pv_log.proofs.read.read_line.Goals as goal
 
 pub returns-clause-found : goal.returns-clause-found
@@ -6,6 +6,9 @@ returns-clause-found c = reads-ok c.args.text.now c.read.result c.read.ensures
 
 pub returns-clause-complete : goal.returns-clause-complete
 returns-clause-complete c = reads-complete c.args.text.now c.read.result c.read.ensures
+
+pub returns-clause-writable : goal.returns-clause-writable
+returns-clause-writable c = reads-writable c.args.text.now c.read.result c.read.ensures
 
 pub returns-clause-stuck : goal.returns-clause-stuck
 returns-clause-stuck c = reads-stuck c.args.text.now c.read.result c.read.ensures

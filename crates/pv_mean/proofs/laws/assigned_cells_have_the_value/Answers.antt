@@ -1,4 +1,4 @@
-use Rattle.pv_mean.proofs.FrameLaws.{value_at-assigned}
+use Rattle.pv_mean.proofs.Statements.{value_at-assigned}
 use Rattle.pv_mean.proofs.laws.assigned_cells_have_the_value.Goals as goal
 
 pub returns : goal.returns

@@ -1,4 +1,4 @@
-use Rattle.pv_mean.proofs.RunLaws.{run_from-length}
+use Rattle.pv_mean.proofs.Runs.{run_from-length}
 use Rattle.pv_mean.proofs.laws.done_runs_have_a_scan_for_each_input.Goals as goal
 
 pub returns : goal.returns

@@ -1,4 +1,4 @@
-use Rattle.pv_mean.proofs.RunLaws.{run_from-append}
+use Rattle.pv_mean.proofs.Runs.{run_from-append}
 use Rattle.pv_mean.proofs.laws.runs_follow.Goals as goal
 
 pub returns : goal.returns

@@ -1,4 +1,4 @@
-use Rattle.pv_pattern.proofs.RunsOf.{lawful}
+use Rattle.pv_pattern.proofs.First.{lawful}
 use Rattle.pv_pattern.proofs.laws.sources_are_lawful.Goals as goal
 
 pub returns : goal.returns

@@ -1,5 +1,8 @@
-use Rattle.pv_recheck.proofs.Verdict.{runs_keep}
+use Rattle.pv_recheck.proofs.Verdict.{no_step, no_run}
 use Rattle.pv_recheck.proofs.laws.valid_certificates_say_what_is_so.Goals as goal
 
-pub returns : goal.returns
-returns c = runs_keep
+pub returns-clause-step : goal.returns-clause-step
+returns-clause-step c = no_step
+
+pub returns-clause-runs : goal.returns-clause-runs
+returns-clause-runs c = no_run

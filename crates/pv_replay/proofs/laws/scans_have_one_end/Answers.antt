@@ -1,4 +1,4 @@
-use Rattle.pv_replay.proofs.MachineLemmas.{one_end}
+use Rattle.pv_replay.proofs.EndLemmas.{one_end}
 use Rattle.pv_replay.proofs.laws.scans_have_one_end.Goals as goal
 
 pub returns : goal.returns

@@ -1,6 +1,10 @@
-use Rattle.std.proofs.Common.{length, map, arith, ap, ◌∙◌}
+use Rattle.std.proofs.Common.{◌≡◌, ℕ, List, ℤ, length, map, arith, ap, sym, subst, ◌∙◌}
+use Rattle.pv_tree.specs.Tree.{block_tree, expr_tree}
 use Rattle.pv_mean.specs.declared.cell.Cell.{Cell}
 use Rattle.pv_mean.specs.Frames.{input_len}
+use Rattle.pv_mean.specs.Cells.{cells_of}
+use Rattle.pv_mean.specs.Sources.{source_of}
+use Rattle.pv_cert.specs.Traces.{AreScans}
 use Rattle.pv_replay.proofs.MachineLemmas.{ready_at_start, replayed}
 use Rattle.pv_replay.proofs.machine.replay_block.Goals as goal
 
@@ -11,9 +15,20 @@ run-requires-clause-ready c =
 
 pub returns-clause-found : goal.returns-clause-found
 returns-clause-found c =
-    replayed c.args.block.now c.args.invariant.now c.in_ok-machine.machine (length c.deref_mut.result.now) (length c.deref_mut-2.result.now) c.args.trace.now c.in-Some.lines.now c.deref_mut-3.result.now c.run.result c.in_ok-machine.ensures.found
+    let block = block_tree c.args.block.now in
+    let bound = c.args.bound in
+    let a = expr_tree c.args.requirement.now in
+    replayed block bound a c.in_ok-machine.machine (length c.deref_mut.result.now) (length c.deref_mut-2.result.now) c.args.trace.now c.in-Some.lines.now c.deref_mut-3.result.now c.run.result c.requires.block (c.in_ok-machine.ensures bound)
     (omega (arith, c.deref_mut.ensures.len, c.in_ok-input.ensures.len, c.count_inputs.ensures, ap input_len c.deref.ensures.value))
     (omega arith)
     c.in-Some.ensures.found
     (c.deref_mut-3.ensures.value ∙ c.in_ok-frame.ensures ∙ ap (λ cs. map (λ (x : Cell). x.start) cs) c.deref-2.ensures.value)
-    (λ scans ok e. c.run.ensures c.args.block.now c.args.invariant.now scans c.in_ok-machine.ensures.found ok e)
+    (λ scans ok e. c.run.ensures (source_of block bound) a scans (c.in_ok-machine.ensures bound) ok e)
+
+pub returns-in_default-clause-refused : goal.returns-in_default-clause-refused
+returns-in_default-clause-refused c = λ e inputs ok text.
+    let P : ℕ → Type 0 = λ n. AreScans n inputs in
+    let cells = ap input_len (c.in_ok-machine.ensures c.args.bound).cells in
+    let width : length c.deref_mut.result.now ≡ input_len (cells_of (block_tree c.args.block.now)) =
+    omega (arith, c.deref_mut.ensures.len, c.in_ok-input.ensures.len, c.count_inputs.ensures, ap input_len c.deref.ensures.value, cells) in
+    c.in_default.ensures.none inputs (subst P (sym width) ok) text

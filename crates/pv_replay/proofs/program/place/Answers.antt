@@ -1,23 +1,22 @@
-use Rattle.std.proofs.Common.{◌≡◌, ◌+◌, ◌∙◌, suc, true, false, arith}
-use Rattle.pv_replay.proofs.PlaceLemmas.{place_stored, place_kept, placed_all, moved, role_is}
-use Rattle.pv_replay.proofs.program.place.Goals.{then-is_input, else-is_input}
+use Rattle.std.proofs.Common.{◌≡◌, ◌+◌, ◌∙◌, suc, arith, refl, ap, sym, subst, ℤ, pos, get_or}
+use Rattle.pv_word.specs.declared.types.Ty.TheVariants.{Bool}
+use Rattle.pv_word.specs.Types.{InRange}
+use Rattle.pv_machine.specs.Roles.{is_input, is_stored}
+use Rattle.pv_replay.specs.Beginnings.{begun}
+use Rattle.pv_replay.proofs.PlaceLemmas.{place_next, place_within, placed_all, bool_stored}
 use Rattle.pv_replay.proofs.program.place.Goals as goal
+
+pub begun-requires-clause-within : goal.begun-requires-clause-within
+begun-requires-clause-within c = λ role. place_within c.args.cells.now c.args.input.now c.args.frame.now c.loop-number.number c.loop-number.next c.loop-number.frame c.index-cells-number.result c.loop-number-test.true c.index-cells-number.is c.loop-number.invariant role
 
 pub loop-number-preserved : goal.loop-number-preserved
 loop-number-preserved c =
-    let next_number : c.loop-number.number + 1 ≡ suc c.loop-number.number = omega arith in
-    let next_next : c.loop-number.next + 1 ≡ suc c.loop-number.next = omega arith in
-    let cells = c.args.cells.now in
-    let input = c.args.input.now in
-    let start = c.args.frame.now in
     let number = c.loop-number.number in
-    let next = c.loop-number.next in
-    let frame = c.loop-number.frame in
-    let cell = c.index-cells-number.result in
-    elim c.if-is_input.branch [
-      | then-is_input w ↦ let role = role_is cells number cell c.is_input.result true c.index-cells-number.is c.is_input.ensures w.if-is_input.true in moved cells input start (suc number) (number + 1) (suc next) c.if-is_input.next _ c.if-is_input.frame next_number (w.next-is ∙ next_next) w.frame-is (place_stored cells input start number next frame cell (omega arith) (omega arith) role (c.requires.input_bools next) c.loop-number.invariant)
-      | else-is_input w ↦ moved cells input start (suc number) (number + 1) next c.if-is_input.next frame c.if-is_input.frame next_number w.next-is w.frame-is (place_kept cells input start number next frame cell (omega arith) (omega arith) (role_is cells number cell c.is_input.result false c.index-cells-number.is c.is_input.ensures w.if-is_input.false) c.loop-number.invariant)
-    ]
+    let role = c.index-cells-number.result.role in
+    let held = bool_stored c.begun.result c.begun.ensures.range in
+    let P : ℤ → Type 0 = λ z. InRange Bool z in
+    place_next c.args.cells.now c.args.input.now c.args.frame.now number (number + 1) c.loop-number.next c.taken-next.result c.loop-number.frame _ c.index-cells-number.result _ (omega (arith, c.requires.cells, c.loop-number.auto.frame)) c.loop-number-test.true c.index-cells-number.is (omega arith) c.taken-next.ensures refl
+    (held ∙ c.begun.ensures.value ∙ ap (λ own. begun (is_input role) (is_stored role) (get_or c.args.input.now c.loop-number.next (pos 0)) own) (bool_stored (get_or c.loop-number.frame number (pos 0)) (c.loop-number.invariant.bools number))) (subst P (sym held) c.begun.ensures.range) c.loop-number.invariant
 
 pub returns-clause-frame : goal.returns-clause-frame
 returns-clause-frame c = placed_all c.args.cells.now c.args.input.now c.args.frame.now c.loop-number.number c.loop-number.next c.loop-number.frame (omega arith) (omega arith) c.loop-number.invariant

@@ -2,4 +2,4 @@ use Rattle.pv_step.proofs.ScanLaws.{is_circuit}
 use Rattle.pv_step.proofs.laws.circuits_are_netlists.Goals as goal
 
 pub returns : goal.returns
-returns c = λ block invariant names. is_circuit block invariant names
+returns c = is_circuit

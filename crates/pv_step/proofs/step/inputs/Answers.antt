@@ -1,15 +1,18 @@
 use Rattle.std.proofs.Common.{rules, arith}
-use Rattle.pv_step.proofs.Beginning.{at_inputs, next_nodes, next_literal, next_literals, pushed}
+use Rattle.pv_step.proofs.Beginning.{next_nodes, next_literals, pushed, room}
 use Rattle.pv_step.proofs.step.inputs.Goals as goal
 
-pub input-requires : goal.input-requires
-input-requires c = omega (arith, at_inputs c.loop.counter c.args.gates.now.limit c.loop.gates c.loop.invariant.gates)
+pub begin_literal-requires : goal.begin_literal-requires
+begin_literal-requires c = room c.args.bits.now c.loop-bit.bit-index c.args.gates.now.limit _ c.loop-bit.gates c.loop-bit.invariant.gates
+    (omega arith) c.requires.count
 
-pub loop-preserved : goal.loop-preserved
-loop-preserved c = record {
-  gates = next_nodes c.loop.counter c.args.gates.now.limit c.loop.gates c.input.new.self c.loop.invariant.gates c.in_ok-literal.ensures.nodes;
-  literals =
-      next_literals c.loop.counter c.loop.literals.items c.push.new.self.items c.in_ok-literal.literal c.loop.invariant.literals
-      (next_literal c.loop.counter c.args.gates.now.limit c.loop.gates c.in_ok-literal.literal c.loop.invariant.gates c.in_ok-literal.ensures.literal)
-      (pushed c.loop.literals.items c.push.new.self.items _ _ c.in_ok-literal.literal c.push.ensures.items c.is_err.ensures.negation c.if-is_err.false (search rules));
+pub loop-bit-preserved : goal.loop-bit-preserved
+loop-bit-preserved c = record {
+  gates = next_nodes c.args.bits.now c.loop-bit.bit-index _ (omega arith) c.args.gates.now.limit c.loop-bit.gates
+      c.begin_literal.new.gates c.loop-bit.invariant.gates c.in_ok-literal.ensures.nodes;
+  literals = next_literals c.args.bits.now c.loop-bit.bit-index _
+      (omega arith) c.args.gates.now.limit c.loop-bit.gates c.loop-bit.literals.items c.push.new.self.items c.in_ok-literal.literal
+      c.loop-bit.invariant.gates c.loop-bit.invariant.literals c.in_ok-literal.ensures.literal
+      (pushed c.loop-bit.literals.items c.push.new.self.items _ _ c.in_ok-literal.literal c.push.ensures.items c.is_err.ensures.negation
+      c.if-is_err.false (search rules));
 }

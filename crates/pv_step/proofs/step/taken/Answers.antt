@@ -1,5 +1,7 @@
 use Rattle.std.proofs.Common.{rules, arith, ap, ◌∙◌, Vec, Global, ℤ}
-use Rattle.pv_step.proofs.Beginning.{input_picked, input_passed, pushed}
+use Rattle.pv_machine.specs.Roles.{is_input}
+use Rattle.pv_step.proofs.Beginning.{pushed}
+use Rattle.pv_step.proofs.Picks.{picked_on, passed_over}
 use Rattle.pv_step.proofs.step.taken.Goals.{else-is_input-via-then-is_input+else-is_err, else-is_input-via-else-is_input}
 use Rattle.pv_step.proofs.step.taken.Goals as goal
 
@@ -7,9 +9,13 @@ pub loop-number-preserved : goal.loop-number-preserved
 loop-number-preserved c =
     elim c.else-is_input.branch [
       | else-is_input-via-then-is_input+else-is_err w ↦
-          input_picked c.args.cells.now c.args.literals.now c.loop-number.number c.index-cells-number.result c.loop-number.found.items c.else-is_input.found.items c.is_input.result (omega arith) (omega arith) c.index-cells-number.is c.is_input.ensures w.if-is_input.true c.loop-number.invariant
-          (ap (λ (v : Vec ℤ Global). v.items) w.found-is ∙ pushed c.loop-number.found.items w.push.new.self.items _ _ _ w.push.ensures.items w.is_err.ensures.negation w.if-is_err.false (search rules))
+          picked_on is_input c.args.bits.now c.args.literals.now c.loop-number.number _
+          (omega arith) c.requires c.loop-number.found.items c.else-is_input.found.items c.is_input.result
+          c.is_input.ensures w.if-is_input.true c.loop-number.invariant
+          (ap (λ (v : Vec ℤ Global). v.items) w.found-is ∙ pushed c.loop-number.found.items w.push.new.self.items _ _ _
+          w.push.ensures.items w.is_err.ensures.negation w.if-is_err.false (search rules))
       | else-is_input-via-else-is_input w ↦
-          input_passed c.args.cells.now c.args.literals.now c.loop-number.number c.index-cells-number.result c.loop-number.found.items c.else-is_input.found.items c.is_input.result (omega arith) (omega arith) c.index-cells-number.is c.is_input.ensures w.if-is_input.false c.loop-number.invariant
-          (ap (λ (v : Vec ℤ Global). v.items) w.found-is)
+          passed_over is_input c.args.bits.now c.args.literals.now c.loop-number.number _
+          (omega arith) c.requires c.loop-number.found.items c.else-is_input.found.items c.is_input.result
+          c.is_input.ensures w.if-is_input.false c.loop-number.invariant (ap (λ (v : Vec ℤ Global). v.items) w.found-is)
     ]

@@ -1,9 +1,12 @@
 -- The literal has the value that the law on lists of nodes says.
-use Rattle.std.proofs.Common.{sym, ◌∙◌, ap, ◌&&◌, to_z, of_z, w32}
+use Rattle.std.proofs.Common.{◌∙◌, ◌&&◌, to_z, of_z, w32}
 use Rattle.std.proofs.lemmas.Int.{to_z-of_z}
 use Rattle.pv_gate.specs.Value.{value_of}
 use Rattle.pv_gate.specs.Build.{and_gate}
+use Rattle.pv_gate.specs.Building.{make_and}
+use Rattle.pv_gate.proofs.Again.{made_and}
 use Rattle.pv_gate.proofs.Building.{Told, told_given}
+use Rattle.pv_gate.proofs.Calls.{built_ok, built_err, of_two}
 use Rattle.pv_gate.proofs.OperationValues.{and_builds}
 use Rattle.pv_gate.proofs.sharing.Gates.and.Goals as goal
 
@@ -11,9 +14,25 @@ known : (c : goal.After-code) → Told c.args.self.now c.and_gate.new.self (λ i
 known c =
     told_given _ _ _ (and_gate c.args.self.now.nodes c.args.a c.args.b) _ _ _
     (and_builds c.args.self.now.nodes c.args.a c.args.b c.literal-a.ensures.netlist c.requires.first c.requires.second)
-    (ap (λ a. and_gate c.args.self.now.nodes a c.args.b) (sym (c.literal-a.ensures.code ∙ to_z-of_z w32 c.args.a c.ranges.a))
-    ∙ ap (and_gate c.args.self.now.nodes c.literal-a.result.code) (sym (c.literal-b.ensures.code ∙ to_z-of_z w32 c.args.b c.ranges.b)))
+    (of_two (and_gate c.args.self.now.nodes) _ _ _ _
+    (c.literal-a.ensures.code ∙ to_z-of_z w32 c.args.a c.ranges.a)
+    (c.literal-b.ensures.code ∙ to_z-of_z w32 c.args.b c.ranges.b))
     c.in_ok-and_gate.ensures
+    (to_z-of_z w32 c.code.result (record { sfits = c.code.type_inv }) ∙ c.code.ensures)
+
+pub returns-in_err-and_gate-clause-built : goal.returns-in_err-and_gate-clause-built
+unfolding make_and
+returns-in_err-and_gate-clause-built c =
+    built_err _ _ (λ ns. and_gate ns c.args.a c.args.b) _ _ _ c.from_residual.ensures.1 (of_two (and_gate c.args.self.now.nodes) _ _ _ _
+    (c.literal-a.ensures.code ∙ to_z-of_z w32 c.args.a c.ranges.a)
+    (c.literal-b.ensures.code ∙ to_z-of_z w32 c.args.b c.ranges.b)) c.in_err-and_gate.ensures
+
+pub returns-clause-built : goal.returns-clause-built
+unfolding make_and
+returns-clause-built c =
+    built_ok _ _ (λ ns. and_gate ns c.args.a c.args.b) _ _ _ (made_and c.args.a c.args.b) (of_two (and_gate c.args.self.now.nodes) _ _ _ _
+    (c.literal-a.ensures.code ∙ to_z-of_z w32 c.args.a c.ranges.a)
+    (c.literal-b.ensures.code ∙ to_z-of_z w32 c.args.b c.ranges.b)) c.in_ok-and_gate.ensures
     (to_z-of_z w32 c.code.result (record { sfits = c.code.type_inv }) ∙ c.code.ensures)
 
 pub returns-clause-value : goal.returns-clause-value

@@ -1,9 +1,12 @@
 -- The literal has the value that the law on lists of nodes says.
-use Rattle.std.proofs.Common.{sym, ◌∙◌, ap, cond, to_z, of_z, w32}
+use Rattle.std.proofs.Common.{◌∙◌, cond, to_z, of_z, w32}
 use Rattle.std.proofs.lemmas.Int.{to_z-of_z}
 use Rattle.pv_gate.specs.Value.{value_of}
 use Rattle.pv_gate.specs.Build.{mux_gate}
+use Rattle.pv_gate.specs.Building.{make_mux}
+use Rattle.pv_gate.proofs.Again.{made_mux}
 use Rattle.pv_gate.proofs.Building.{Told, told_given}
+use Rattle.pv_gate.proofs.Calls.{built_ok, built_err, of_three}
 use Rattle.pv_gate.proofs.OperationValues.{mux_builds}
 use Rattle.pv_gate.proofs.sharing.Gates.mux.Goals as goal
 
@@ -11,10 +14,28 @@ known : (c : goal.After-code) → Told c.args.self.now c.mux_gate.new.self (λ i
 known c =
     told_given _ _ _ (mux_gate c.args.self.now.nodes c.args.s c.args.a c.args.b) _ _ _
     (mux_builds c.args.self.now.nodes c.args.s c.args.a c.args.b c.literal-s.ensures.netlist c.requires.selector c.requires.first c.requires.second)
-    (ap (λ s. mux_gate c.args.self.now.nodes s c.args.a c.args.b) (sym (c.literal-s.ensures.code ∙ to_z-of_z w32 c.args.s c.ranges.s))
-    ∙ (ap (λ a. mux_gate c.args.self.now.nodes c.literal-s.result.code a c.args.b) (sym (c.literal-a.ensures.code ∙ to_z-of_z w32 c.args.a c.ranges.a))
-    ∙ ap (mux_gate c.args.self.now.nodes c.literal-s.result.code c.literal-a.result.code) (sym (c.literal-b.ensures.code ∙ to_z-of_z w32 c.args.b c.ranges.b))))
+    (of_three (mux_gate c.args.self.now.nodes) _ _ _ _ _ _
+    (c.literal-s.ensures.code ∙ to_z-of_z w32 c.args.s c.ranges.s)
+    (c.literal-a.ensures.code ∙ to_z-of_z w32 c.args.a c.ranges.a)
+    (c.literal-b.ensures.code ∙ to_z-of_z w32 c.args.b c.ranges.b))
     c.in_ok-mux_gate.ensures
+    (to_z-of_z w32 c.code.result (record { sfits = c.code.type_inv }) ∙ c.code.ensures)
+
+pub returns-in_err-mux_gate-clause-built : goal.returns-in_err-mux_gate-clause-built
+unfolding make_mux
+returns-in_err-mux_gate-clause-built c =
+    built_err _ _ (λ ns. mux_gate ns c.args.s c.args.a c.args.b) _ _ _ c.from_residual.ensures.1 (of_three (mux_gate c.args.self.now.nodes) _ _ _ _ _ _
+    (c.literal-s.ensures.code ∙ to_z-of_z w32 c.args.s c.ranges.s)
+    (c.literal-a.ensures.code ∙ to_z-of_z w32 c.args.a c.ranges.a)
+    (c.literal-b.ensures.code ∙ to_z-of_z w32 c.args.b c.ranges.b)) c.in_err-mux_gate.ensures
+
+pub returns-clause-built : goal.returns-clause-built
+unfolding make_mux
+returns-clause-built c =
+    built_ok _ _ (λ ns. mux_gate ns c.args.s c.args.a c.args.b) _ _ _ (made_mux c.args.s c.args.a c.args.b) (of_three (mux_gate c.args.self.now.nodes) _ _ _ _ _ _
+    (c.literal-s.ensures.code ∙ to_z-of_z w32 c.args.s c.ranges.s)
+    (c.literal-a.ensures.code ∙ to_z-of_z w32 c.args.a c.ranges.a)
+    (c.literal-b.ensures.code ∙ to_z-of_z w32 c.args.b c.ranges.b)) c.in_ok-mux_gate.ensures
     (to_z-of_z w32 c.code.result (record { sfits = c.code.type_inv }) ∙ c.code.ensures)
 
 pub returns-clause-value : goal.returns-clause-value

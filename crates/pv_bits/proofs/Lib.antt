@@ -1,0 +1,9 @@
+pub mod Buildings
+pub mod Loops
+pub mod Bits
+pub mod Values
+pub mod TopBits
+pub mod WordLaws
+pub mod Division
+pub mod DivisionLaws
+pub mod SignedDivision

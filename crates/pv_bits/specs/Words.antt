@@ -1,0 +1,52 @@
+-- What words stand for: numbers, and values of the elementary types.
+use Rattle.std.specs.Prelude.{◌≡◌, ◌↔◌, ℕ, ◌+◌, ◌*◌, ℤ, pos, negsuc, zero, suc, Bool, true, false, List, [], ◌∷◌, length}
+use Rattle.pv_gate.specs.declared.netlist.Node.{Node}
+use Rattle.pv_gate.specs.Building.{Has, Have}
+use Rattle.pv_word.specs.declared.types.Ty.{Ty}
+use Rattle.pv_word.specs.Types.{width_of, is_signed_of, InRange, pattern_of, wrap_of}
+use Rattle.pv_word.specs.Division.{quotient, remainder}
+
+abbrev pub number_of_bit : Bool → ℕ
+number_of_bit true = 1
+number_of_bit false = 0
+
+-- the number with these bits, the least first
+abbrev pub number_of : List Bool → ℕ
+number_of [] = 0
+number_of (b ∷ bs) = number_of_bit b + 2 * number_of bs
+
+-- the literals are as many as the type has bits, and have those of the value v
+pub record IsWord (ty : Ty) (inputs : ℕ → Bool) (nodes : List Node) (literals : List ℤ) (v : ℤ) : Type 0 where
+  pub bits : List Bool
+  pub have : Have inputs nodes literals bits
+  pub width : length literals ≡ width_of ty
+  pub in_range : InRange ty v
+  pub pattern : number_of bits ≡ pattern_of ty v
+
+-- the literal is true exactly where P holds
+pub record Decides (inputs : ℕ → Bool) (nodes : List Node) (literal : ℤ) (P : Type 0) : Type 0 where
+  pub truth : Bool
+  pub has : Has inputs nodes literal truth
+  pub is : (truth ≡ true) ↔ P
+
+-- what the quotient by zero is before it is wrapped: -1, or 1 for a negative dividend; of a type from 0 that is the greatest value
+abbrev pub by_zero : Bool → ℤ → ℤ
+by_zero true (negsuc n) = pos 1
+by_zero true (pos n) = negsuc 0
+by_zero false v = negsuc 0
+
+abbrev pub quotient_of : Ty → ℤ → ℤ → ℤ
+quotient_of ty v (pos zero) = wrap_of ty (by_zero (is_signed_of ty) v)
+quotient_of ty v (pos (suc n)) = wrap_of ty (quotient v (pos (suc n)))
+quotient_of ty v (negsuc n) = wrap_of ty (quotient v (negsuc n))
+
+-- by zero the remainder is the dividend
+abbrev pub remainder_of : Ty → ℤ → ℤ → ℤ
+remainder_of ty v (pos zero) = v
+remainder_of ty v (pos (suc n)) = wrap_of ty (remainder v (pos (suc n)))
+remainder_of ty v (negsuc n) = wrap_of ty (remainder v (negsuc n))
+
+-- the words have the quotient and the remainder
+pub record Divides (ty : Ty) (v u : ℤ) (inputs : ℕ → Bool) (nodes : List Node) (words : List ℤ × List ℤ) : Type 0 where
+  pub quotient_word : IsWord ty inputs nodes words.0 (quotient_of ty v u)
+  pub remainder_word : IsWord ty inputs nodes words.1 (remainder_of ty v u)

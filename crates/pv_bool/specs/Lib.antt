@@ -1,0 +1,6 @@
+-- what public clauses cite
+pub mod Tree
+pub mod Programs
+pub mod Scans
+pub mod Machine
+pub mod Correct

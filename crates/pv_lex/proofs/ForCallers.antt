@@ -1,0 +1,3 @@
+-- What the proofs of crates above use of this crate: what is next is one, a text has one list of tokens or one first fault, and its tokens
+-- lie one behind the other.
+pub use Rattle.pv_lex.proofs.Ones.{next-one, tokens-one, either-one, tokens-faultless, fault-one, tokens-lie, tokens-last}

@@ -1,0 +1,13 @@
+pub mod Fronts
+pub mod Digits
+pub mod Scanning
+pub mod Within
+pub mod Sure
+pub mod Starts
+pub mod Headers
+pub mod Nexts
+pub mod Least
+pub mod Answered
+pub mod Cuts
+pub mod Ones
+pub mod ForCallers

@@ -1,0 +1,5 @@
+pub mod Classes
+pub mod Shapes
+pub mod Values
+pub mod Tokens
+pub mod Scans

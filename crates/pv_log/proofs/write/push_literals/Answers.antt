@@ -1,0 +1,5 @@
+use Rattle.pv_log.proofs.Spelled.{all-small}
+use Rattle.pv_log.proofs.write.push_literals.Goals as goal
+
+pub returns-clause-fits : goal.returns-clause-fits
+returns-clause-fits c = all-small c.args.lits.now (λ i. (c.type_inv.lits i).fits)

@@ -1,0 +1,120 @@
+-- A scan of the first form on numbers of bits is the Boolean program's scan on the bits. Frames are given as numbers of bits, so that no
+-- invariant has to say that values stay within BOOL: the ranges follow at the end.
+use Rattle.std.proofs.Common.{◌≡◌, List, [], ◌∷◌, map, ℤ, pos, Bool, true, false, not, ◌&&◌, ◌||◌, cond, set, inl, inr, refl, ap, sym, subst, ◌∙◌}
+use Rattle.std.specs.List.{AllByRecursion}
+use Rattle.std.proofs.lemmas.List.{map-set}
+use Rattle.std.proofs.Math.ListN.{get_or-map}
+use Rattle.pv_word.specs.declared.types.Ty.TheVariants.{Bool as BoolType}
+use Rattle.pv_word.specs.Wrap.{wrap_at}
+use Rattle.pv_word.specs.Bits.{pattern_at}
+use Rattle.pv_machine.specs.Roles.{is_input, is_stored}
+use Rattle.pv_tree.specs.declared.tree.UnaryOp.{UnaryOp}
+use Rattle.pv_tree.specs.declared.tree.UnaryOp.TheVariants.{Not}
+use Rattle.pv_tree.specs.declared.tree.BinaryOp.{BinaryOp}
+use Rattle.pv_tree.specs.declared.tree.BinaryOp.TheVariants.{And, Or}
+use Rattle.pv_tree.specs.Tree.{ExprTree, lit, read, unary, binary, paren, StmtTree, assign}
+use Rattle.pv_tree.specs.FirstForm.{IsFirstExpr, IsFirstStmt, IsTruth}
+use Rattle.pv_bool.specs.Tree.{TermTree}
+use Rattle.pv_bool.specs.Scans.{Bits, first as first_bit, others as other_bits, begin as begin_bits, state_of, value_in, run_body}
+use Rattle.pv_bool.specs.Machine.{bit_of, number_of as number_of_bit, numbers_of}
+use Rattle.pv_mean.specs.declared.cell.Cell.{Cell}
+use Rattle.pv_mean.specs.Frames.{first, others, begin, image_of}
+use Rattle.pv_mean.specs.Sources.{Source, number_of}
+use Rattle.pv_mean.specs.Values.{number, with_number, unary_result, binary_result, value}
+use Rattle.pv_mean.specs.Statements.{normal, go_on, store, run_list}
+use Rattle.pv_mean.specs.FirstForm.{unary_term, binary_term, term_by, assignment_by, bit_of_cell}
+use Rattle.pv_mean.proofs.Bits.{first-numbers_of, others-numbers_of}
+
+-- ---- frames
+
+pub begin-bits : (cs : List Cell) (s i : Bits) → begin cs (numbers_of s) (numbers_of i) ≡ numbers_of (begin_bits (map bit_of_cell cs) s i)
+begin-bits [] s i = refl
+begin-bits (c ∷ cs) s i = lead (is_input c.role) (is_stored c.role) (λ t j. begin-bits cs t j)
+  where
+    taken : (bs : Bits) (vs : List ℤ) (ws : Bits) → vs ≡ numbers_of ws → first (numbers_of bs) ∷ vs ≡ numbers_of (first_bit bs ∷ ws)
+    taken bs vs ws same = ap (λ v. v ∷ vs) (first-numbers_of bs) ∙ ap (λ l. number_of_bit (first_bit bs) ∷ l) same
+
+    lead : (b d : Bool) → ((t j : Bits) → begin cs (numbers_of t) (numbers_of j) ≡ numbers_of (begin_bits (map bit_of_cell cs) t j))
+        → cond b (first (numbers_of i) ∷ begin cs (numbers_of s) (others (numbers_of i)))
+        (cond d (first (numbers_of s) ∷ begin cs (others (numbers_of s)) (numbers_of i))
+        (pos 0 ∷ begin cs (numbers_of s) (numbers_of i)))
+        ≡ numbers_of (cond b (first_bit i ∷ begin_bits (map bit_of_cell cs) s (other_bits i))
+        (cond d (first_bit s ∷ begin_bits (map bit_of_cell cs) (other_bits s) i) (false ∷ begin_bits (map bit_of_cell cs) s i)))
+    lead true d same = taken i _ _ (ap (λ j. begin cs (numbers_of s) j) (others-numbers_of i) ∙ same s (other_bits i))
+    lead false true same = taken s _ _ (ap (λ t. begin cs t (numbers_of i)) (others-numbers_of s) ∙ same (other_bits s) i)
+    lead false false same = ap (λ l. pos 0 ∷ l) (same s i)
+
+pub image_of-bits : (cs : List Cell) (f : Bits) → image_of cs (numbers_of f) ≡ numbers_of (state_of (map bit_of_cell cs) f)
+image_of-bits [] f = refl
+image_of-bits (c ∷ cs) f = lead (is_stored c.role) (image_of-bits cs (other_bits f))
+  where
+    rest : image_of cs (numbers_of (other_bits f)) ≡ numbers_of (state_of (map bit_of_cell cs) (other_bits f))
+        → image_of cs (others (numbers_of f)) ≡ numbers_of (state_of (map bit_of_cell cs) (other_bits f))
+    rest same = ap (λ g. image_of cs g) (others-numbers_of f) ∙ same
+
+    lead : (b : Bool) → image_of cs (numbers_of (other_bits f)) ≡ numbers_of (state_of (map bit_of_cell cs) (other_bits f))
+        → cond b (first (numbers_of f) ∷ image_of cs (others (numbers_of f))) (image_of cs (others (numbers_of f)))
+        ≡ numbers_of (cond b (first_bit f ∷ state_of (map bit_of_cell cs) (other_bits f)) (state_of (map bit_of_cell cs) (other_bits f)))
+    lead true same = ap (λ v. v ∷ image_of cs (others (numbers_of f))) (first-numbers_of f)
+        ∙ ap (λ l. number_of_bit (first_bit f) ∷ l) (rest same)
+    lead false same = rest same
+
+-- ---- expressions
+
+unary-bit : (op : UnaryOp) (b : Bool) (f : Bits) (t : TermTree) → value_in f t ≡ b
+    → unary_result BoolType op (number_of_bit b) ≡ number_of_bit (value_in f (unary_term op t))
+unfolding wrap_at pattern_at
+unary-bit Not b f t is = lead b ∙ ap (λ x. number_of_bit (not x)) (sym is)
+  where
+    lead : (b : Bool) → unary_result BoolType Not (number_of_bit b) ≡ number_of_bit (not b)
+    lead true = refl
+    lead false = refl
+
+binary-bit : (op : BinaryOp) (a b : Bool) (f : Bits) (s t : TermTree) → value_in f s ≡ a → value_in f t ≡ b
+    → binary_result BoolType op (number_of_bit a) (number_of_bit b) ≡ number_of_bit (value_in f (binary_term op s t))
+unfolding wrap_at pattern_at
+binary-bit And a b f s t is are = lead a b ∙ ap (λ x. number_of_bit (x && b)) (sym is)
+    ∙ ap (λ y. number_of_bit (value_in f s && y)) (sym are)
+  where
+    lead : (a b : Bool) → binary_result BoolType And (number_of_bit a) (number_of_bit b) ≡ number_of_bit (a && b)
+    lead true true = refl
+    lead true false = refl
+    lead false true = refl
+    lead false false = refl
+binary-bit Or a b f s t is are = lead a b ∙ ap (λ x. number_of_bit (x || b)) (sym is)
+    ∙ ap (λ y. number_of_bit (value_in f s || y)) (sym are)
+  where
+    lead : (a b : Bool) → binary_result BoolType Or (number_of_bit a) (number_of_bit b) ≡ number_of_bit (a || b)
+    lead true true = refl
+    lead true false = refl
+    lead false true = refl
+    lead false false = refl
+
+truth-bit : (v : ℤ) → IsTruth v → v ≡ number_of_bit (bit_of v)
+truth-bit v is = let P : ℤ → Type 0 = λ w. w ≡ number_of_bit (bit_of w) in
+    elim is [ inl e ↦ subst P (sym e) refl | inr e ↦ subst P (sym e) refl ]
+
+pub value-bits : (source : Source) (f : Bits) (e : ExprTree) → IsFirstExpr e
+    → value source (numbers_of f) e ≡ number (number_of_bit (value_in f (term_by (number_of source) e)))
+value-bits source f (lit ty v place) is = ap number (truth-bit v is.1)
+value-bits source f (read operand) is = ap number (get_or-map number_of_bit f (number_of source operand) false)
+value-bits source f (unary op place arg) is =
+    ap (λ x. with_number x (λ a. number (unary_result BoolType op a))) (value-bits source f arg is)
+    ∙ ap number (unary-bit op _ f (term_by (number_of source) arg) refl)
+value-bits source f (binary op place left right) is =
+    ap (λ x. with_number x (λ a. with_number (value source (numbers_of f) right) (λ b. number (binary_result BoolType op a b))))
+    (value-bits source f left is.0)
+    ∙ ap (λ x. with_number x (λ b. number (binary_result BoolType op (number_of_bit (value_in f (term_by (number_of source) left))) b)))
+    (value-bits source f right is.1)
+    ∙ ap number (binary-bit op _ _ f (term_by (number_of source) left) (term_by (number_of source) right) refl refl)
+value-bits source f (paren place inner) is = value-bits source f inner is
+
+-- ---- statements
+
+pub run_list-bits : (source : Source) (ss : List StmtTree) (f : Bits) → AllByRecursion IsFirstStmt ss
+    → run_list source ss (numbers_of f) ≡ normal (numbers_of (run_body (map (assignment_by (number_of source)) ss) f))
+run_list-bits source [] f all = refl
+run_list-bits source ((assign target place e) ∷ ss) f all =
+    ap (λ x. go_on (store source (numbers_of f) target x) (λ g. run_list source ss g)) (value-bits source f e all.0.1)
+    ∙ ap (λ g. run_list source ss g) (sym (map-set number_of_bit f (number_of source target) (value_in f (term_by (number_of source) e))))
+    ∙ run_list-bits source ss (set f (number_of source target) (value_in f (term_by (number_of source) e))) all.1

@@ -1,7 +1,0 @@
-use Rattle.std.proofs.Common.{◌≡◌, ◌++◌, drop}
-use Rattle.pv_mean.specs.Frames.{image_of}
-use Rattle.pv_step.proofs.step.kept.Given as goal
-
--- those that were found, and those of the cells from here on, are all
-abbrev pub invariant-loop-number : goal.invariant-loop-number
-invariant-loop-number l = image_of l.cells l.literals ≡ l.found.items ++ image_of (drop l.number l.cells) (drop l.number l.literals)

@@ -1,0 +1,70 @@
+//! Declarations of variables, and the types that they give.
+
+use crate::name::Name;
+use pv_machine::Place;
+use pv_word::Ty;
+
+/// The type of a declaration.
+#[derive(Drop)]
+#[cycle(declaration)]
+pub enum DeclType {
+    /// A simple type.
+    Plain(Ty),
+    /// An array of one dimension: its bounds, the type of its elements, and the place of the word ARRAY.
+    Array {
+        low: i128,
+        high: i128,
+        of: Box<DeclType>,
+        place: Place,
+    },
+    /// A structure with its fields.
+    Struct(Vec<Var>),
+    /// A function block's or a named structure's type, with the place of its name.
+    Named(Name, Place),
+    /// DATE_AND_TIME, whose variables nothing reads.
+    Unread,
+}
+
+/// A declared variable, with its start value where one is written, and the place of its name.
+#[derive(Drop)]
+#[cycle(declaration)]
+pub struct Var {
+    pub name: Name,
+    /// The section of the declaration; a structure's fields have that of the declaration around them.
+    pub section: Section,
+    pub ty: DeclType,
+    pub start: Option<Literal>,
+    pub place: Place,
+}
+
+/// The kind of a variable.
+#[derive(Clone, Copy, PartialEq, Eq, Debug)]
+pub enum Section {
+    /// VAR_INPUT.
+    Input,
+    /// VAR_OUTPUT.
+    Output,
+    /// VAR_IN_OUT.
+    InOut,
+    /// VAR.
+    Static,
+    /// VAR_TEMP.
+    Temp,
+    /// CONST.
+    Const,
+}
+
+/// A literal: its type where it has one of its own, its value, and its first token's place.
+#[derive(Clone, Copy, PartialEq, Eq, Debug)]
+pub struct Literal {
+    pub ty: Option<Ty>,
+    pub value: i128,
+    pub place: Place,
+}
+
+/// The variables of a block in the order of their declarations, and the type of the value that a function has.
+#[derive(Drop)]
+pub struct Interface {
+    pub vars: Vec<Var>,
+    pub value: Option<Ty>,
+}

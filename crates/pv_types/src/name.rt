@@ -1,0 +1,151 @@
+//! Names of blocks and variables.
+//!
+//! Two names are the same where their keys are: letter case and quotes play no part, and neither do they in the order of
+//! names or in their hashes.
+ghost use Rattle.std.specs.Prelude.{◌≡◌, ◌↔◌, IfOk, IsTrue};
+ghost use Rattle.std.specs.Str.{str_to_ascii_lowercase};
+ghost use Rattle.pv_types.specs.Names.{between_quotes};
+
+use pv_edge::Text;
+use std::alloc::{AllocError, Global};
+use std::cmp::Ordering;
+use std::hash::{Hash, Hasher};
+
+/// A name. Two names are the same where their keys are.
+#[derive(Drop)]
+pub struct Name {
+    /// The name's text with ASCII letters in lower case, and all other bytes as they stand.
+    pub key: Text,
+    /// The name as it was written: a quoted one with its quotes, a numbered one without the blank in it.
+    pub spelled: Text,
+}
+
+impl Name {
+    /// The name that is written as this text, which is a word, or a numbered name without a blank in it.
+    pub fn plain(alloc: Global, text: &[u8]) -> Result<Name, AllocError>
+        ensures key { IfOk result (λ name. name.key ≡ str_to_ascii_lowercase text.now) }
+        ensures spelled { IfOk result (λ name. name.spelled ≡ text.now) }
+    {
+        name_of(alloc, text, text)
+    }
+
+    /// The name that is written as this text, whose first and last byte are its quotes.
+    pub fn quoted(alloc: Global, text: &[u8]) -> Result<Name, AllocError>
+        ensures key { IfOk result (λ name. name.key ≡ str_to_ascii_lowercase (between_quotes text.now)) }
+        ensures spelled { IfOk result (λ name. name.spelled ≡ text.now) }
+    {
+        name_of(alloc, within_quotes(text), text)
+    }
+
+    /// Whether the two names are the same.
+    pub fn same(&self, other: &Name) -> bool
+        ensures { IsTrue result ↔ (self.now.key ≡ other.now.key) }
+    {
+        self.key == other.key
+    }
+}
+
+/// The text without its first and its last byte.
+fn within_quotes(text: &[u8]) -> &[u8]
+    ensures { result.now ≡ between_quotes text.now }
+{
+    if text.len() < 2 {
+        return &text[..0];
+    }
+    &text[1..text.len() - 1]
+}
+
+/// The name of this text that is written as `spelled`.
+fn name_of(alloc: Global, text: &[u8], spelled: &[u8]) -> Result<Name, AllocError>
+    ensures key { IfOk result (λ name. name.key ≡ str_to_ascii_lowercase text.now) }
+    ensures spelled { IfOk result (λ name. name.spelled ≡ spelled.now) }
+{
+    let mut key = Vec::from_slice(alloc, text)?;
+    key.as_mut_slice().make_ascii_lowercase();
+    let spelled = Vec::from_slice(alloc, spelled)?;
+    Ok(Name {
+        key: Text::from(key),
+        spelled: Text::from(spelled),
+    })
+}
+
+impl Clone for Name {
+    ghost is_clone = { λ name copy. copy ≡ name };
+
+    fn clone(&self) -> Result<Name, AllocError> {
+        let key = self.key.clone()?;
+        let spelled = self.spelled.clone()?;
+        Ok(Name { key, spelled })
+    }
+}
+
+impl PartialEq for Name {
+    ghost use Rattle.std.specs.Prelude.{bytes_eq};
+    ghost use Rattle.std.specs.Cmp.{partial_equiv_from_equiv};
+    ghost use Rattle.std.specs.Cmp.Lexicographic.{on_texts_equal};
+
+    ghost eq = { λ a b. bytes_eq a.key b.key };
+
+    ghost laws = { partial_equiv_from_equiv (on_texts_equal (λ name. name.key)) };
+
+    fn eq(&self, other: &Name) -> bool {
+        self.key == other.key
+    }
+}
+
+impl Eq for Name {
+    ghost use Rattle.std.specs.Cmp.Lexicographic.{on_texts_equal};
+
+    ghost laws = { on_texts_equal (λ name. name.key) };
+}
+
+impl PartialOrd for Name {
+    ghost use Rattle.std.specs.Prelude.{Some};
+    ghost use Rattle.std.specs.Ordering.{nat_cmp};
+    ghost use Rattle.std.specs.Cmp.Lexicographic.{slice_cmp, texts_po};
+
+    ghost partial_cmp = { λ a b. Some (slice_cmp nat_cmp a.key b.key) };
+
+    ghost laws = { record {
+      antisymm = λ a b. texts_po.antisymm a.key b.key;
+      trans = λ a b c. texts_po.trans a.key b.key c.key;
+      matches_eq = λ a b. texts_po.matches_eq a.key b.key;
+      congr = λ a b c. texts_po.congr a.key b.key c.key;
+    } };
+
+    fn partial_cmp(&self, other: &Name) -> Option<Ordering> {
+        Some(self.cmp(other))
+    }
+}
+
+impl Ord for Name {
+    ghost use Rattle.std.specs.Prelude.{refl};
+    ghost use Rattle.std.specs.Ordering.{nat_cmp};
+    ghost use Rattle.std.specs.Cmp.Lexicographic.{slice_cmp, texts_ties, on_texts};
+
+    ghost cmp = { λ a b. slice_cmp nat_cmp a.key b.key };
+
+    ghost total = { on_texts (λ name. name.key) };
+
+    ghost matches_partial_cmp = { λ a b. refl };
+
+    ghost matches_eq = { λ a b. texts_ties a.key b.key };
+
+    fn cmp(&self, other: &Name) -> Ordering {
+        self.key.cmp(&other.key)
+    }
+}
+
+impl Hash for Name {
+    ghost use Rattle.std.specs.Hash as fed;
+    ghost use Rattle.std.proofs.Common.{ap};
+    ghost use Rattle.std.proofs.lemmas.Slice.Eq.{bytes_eq-Decides};
+
+    ghost hash_input = { λ name. fed.slice fed.u8 name.key };
+
+    ghost respects_eq = { λ x y same. ap (fed.slice fed.u8) ((bytes_eq-Decides x.key y.key).0 same) };
+
+    fn hash<H: Hasher>(&self, state: &mut H) {
+        self.key.hash(state);
+    }
+}
