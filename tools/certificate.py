@@ -1,13 +1,23 @@
 #!/usr/bin/env python3
 """Makes a certificate of 'satisfied' at k = 0 out of a proof.
 
-usage: tools/certificate.py CASE > CASE.cnf                 the formula of a scan that fails, as DIMACS
+usage: tools/certificate.py CASE > CASE.cnf                 the formula
        tools/certificate.py CASE PROOF > CERTIFICATE        the certificate
        tools/certificate.py --help                          this text
 
-PROOF is a text with a clause a line: variables as numbers, '-' before one that is negated, and a 0 at the end. Each
-clause has to follow from the formula and the clauses before it by unit propagation, and the last is the empty clause,
-the line '0'. This tool finds the hints, renumbers, and leaves out what nothing rests on.
+CASE is the file that `plcv` reads too: it names the source, the block and the requirement (docs/TUTORIAL.md has one).
+
+The formula is true where one scan, begun in some state, breaks the requirement. Any state counts, also one that no run
+reaches: that is 'k = 0'. Its variables are numbers. 1 is true; from 2 on there is one for each variable of the block,
+its value at the scan's beginning, in the order of the declarations; the others are what the scan makes of them. A
+clause is variables, '-' before one that is negated, and a 0 at the end: at least one of them holds. The text is
+DIMACS, which solvers read: a line 'p cnf VARIABLES CLAUSES', and the clauses, one a line.
+
+PROOF is a text with a clause a line, which shows that nothing makes the formula true. Each clause has to follow from
+the formula and the clauses before it by unit propagation: say that all of its numbers are false; then where a clause
+has all numbers false but one, that one is true, and so on, until a clause has all numbers false. The last one is
+the empty clause, the line '0'. The certificate is the proof with its hints, the clauses by which each one follows. This
+tool finds them, numbers the clauses anew, and leaves out what nothing rests on.
 
 Without a solver: for a small block the one line '0' often is the whole proof.
 
@@ -16,25 +26,30 @@ Without a solver: for a small block the one line '0' often is the whole proof.
 
 Where it isn't enough for a requirement 'A AND B', it may be for A and for B, each in a case of its own.
 
-With one: any solver that writes a DRAT text, called so that it takes no steps but these. Lines with 'd' (deletions)
-and 'c' (comments) are passed over.
+With one: any solver that writes a DRAT text (clauses added and deleted), called so that each of its clauses follows as
+said above. Lines with 'd' (deletions) and 'c' (comments) are passed over.
 
     tools/certificate.py CASE > CASE.cnf
     cadical --plain --no-binary CASE.cnf PROOF
     tools/certificate.py CASE PROOF > CERTIFICATE
 
-Says the solver SATISFIABLE, then one scan from some state, also one that no run reaches, breaks the invariant, and
-there is no certificate at k = 0.
+Says the solver UNSATISFIABLE, the proof is there. Says it SATISFIABLE, then one scan from some state breaks the
+requirement, and there is no certificate at k = 0; variables 2 and on of its answer tell the state and the inputs.
 
-Files are named from the folder in which the tool is called. A refusal is one line on standard error with status 1,
-wrong words have status 2. It tells what of a source or a requirement isn't read today, where plcv only says that the
-text isn't of the form; it doesn't look for everything. Nothing here is trusted: `plcv recheck CASE CERTIFICATE` makes
-the formula anew from the source and checks each line. docs/CERTIFICATES.md goes through it step by step."""
+And then `./plcv recheck CASE CERTIFICATE` makes the formula anew from the source and checks each line. Nothing here is
+trusted.
+
+Files are named from the folder in which the tool is called, also the source that the case names. A refusal is one line
+on standard error with status 1, and the file that the shell made for the output is empty; wrong words have status 2. It
+tells what of a case, a source or a requirement isn't read today, where plcv only says that the text isn't of the form;
+it doesn't look for everything. docs/CERTIFICATES.md goes through it step by step, docs/FORMATS.md has the forms."""
 import json
+import os
 import re
 import sys
 
 TRUE = 1
+MEMBERS = ["version", "name", "sources", "entry", "pattern", "loopBound", "depth", "lemmas", "regionWords", "reduce"]
 WORD = re.compile(r'\s*([A-Za-z_][A-Za-z0-9_]*|"[^"\n]*"|:=|[&():;,])')
 COMMENT = re.compile(r"\s*(\(\*|//)")
 FORM = "docs/FORMATS.md has the form that is read today"
@@ -45,6 +60,9 @@ VAR_OUTPUT VAR_IN_OUT VAR_TEMP CONST END_VAR END_CONST ARRAY OF STRUCT END_STRUC
 DATE_AND_TIME IF THEN ELSIF ELSE END_IF CASE END_CASE FOR TO BY DO END_FOR WHILE END_WHILE REPEAT UNTIL END_REPEAT EXIT
 CONTINUE RETURN ABS MIN MAX LIMIT SEL SHL SHR REAL LREAL S5TIME DATE TIME_OF_DAY TOD DT CHAR STRING POINTER ANY TIMER
 COUNTER LABEL GOTO BLOCK_DB BLOCK_FB BLOCK_FC OB FB FC DB UDT""".split())
+TYPES = ["BOOL", "BYTE", "WORD", "DWORD", "INT", "DINT"]
+NO_NAMES |= {f"{a}_TO_{b}" for a in TYPES for b in TYPES if a != b} | {"DINT_TO_TIME", "TIME_TO_DINT"}
+NO_NAMES -= {"BOOL_TO_INT", "BOOL_TO_DINT", "INT_TO_BOOL", "DINT_TO_BOOL", "DINT_TO_BYTE"}
 NUMBERED = re.compile(r"((P?[IQ]|M)[BWD]|DB[XBWD]|OB|FB|FC|DB|UDT)[0-9]+", re.I)
 
 
@@ -307,10 +325,17 @@ def case_of(path):
     """The source's file, the block's name and the invariant's text of a case."""
     try:
         case = json.loads(read(path))
+        for member in [*MEMBERS, *case]:
+            if (member in MEMBERS) != (member in case):
+                refuse(f"{path}: the member '{member}' is {'missing' if member in MEMBERS else 'none of a case'}", FORM)
         kind, file, text = case["pattern"]["kind"], case["sources"][0]["file"], case["pattern"]["a"]
         entry = case["entry"]
+    except json.JSONDecodeError as error:
+        refuse(f"{path}, line {error.lineno} is no JSON ({error.msg})", FORM)
     except (ValueError, KeyError, IndexError, TypeError):
         refuse(f"{path} is no case", FORM)
+    if not (isinstance(file, str) and isinstance(text, str)):
+        refuse(f"{path}: 'file' or 'a' is no text", FORM)
     if kind != "invariant":
         refuse(f"{path} has the pattern '{kind}'", "certificates of today are for an invariant")
     return file, entry, text
@@ -343,4 +368,9 @@ def main():
 
 
 if __name__ == "__main__":
-    main()
+    try:
+        main()
+        sys.stdout.flush()
+    except BrokenPipeError:
+        # Whoever reads has enough.
+        os.dup2(os.open(os.devnull, os.O_WRONLY), 1)

@@ -33,7 +33,7 @@ def output(place):
     source = place / "crates" / "bits_bench" / "src"
     source.mkdir(parents=True)
     shutil.copy(HERE / "program.txt", source / "main.rt")
-    run = subprocess.run(["rt", "try", "--steps", "1000"], cwd=source.parent, capture_output=True, text=True)
+    run = subprocess.run(["rt", "try", "--steps", "1000", "--seconds", "600"], cwd=source.parent, capture_output=True, text=True)
     return run.stdout
 
 

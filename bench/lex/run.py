@@ -2,7 +2,9 @@
 """Times the cut of a text into tokens: hostile texts at n and 2n bytes, and a program beside a scanner of flex in C.
 
 Usage: run.py [n] (2,097,152, the half of what a source may have). Builds the programs in a temporary copy of the crates, and needs
-`rt`, and for the comparison `flex` and a C compiler."""
+`rt`, and for the comparison `flex` and a C compiler. Prints, for each text, the processor time of one cut (that of many less that of
+none, the least of five), the ratio of these, the least and the greatest ratio of five pairs, and the memory of a token (the peak less
+that of a run which cuts nothing). Where `valgrind` is there also the ratio of instructions at n/16 and n/8, which no load changes."""
 import pathlib
 import shutil
 import subprocess
@@ -45,10 +47,68 @@ PROGRAM = """FUNCTION_BLOCK "Conveyor"^TITLE = Conveyor with two motors^VERSION 
 END_FUNCTION_BLOCK^""".replace("\n", "")
 
 
-def run(command):
-    """Milliseconds of processor time of a run, what was found, and peak MiB."""
-    took, peak, said = measured(command, runs=3)
-    return round(1000 * took), said.rsplit(",", 1)[0], peak
+RUNS = 5
+
+
+class Timed:
+    """A command that cuts a text as often as its last word says: the milliseconds of processor time of one cut in each run, what was
+    found, and the bytes of memory that it took."""
+
+    def __init__(self, command):
+        self.command = command
+        micros = min(int(measured([*command, 1], runs=1)[2].rsplit(" ", 1)[1]) for _ in range(3))
+        self.rounds = max(5, 400000 // max(micros, 1000))
+        self.idle = measured([*command, 0], runs=5)
+        self.took, self.memory = [], None
+
+    def run(self):
+        seconds, peak, said = measured([*self.command, self.rounds], runs=1)
+        self.took.append(max(1000 * (seconds - self.idle[0]) / self.rounds, 0.001))
+        memory = (peak - self.idle[1]) * 2**20
+        self.memory = memory if self.memory is None else min(memory, self.memory)
+        self.found = said.rsplit(",", 1)[0]
+
+
+def by_turns(one, two):
+    """Runs two by turns, so that both have the machine's load, and gives the least and the greatest ratio of the pairs."""
+    for _ in range(RUNS):
+        one.run()
+        two.run()
+    ratios = sorted(b / a for a, b in zip(one.took, two.took))
+    return ratios[0], ratios[-1]
+
+
+def instructions(command):
+    """The instructions of one cut: those of a run that cuts once less those of one that doesn't."""
+    counts = []
+    for rounds in (0, 1):
+        counting = ["valgrind", "--tool=callgrind", "--callgrind-out-file=/dev/null", *map(str, command), str(rounds)]
+        said = subprocess.run(counting, capture_output=True, text=True, check=True).stderr
+        counts.append(int(said.split("Collected : ")[1].split()[0]))
+    return counts[1] - counts[0]
+
+
+def token_bytes(timed):
+    """The bytes of memory a token, where there are many."""
+    count = int(timed.found.split()[0])
+    return f", {timed.memory / count:.1f} bytes a token" if count > 100000 else ""
+
+
+def grown(program, name, pattern, n):
+    """Prints the times at n and 2n bytes, in whole patterns."""
+    def commands(size):
+        length = len(pattern.encode())
+        return ([program, pattern, most // length * length] for most in (size, 2 * size))
+
+    one, two = map(Timed, commands(n))
+    least, most = by_turns(one, two)
+    ratio = f"{min(two.took) / min(one.took):.2f} times the time ({least:.2f} to {most:.2f})"
+    if min(one.took) < 0.1:
+        ratio = "too short for a ratio"
+    elif shutil.which("valgrind"):
+        few, many = map(instructions, commands(n // 16))
+        ratio += f", {many / few:.2f} times the instructions"
+    print(f"{name}: {min(one.took):.2f} ms, {one.found}; {min(two.took):.2f} ms, {two.found}{token_bytes(two)}: {ratio}", flush=True)
 
 
 def compare_with_c(program, place, size):
@@ -61,11 +121,12 @@ def compare_with_c(program, place, size):
     (place / "text").write_text(text)
     subprocess.run(["flex", "-o", place / "plain.c", HERE / "plain.l"], check=True)
     subprocess.run(["cc", "-O2", "-o", place / "plain", place / "plain.c"], check=True)
-    ours = run([program, PROGRAM, size, 20])
-    plain = run([place / "plain", place / "text", 20])
-    print(f"a program of {size} bytes, plcv: {ours[0]} ms, {ours[1]}, {ours[2]:.1f} MiB")
-    print(f"a program of {size} bytes, flex: {plain[0]} ms, {plain[1]}, {plain[2]:.1f} MiB")
-    print(f"a program of {size} bytes: plcv takes {ours[0] / plain[0]:.2f} times as long as flex", flush=True)
+    plain, ours = Timed([place / "plain", place / "text"]), Timed([program, PROGRAM, size])
+    least, most = by_turns(plain, ours)
+    for name, timed in (("plcv", ours), ("flex", plain)):
+        print(f"a program of {size} bytes, {name}: {min(timed.took):.1f} ms, {timed.found}{token_bytes(timed)}")
+    print(f"a program of {size} bytes: plcv takes {min(ours.took) / min(plain.took):.2f} times as long as flex "
+          f"({least:.2f} to {most:.2f})", flush=True)
 
 
 def main():
@@ -75,8 +136,7 @@ def main():
         place = pathlib.Path(folder)
         program = built(place, "lex_bench", HERE / "main.rt.txt", ["pv_lex"])
         for name, pattern in HOSTILE.items():
-            one, two = (run([program, pattern, size, 10]) for size in (n, 2 * n))
-            print(f"{name}: {one[0]} ms, {one[1]}; {two[0]} ms, {two[1]}, {two[2]:.1f} MiB: {two[0] / max(one[0], 1):.2f} times the time", flush=True)
+            grown(program, name, pattern, n)
         if shutil.which("flex"):
             compare_with_c(program, place, 2 * n)
 

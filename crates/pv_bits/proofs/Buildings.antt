@@ -2,7 +2,7 @@
 use Rattle.std.proofs.Common.{ℤ, neg_ℤ, Bool, true, false}
 use Rattle.pv_gate.specs.Building.{IsBuilding}
 use Rattle.pv_gate.proofs.ForCallers.{building_done, building_then, building_and, building_or, building_xor, building_mux, building_each}
-use Rattle.pv_bits.specs.Circuits.{Word, equal_bit, equal, less_bit, less_unsigned, less_signed, less, select_bit, select, full_adder, adder_bit, adder, subtract, negate, and_bit, and_each, multiply_bit, multiply, divide_step, divide_bit, divide_unsigned, negate_if, divide_signed, divide}
+use Rattle.pv_bits.specs.Circuits.{Word, equal_bit, equal, less_bit, less_unsigned, less_signed, less, select_bit, select, full_adder, adder_bit, adder, subtract, negate, and_bit, and_each, multiply_bit, multiply, divide_step, divide_bit, divide_unsigned, negate_if, divide_magnitudes, put_back, divide_signed, divide, past, sum_overflow, difference_overflow, product_overflow}
 
 pub building_equal_bit : (s : ℤ) (p : ℤ × ℤ) → IsBuilding (equal_bit s p)
 unfolding equal_bit
@@ -93,14 +93,40 @@ pub building_negate_if : (s : ℤ) (a : Word) → IsBuilding (negate_if s a)
 unfolding negate_if
 building_negate_if s a = building_then _ _ (building_negate a) (λ minus. building_select _ _ _)
 
+pub building_divide_magnitudes : (a b : Word) → IsBuilding (divide_magnitudes a b)
+unfolding divide_magnitudes
+building_divide_magnitudes a b =
+    building_then _ _ (building_negate_if _ a) (λ dividend. building_then _ _ (building_negate_if _ b) (λ divisor. building_divide_unsigned _ _))
+
+pub building_put_back : (s t : ℤ) (d : Word × Word) → IsBuilding (put_back s t d)
+unfolding put_back
+building_put_back s t d =
+    building_then _ _ (building_xor s t) (λ differ. building_then _ _ (building_negate_if _ _) (λ quotient.
+    building_then _ _ (building_negate_if _ _) (λ remainder. building_done _)))
+
 pub building_divide_signed : (a b : Word) → IsBuilding (divide_signed a b)
 unfolding divide_signed
-building_divide_signed a b =
-    building_then _ _ (building_negate_if _ a) (λ dividend. building_then _ _ (building_negate_if _ b) (λ divisor.
-    building_then _ _ (building_divide_unsigned _ _) (λ d. building_then _ _ (building_xor _ _) (λ differ.
-    building_then _ _ (building_negate_if _ _) (λ quotient. building_then _ _ (building_negate_if _ _) (λ remainder. building_done _))))))
+building_divide_signed a b = building_then _ _ (building_divide_magnitudes a b) (λ d. building_put_back _ _ d)
 
 pub building_divide : (signed : Bool) (a b : Word) → IsBuilding (divide signed a b)
 unfolding divide
 building_divide true a b = building_divide_signed a b
 building_divide false a b = building_divide_unsigned a b
+
+pub building_past : (signed : Bool) (r : Word) → IsBuilding (past signed r)
+unfolding past
+building_past true r = building_xor _ _
+building_past false r = building_done _
+
+pub building_sum_overflow : (signed : Bool) (a b : Word) → IsBuilding (sum_overflow signed a b)
+unfolding sum_overflow
+building_sum_overflow signed a b = building_then _ _ (building_adder _ _ _) (λ sum. building_past signed sum)
+
+pub building_difference_overflow : (signed : Bool) (a b : Word) → IsBuilding (difference_overflow signed a b)
+unfolding difference_overflow
+building_difference_overflow signed a b = building_then _ _ (building_subtract _ _) (λ difference. building_past signed difference)
+
+pub building_product_overflow : (a b : Word) → IsBuilding (product_overflow a b)
+unfolding product_overflow
+building_product_overflow a b =
+    building_then _ _ (building_multiply a b) (λ product. building_then _ _ (building_equal _ _) (λ fits. building_done _))

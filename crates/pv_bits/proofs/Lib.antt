@@ -7,3 +7,6 @@ pub mod WordLaws
 pub mod Division
 pub mod DivisionLaws
 pub mod SignedDivision
+pub mod SumOverflow
+pub mod ProductOverflow
+pub mod ForCallers

@@ -8,14 +8,14 @@ use Rattle.std.proofs.Math.Nat.{mod-eq_of_lt}
 use Rattle.pv_gate.specs.declared.netlist.Node.{Node}
 use Rattle.pv_gate.specs.Value.{exclusive_or}
 use Rattle.pv_gate.specs.Netlist.{IsNetlist}
-use Rattle.pv_gate.specs.Building.{Has, Makes}
+use Rattle.pv_gate.specs.Building.{Building, and_then, Has, Makes}
 use Rattle.pv_gate.proofs.ForCallers.{has_more, makes_done, makes_then, makes_xor}
 use Rattle.pv_word.specs.declared.types.Ty.{Ty}
 use Rattle.pv_word.specs.Range.{IsInRange}
 use Rattle.pv_word.specs.Bits.{pattern_at}
 use Rattle.pv_word.specs.Types.{width_of, is_signed_of, wrap_of, pattern_of}
 use Rattle.pv_word.proofs.ForCallers.{wide, double, zero-in_range, wrap-own, pattern-pos, pattern-wrap, pattern-not_negative, pattern-negative}
-use Rattle.pv_bits.specs.Circuits.{Word, falses, top, negate, negate_if, divide_signed, divide}
+use Rattle.pv_bits.specs.Circuits.{Word, falses, top, negate, negate_if, divide_magnitudes, put_back, divide_signed, divide}
 use Rattle.pv_bits.specs.Words.{number_of_bit, number_of, IsWord, by_zero, quotient_of, remainder_of, Divides}
 use Rattle.pv_bits.proofs.Bits.{number-falses}
 use Rattle.pv_bits.proofs.Values.{have_falses}
@@ -57,7 +57,7 @@ sign_at w (pos k) n false p h small e = refl
 sign_at w (negsuc k) n true p h small e = refl
 sign_at w (negsuc k) n false p h small e = absurd (omega (arith, ints, h.from, double w p, pattern-negative w true (negsuc k) p h (omega (arith, ints))))
 
-sign_of : {ty : Ty} {inputs : ℕ → Bool} {nodes : List Node} {a : Word} {v : ℤ} → is_signed_of ty ≡ true → (p : IsWord ty inputs nodes a v) → IsSign (top_bit p.bits) v
+pub sign_of : {ty : Ty} {inputs : ℕ → Bool} {nodes : List Node} {a : Word} {v : ℤ} → is_signed_of ty ≡ true → (p : IsWord ty inputs nodes a v) → IsSign (top_bit p.bits) v
 sign_of {ty} {inputs} {nodes} {a} {v} s p =
     let w = width_of ty in
     let i = number_of (low_bits p.bits) in
@@ -118,8 +118,13 @@ remainder_back ty x (negsuc a) (negsuc b) q r h f e small =
 
 -- ---- the circuit
 
+-- one building behind another, and a third behind both
+makes_both : {A B C : Type 0} {nodes : List Node} {P : List Node → C → Type 0} (f : Building A) (k : A → Building B) (h : B → Building C) → Makes nodes P (and_then f (λ x. and_then (k x) h)) → Makes nodes P (and_then (and_then f k) h)
+unfolding and_then
+makes_both f k h m = record { netlist = m.netlist; extends = m.extends; out = m.out }
+
 divide_signed_words : {ty : Ty} {inputs : ℕ → Bool} {nodes : List Node} {a b : Word} {v u : ℤ} → is_signed_of ty ≡ true → IsNetlist nodes → IsWord ty inputs nodes a v → IsWord ty inputs nodes b u → Makes nodes (λ ms o. Divides ty v u inputs ms o) (divide_signed a b)
-unfolding divide_signed
+unfolding divide_signed divide_magnitudes put_back
 divide_signed_words {ty} {inputs} {nodes} {a} {b} {v} {u} s net p q =
     let x = top_bit p.bits in
     let y = top_bit q.bits in
@@ -127,8 +132,8 @@ divide_signed_words {ty} {inputs} {nodes} {a} {b} {v} {u} s net p q =
     let ys = sign_of s q in
     let sx : Has inputs nodes (top a) x = has_top (omega (arith, wide ty, p.width)) p.have in
     let sy : Has inputs nodes (top b) y = has_top (omega (arith, wide ty, q.width)) q.have in
-    makes_then (negate_if_words net sx p) (λ n1 dividend o1 e1 m.
-    makes_then (negate_if_words o1 (has_more e1 sy) (word_more e1 q)) (λ n2 divisor o2 e2 k.
+    makes_both _ _ _ (makes_then (negate_if_words net sx p) (λ n1 dividend o1 e1 m.
+    makes_both _ _ _ (makes_then (negate_if_words o1 (has_more e1 sy) (word_more e1 q)) (λ n2 divisor o2 e2 k.
     let mm = word_more e2 m in
     makes_then (makes_divide_unsigned (bits-same mm k) o2 mm.have k.have) (λ n3 d o3 e3 (h : Division inputs mm.bits k.bits n3 d).
     let up = λ (l : ℤ) (t : Bool) (g : Has inputs nodes l t). has_more e3 (has_more e2 (has_more e1 g)) in
@@ -145,7 +150,7 @@ divide_signed_words {ty} {inputs} {nodes} {a} {b} {v} {u} s net p q =
     makes_done _ o6 (record {
       quotient_word = word_as (quotient_back ty x y v u (number_of h.quotient_bits) (number_of h.remainder_bits) s xs ys e small ones) (word_more e6 f);
       remainder_word = word_as (remainder_back ty x v u (number_of h.quotient_bits) (number_of h.remainder_bits) p.in_range xs e small) g;
-    })))))))
+    })))))))))
 
 divide_at : {ty : Ty} {inputs : ℕ → Bool} {nodes : List Node} {a b : Word} {v u : ℤ} (s : Bool) → is_signed_of ty ≡ s → IsNetlist nodes → IsWord ty inputs nodes a v → IsWord ty inputs nodes b u → Makes nodes (λ ms o. Divides ty v u inputs ms o) (divide s a b)
 unfolding divide

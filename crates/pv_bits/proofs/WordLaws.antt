@@ -88,7 +88,7 @@ sum_words {ty} {inputs} {nodes} {a} {b} {c} {v} {u} {z} net p q r =
     (subst (λ k. IsCongruent (2 ^ w) (pos k) (v +ℤ u +ℤ pos (number_of_bit z))) (sym f) g))
     (makes_adder net p.have q.have r)
 
-length-nots : (xs : Bits) → length (map not xs) ≡ length xs
+pub length-nots : (xs : Bits) → length (map not xs) ≡ length xs
 length-nots [] = refl
 length-nots (x ∷ xs) = ap suc (length-nots xs)
 

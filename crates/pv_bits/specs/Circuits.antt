@@ -1,5 +1,5 @@
 -- The circuits of words: which gates, and in which order. A word is a list of literals, the least bit first.
-use Rattle.std.specs.Prelude.{ℕ, ◌+◌, ◌-◌, ℤ, neg_ℤ, pos, Bool, true, false, List, [], ◌∷◌, ◌++◌, length, take, drop, map, reverse, replicate, min, slice_index_or}
+use Rattle.std.specs.Prelude.{ℕ, ◌+◌, ◌-◌, ◌/◌, ℤ, neg_ℤ, pos, Bool, true, false, List, [], ◌∷◌, ◌++◌, length, take, drop, map, reverse, replicate, min, slice_index_or}
 use Rattle.pv_gate.specs.Node.{true_literal, false_literal}
 use Rattle.pv_gate.specs.Building.{Building, done, and_then, make_and, make_or, make_xor, make_mux, each, pairs}
 
@@ -39,7 +39,9 @@ less_unsigned a b = each less_bit false_literal (pairs a b)
 
 -- the highest bits are complemented
 unfoldable pub less_signed : Word → Word → Building ℤ
-less_signed a b = and_then (less_unsigned (below_top a) (below_top b)) (λ so_far. less_bit so_far (neg_ℤ (top a), neg_ℤ (top b)))
+less_signed a b =
+    and_then (less_unsigned (below_top a) (below_top b)) (λ so_far.
+    less_bit so_far (neg_ℤ (top a), neg_ℤ (top b)))
 
 unfoldable pub less : Bool → Word → Word → Building ℤ
 less true a b = less_signed a b
@@ -104,7 +106,8 @@ multiply a b = and_then (each multiply_bit (falses (length a), a) b) (λ s. done
 
 -- ---- quotients
 
--- what is left of the dividend, with one bit more than the divisor, shifts left and takes the next bit of the dividend
+-- what is left of the dividend, with one bit more than the divisor, shifts left and takes the
+-- dividend's next bit
 abbrev pub taken : ℤ → Word → Word
 taken bit left = bit ∷ below_top left
 
@@ -130,17 +133,62 @@ divide_unsigned a b =
 unfoldable pub negate_if : ℤ → Word → Building Word
 negate_if s a = and_then (negate a) (λ minus. select s minus a)
 
--- the magnitudes are divided, and quotient and remainder are negated by the signs
-unfoldable pub divide_signed : Word → Word → Building (Word × Word)
-divide_signed a b =
+-- the division of the magnitudes
+unfoldable pub divide_magnitudes : Word → Word → Building (Word × Word)
+divide_magnitudes a b =
     and_then (negate_if (top a) a) (λ dividend.
     and_then (negate_if (top b) b) (λ divisor.
-    and_then (divide_unsigned dividend divisor) (λ d.
-    and_then (make_xor (top a) (top b)) (λ differ.
+    divide_unsigned dividend divisor))
+
+-- the quotient is negated where the signs differ, and the remainder where the dividend's is true
+unfoldable pub put_back : ℤ → ℤ → Word × Word → Building (Word × Word)
+put_back dividend divisor d =
+    and_then (make_xor dividend divisor) (λ differ.
     and_then (negate_if differ d.0) (λ quotient.
-    and_then (negate_if (top a) d.1) (λ remainder.
-    done (quotient, remainder)))))))
+    and_then (negate_if dividend d.1) (λ remainder.
+    done (quotient, remainder))))
+
+-- the magnitudes are divided, and the signs put back
+unfoldable pub divide_signed : Word → Word → Building (Word × Word)
+divide_signed a b = and_then (divide_magnitudes a b) (λ d. put_back (top a) (top b) d)
 
 unfoldable pub divide : Bool → Word → Word → Building (Word × Word)
 divide true a b = divide_signed a b
 divide false a b = divide_unsigned a b
+
+-- ---- overflow
+
+-- what stands above a word: its highest bit again, or constant false above a number from 0
+abbrev pub sign : Bool → Word → ℤ
+sign true a = top a
+sign false a = false_literal
+
+-- the word with one bit more
+abbrev pub wider : Bool → Word → Word
+wider signed a = a ++ sign signed a ∷ []
+
+-- whether a result with one bit more doesn't fit without it: its two highest bits differ, or from 0
+-- the highest one is true
+unfoldable pub past : Bool → Word → Building ℤ
+past true result = make_xor (top (below_top result)) (top result)
+past false result = done (top result)
+
+unfoldable pub sum_overflow : Bool → Word → Word → Building ℤ
+sum_overflow signed a b =
+    and_then (adder (wider signed a) (wider signed b) false_literal) (λ sum. past signed sum)
+
+unfoldable pub difference_overflow : Bool → Word → Word → Building ℤ
+difference_overflow signed a b =
+    and_then (subtract (wider signed a) (wider signed b)) (λ difference. past signed difference)
+
+-- the lower half, with its highest bit in each place above
+abbrev pub from_half : Word → Word
+from_half a =
+    take (length a / 2) a ++ replicate (length a - length a / 2) (top (take (length a / 2) a))
+
+-- the product isn't what its lower half stands for
+unfoldable pub product_overflow : Word → Word → Building ℤ
+product_overflow a b =
+    and_then (multiply a b) (λ product.
+    and_then (equal product (from_half product)) (λ fits.
+    done (neg_ℤ fits)))

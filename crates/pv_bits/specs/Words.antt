@@ -1,7 +1,8 @@
 -- What words stand for: numbers, and values of the elementary types.
 use Rattle.std.specs.Prelude.{◌≡◌, ◌↔◌, ℕ, ◌+◌, ◌*◌, ℤ, pos, negsuc, zero, suc, Bool, true, false, List, [], ◌∷◌, length}
 use Rattle.pv_gate.specs.declared.netlist.Node.{Node}
-use Rattle.pv_gate.specs.Building.{Has, Have}
+use Rattle.pv_gate.specs.Netlist.{IsNetlist}
+use Rattle.pv_gate.specs.Building.{Building, Has, Have, Makes}
 use Rattle.pv_word.specs.declared.types.Ty.{Ty}
 use Rattle.pv_word.specs.Types.{width_of, is_signed_of, InRange, pattern_of, wrap_of}
 use Rattle.pv_word.specs.Division.{quotient, remainder}
@@ -29,7 +30,8 @@ pub record Decides (inputs : ℕ → Bool) (nodes : List Node) (literal : ℤ) (
   pub has : Has inputs nodes literal truth
   pub is : (truth ≡ true) ↔ P
 
--- what the quotient by zero is before it is wrapped: -1, or 1 for a negative dividend; of a type from 0 that is the greatest value
+-- what the quotient by zero is before it is wrapped: -1, or 1 for a negative dividend; of a type
+-- from 0 that is the greatest value
 abbrev pub by_zero : Bool → ℤ → ℤ
 by_zero true (negsuc n) = pos 1
 by_zero true (pos n) = negsuc 0
@@ -50,3 +52,28 @@ remainder_of ty v (negsuc n) = wrap_of ty (remainder v (negsuc n))
 pub record Divides (ty : Ty) (v u : ℤ) (inputs : ℕ → Bool) (nodes : List Node) (words : List ℤ × List ℤ) : Type 0 where
   pub quotient_word : IsWord ty inputs nodes words.0 (quotient_of ty v u)
   pub remainder_word : IsWord ty inputs nodes words.1 (remainder_of ty v u)
+
+-- the number is no value of the type
+abbrev pub Past : Ty → ℤ → Type 0
+Past ty v = InRange ty v → ⊥
+
+-- ---- laws: over any netlist and whatever the inputs are
+
+-- what is made of two words that have values of the type is as P says of the values
+abbrev pub OfWords :
+    {A : Type 0} → Ty → (List ℤ → List ℤ → Building A) →
+    (ℤ → ℤ → (ℕ → Bool) → List Node → A → Type 0) → Type 0
+OfWords ty f P =
+    (inputs : ℕ → Bool) (nodes : List Node) (a b : List ℤ) (v u : ℤ) → IsNetlist nodes →
+    IsWord ty inputs nodes a v → IsWord ty inputs nodes b u →
+    Makes nodes (λ ms made. P v u inputs ms made) (f a b)
+
+-- the same of two words and a literal
+abbrev pub OfWordsAnd :
+    {A : Type 0} → Ty → (ℤ → List ℤ → List ℤ → Building A) →
+    (Bool → ℤ → ℤ → (ℕ → Bool) → List Node → A → Type 0) → Type 0
+OfWordsAnd ty f P =
+    (inputs : ℕ → Bool) (nodes : List Node) (l : ℤ) (z : Bool) (a b : List ℤ) (v u : ℤ) →
+    IsNetlist nodes → Has inputs nodes l z →
+    IsWord ty inputs nodes a v → IsWord ty inputs nodes b u →
+    Makes nodes (λ ms made. P z v u inputs ms made) (f l a b)

@@ -37,8 +37,8 @@ pub fn select(
     Ok(word)
 }
 
-/// The bits `n` places higher or, to the right, lower, with constant false where none comes from. It
-/// takes no gate.
+/// The bits `n` places higher or, to the right, lower, with constant false where none comes from.
+/// It takes no gate.
 pub fn shift(
     alloc: Global,
     g: &mut Gates,
@@ -80,7 +80,7 @@ pub(crate) fn shifted(
 }
 
 /// The two lists of literals as one.
-fn joined(mut first: Literals, second: &[i32]) -> Result<Literals, GateFault>
+pub(crate) fn joined(mut first: Literals, second: &[i32]) -> Result<Literals, GateFault>
     ensures word { IfOk result (λ word. word ≡ first ++ second.now) }
     ensures err { OnErr result (result ≡ Err NoMemory) }
 {

@@ -42,8 +42,8 @@ fn equal_bit(g: &mut Gates, so_far: i32, a: i32, b: i32) -> Result<i32, GateFaul
 
 /// True where the first word is less, as numbers from 0 or signed.
 ///
-/// From constant false, for each bit: where the bits differ the second one, else what was so far. For
-/// signed words the highest bits are complemented first.
+/// From constant false, for each bit: where the bits differ the second one, else what was so far.
+/// For signed words the highest bits are complemented first.
 pub fn less(g: &mut Gates, signed: bool, a: &[i32], b: &[i32]) -> Result<i32, GateFault>
     requires same { length a.now ≡ length b.now }
     requires width { 1 ≤ length a.now }

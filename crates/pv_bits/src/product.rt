@@ -13,8 +13,8 @@ use std::alloc::Global;
 
 /// The product of two words, as wide as they are.
 ///
-/// From zero, for each bit of the second word the first one is added, shifted left as many places and
-/// AND-ed with that bit: first the AND gates of all its bits, then the adder.
+/// From zero, for each bit of the second word the first one is added, shifted left as many places
+/// and AND-ed with that bit: first the AND gates of all its bits, then the adder.
 pub fn multiply(alloc: Global, g: &mut Gates, a: &[i32], b: &[i32]) -> Result<Literals, GateFault>
     requires same { length a.now ≡ length b.now }
     requires first { All (Names (length g.old.nodes)) a.now }

@@ -4,7 +4,7 @@ ghost use Rattle.std.specs.Prelude.{◌≡◌, ◌<◌, ◌≤◌, ◌+◌, ◌+
 ghost use Rattle.pv_gate.specs.Node.{Names, false_literal};
 ghost use Rattle.pv_gate.specs.Building.{Gives};
 ghost use Rattle.pv_gate.specs.declared.fault.GateFault.TheVariants.{NoMemory};
-ghost use Rattle.pv_bits.specs.Circuits.{taken, negate_if, divide_step, divide_unsigned, divide_signed, divide};
+ghost use Rattle.pv_bits.specs.Circuits.{taken, negate_if, divide_step, divide_unsigned, divide_magnitudes, put_back, divide_signed, divide};
 
 use crate::choice::select;
 use crate::compare::less_unsigned;
@@ -13,11 +13,11 @@ use crate::word::{below_top, falses, top};
 use pv_gate::{FALSE, GateFault, Gates, Literals};
 use std::alloc::Global;
 
-/// Quotient and remainder, as numbers from 0 or signed: the quotient is truncated toward zero, and the
-/// remainder has the sign of the first word.
+/// Quotient and remainder, as numbers from 0 or signed: the quotient is truncated toward zero, and
+/// the remainder has the sign of the first word.
 ///
-/// By zero the remainder is the first word, and the quotient is -1, or 1 where that is negative, or the
-/// greatest value where words are numbers from 0.
+/// By zero the remainder is the first word, and the quotient is -1, or 1 where that is negative, or
+/// the greatest value where words are numbers from 0.
 pub fn divide(
     alloc: Global,
     g: &mut Gates,
@@ -30,6 +30,10 @@ pub fn divide(
     requires first { All (Names (length g.old.nodes)) a.now }
     requires second { All (Names (length g.old.nodes)) b.now }
     ensures built { Gives g.old g.new (divide signed a.now b.now) result }
+    ensures quotient { IfOk result (λ o. All (Names (length g.new.nodes)) o.0) }
+    ensures remainder { IfOk result (λ o. All (Names (length g.new.nodes)) o.1) }
+    ensures quotient_width { IfOk result (λ o. length o.0 ≡ length a.now) }
+    ensures remainder_width { IfOk result (λ o. length o.1 ≡ length a.now) }
     ensures longer { length g.old.nodes ≤ length g.new.nodes }
 {
     if signed {
@@ -39,7 +43,7 @@ pub fn divide(
     }
 }
 
-/// The magnitudes are divided, and quotient and remainder are negated by the signs.
+/// The magnitudes are divided, and the signs put back.
 fn divide_signed(
     alloc: Global,
     g: &mut Gates,
@@ -51,16 +55,65 @@ fn divide_signed(
     requires first { All (Names (length g.old.nodes)) a.now }
     requires second { All (Names (length g.old.nodes)) b.now }
     ensures built { Gives g.old g.new (divide_signed a.now b.now) result }
+    ensures quotient { IfOk result (λ o. All (Names (length g.new.nodes)) o.0) }
+    ensures remainder { IfOk result (λ o. All (Names (length g.new.nodes)) o.1) }
+    ensures quotient_width { IfOk result (λ o. length o.0 ≡ length a.now) }
+    ensures remainder_width { IfOk result (λ o. length o.1 ≡ length a.now) }
     ensures longer { length g.old.nodes ≤ length g.new.nodes }
 {
     let _count = g.nodes();
-    let (negative, other) = (top(a), top(b));
-    let dividend = negate_if(alloc, g, negative, a)?;
-    let divisor = negate_if(alloc, g, other, b)?;
-    let (whole, left) = divide_unsigned(alloc, g, dividend.as_slice(), divisor.as_slice())?;
-    let differ = g.xor(negative, other)?;
-    let quotient = negate_if(alloc, g, differ, whole.as_slice())?;
-    let remainder = negate_if(alloc, g, negative, left.as_slice())?;
+    let (whole, left) = divide_magnitudes(alloc, g, a, b)?;
+    put_back(alloc, g, top(a), top(b), whole.as_slice(), left.as_slice())
+}
+
+/// The division of the magnitudes.
+fn divide_magnitudes(
+    alloc: Global,
+    g: &mut Gates,
+    a: &[i32],
+    b: &[i32],
+) -> Result<(Literals, Literals), GateFault>
+    requires same { length a.now ≡ length b.now }
+    requires width { 1 ≤ length a.now }
+    requires first { All (Names (length g.old.nodes)) a.now }
+    requires second { All (Names (length g.old.nodes)) b.now }
+    ensures built { Gives g.old g.new (divide_magnitudes a.now b.now) result }
+    ensures quotient { IfOk result (λ o. All (Names (length g.new.nodes)) o.0) }
+    ensures remainder { IfOk result (λ o. All (Names (length g.new.nodes)) o.1) }
+    ensures quotient_width { IfOk result (λ o. length o.0 ≡ length a.now) }
+    ensures remainder_width { IfOk result (λ o. length o.1 ≡ length a.now) }
+    ensures longer { length g.old.nodes ≤ length g.new.nodes }
+{
+    let _count = g.nodes();
+    let dividend = negate_if(alloc, g, top(a), a)?;
+    let divisor = negate_if(alloc, g, top(b), b)?;
+    divide_unsigned(alloc, g, dividend.as_slice(), divisor.as_slice())
+}
+
+/// Quotient and remainder of the magnitudes with their signs, by those of dividend and divisor.
+fn put_back(
+    alloc: Global,
+    g: &mut Gates,
+    dividend: i32,
+    divisor: i32,
+    whole: &[i32],
+    left: &[i32],
+) -> Result<(Literals, Literals), GateFault>
+    requires dividend { Names (length g.old.nodes) dividend }
+    requires divisor { Names (length g.old.nodes) divisor }
+    requires whole { All (Names (length g.old.nodes)) whole.now }
+    requires left { All (Names (length g.old.nodes)) left.now }
+    ensures built { Gives g.old g.new (put_back dividend divisor (whole.now, left.now)) result }
+    ensures quotient { IfOk result (λ o. All (Names (length g.new.nodes)) o.0) }
+    ensures remainder { IfOk result (λ o. All (Names (length g.new.nodes)) o.1) }
+    ensures quotient_width { IfOk result (λ o. length o.0 ≡ length whole.now) }
+    ensures remainder_width { IfOk result (λ o. length o.1 ≡ length left.now) }
+    ensures longer { length g.old.nodes ≤ length g.new.nodes }
+{
+    let _count = g.nodes();
+    let differ = g.xor(dividend, divisor)?;
+    let quotient = negate_if(alloc, g, differ, whole)?;
+    let remainder = negate_if(alloc, g, dividend, left)?;
     Ok((quotient, remainder))
 }
 
@@ -130,8 +183,8 @@ fn extended(alloc: Global, g: &Gates, word: &[i32]) -> Result<Literals, GateFaul
     Ok(wide)
 }
 
-/// A bit of the quotient, and what is left: it takes the next bit of the first word, and the second one
-/// is subtracted where it isn't larger.
+/// A bit of the quotient, and what is left: it takes the next bit of the first word, and the second
+/// one is subtracted where it isn't larger.
 fn divide_step(
     alloc: Global,
     g: &mut Gates,

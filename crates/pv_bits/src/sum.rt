@@ -9,8 +9,8 @@ use crate::word::{complements, falses};
 use pv_gate::{GateFault, Gates, Literals, TRUE};
 use std::alloc::Global;
 
-/// The sum of two words and a carry, as wide as they are: a full adder for each bit, the carry out of
-/// the highest one included.
+/// The sum of two words and a carry, as wide as they are: a full adder for each bit, the carry out
+/// of the highest one included.
 pub fn adder(
     alloc: Global,
     g: &mut Gates,

@@ -1,6 +1,9 @@
 //! Small circuits, gate by gate, as the rules for words and gates make them by hand.
 
-use super::{adder, divide, equal, less, multiply, select, shift, subtract};
+use super::{
+    adder, difference_overflow, divide, equal, less, multiply, product_overflow, select, shift,
+    subtract, sum_overflow,
+};
 use pv_gate::{FALSE, Node, make};
 use std::test::Fail;
 
@@ -57,5 +60,33 @@ fn quotient_of_one_bit(rt: HostRuntime) -> Result<(), Fail> {
     let (quotient, remainder) = divide(rt.alloc(), &mut g, false, &a, &a)?;
     assert_eq!(rt; quotient.as_slice(), [1].as_slice());
     assert_eq!(rt; remainder.as_slice(), [-1].as_slice());
+    Ok(())
+}
+
+// Of one bit a sum overflows from 0 where both are true. Signed, each bit stands twice: the sum's
+// are XOR (4) and XOR with the carry (6).
+#[test]
+fn overflow_of_one_bit(rt: HostRuntime) -> Result<(), Fail> {
+    let mut g = make(rt.alloc(), 1000)?;
+    let a = [g.input()?];
+    let b = [g.input()?];
+    assert_eq!(rt; sum_overflow(rt.alloc(), &mut g, false, &a, &b)?, 5);
+    assert_eq!(rt; sum_overflow(rt.alloc(), &mut g, true, &a, &b)?, 9);
+    assert_eq!(rt; g.node(6), Node::Xor(4, 5));
+    assert_eq!(rt; g.node(9), Node::Xor(4, 6));
+    assert_eq!(rt;
+        difference_overflow(rt.alloc(), &mut g, false, &a, &a)?,
+        FALSE
+    );
+    Ok(())
+}
+
+// The product with 1 fits one bit where it is 0.
+#[test]
+fn overflow_of_a_product(rt: HostRuntime) -> Result<(), Fail> {
+    let mut g = make(rt.alloc(), 1000)?;
+    let a = [g.input()?, FALSE];
+    let one = [-FALSE, FALSE];
+    assert_eq!(rt; product_overflow(rt.alloc(), &mut g, &a, &one)?, 2);
     Ok(())
 }

@@ -1,6 +1,6 @@
 //! Parts of words, and words that take no gate.
 
-ghost use Rattle.std.specs.Prelude.{◌≡◌, ◌<◌, ◌≤◌, ◌-◌, ◌+◌, All, length, min, map, neg_ℤ, IfOk, OnErr, Err};
+ghost use Rattle.std.specs.Prelude.{◌≡◌, ◌<◌, ◌≤◌, ◌-◌, ◌+◌, All, length, map, neg_ℤ, replicate, IfOk, OnErr, Err};
 ghost use Rattle.pv_gate.specs.Node.{Names};
 ghost use Rattle.pv_gate.specs.declared.fault.GateFault.TheVariants.{NoMemory};
 ghost use Rattle.pv_bits.specs.Circuits.{top, below_top, falses, complements};
@@ -24,6 +24,18 @@ pub(crate) fn below_top(word: &[i32]) -> &[i32]
     &word[..word.len() - 1]
 }
 
+/// So many times the literal.
+pub(crate) fn copies(alloc: Global, literal: i32, count: usize) -> Result<Literals, GateFault>
+    ensures word { IfOk result (λ word. word ≡ replicate count literal) }
+    ensures err { OnErr result (result ≡ Err NoMemory) }
+{
+    let mut word = Literals::new(alloc);
+    for _bit in 0..count {
+        word.push(literal)?;
+    }
+    Ok(word)
+}
+
 /// So many times constant false.
 pub(crate) fn falses(alloc: Global, g: &Gates, count: usize) -> Result<Literals, GateFault>
     ensures word { IfOk result (λ word. word ≡ falses count) }
@@ -32,11 +44,7 @@ pub(crate) fn falses(alloc: Global, g: &Gates, count: usize) -> Result<Literals,
 {
     // Node 1 is there.
     let _count = g.nodes();
-    let mut word = Literals::new(alloc);
-    for _bit in 0..count {
-        word.push(FALSE)?;
-    }
-    Ok(word)
+    copies(alloc, FALSE, count)
 }
 
 /// The complement of each bit.

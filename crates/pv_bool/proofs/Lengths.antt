@@ -2,32 +2,29 @@
 use Rattle.std.proofs.Common.{◌≡◌, ℕ, suc, Bool, true, false, cond, List, [], ◌∷◌, length, refl, ◌∙◌, ap, arith, set}
 use Rattle.std.specs.Prelude.{filter}
 use Rattle.std.proofs.lemmas.List.{length-map, length-set}
-use Rattle.pv_machine.specs.declared.role.Role.{Role}
-use Rattle.pv_machine.specs.declared.role.Role.TheVariants.{Input, Param, Kept, Brief}
-use Rattle.pv_machine.specs.Roles.{is_input, is_stored}
+use Rattle.pv_bool.specs.declared.program.BitRole.{BitRole}
+use Rattle.pv_bool.specs.declared.program.BitRole.TheVariants.{Input, Kept}
+use Rattle.pv_bool.specs.Roles.{is_input, is_kept}
 use Rattle.pv_bool.specs.declared.program.Bit.{Bit}
 use Rattle.pv_bool.specs.Tree.{AssignmentTree, ProgramTree}
 use Rattle.pv_bool.specs.Scans.{Bits, first, others, state_len, input_len, start, begin, state_of, input_of, value_in, run_body, scan_end}
 use Rattle.pv_bool.specs.Scans.{next_state}
 
 pub length-start : (bits : List Bit) → length (start bits) ≡ state_len bits
-length-start bits = length-map (filter (λ b. is_stored b.role) bits) (λ (b : Bit). b.start)
+length-start bits = length-map (filter (λ b. is_kept b.role) bits) (λ (b : Bit). b.start)
 
 -- the frame that begins with a bit of this role and those behind it
-abbrev begun : List Bit → Bits → Bits → Role → Bits
+abbrev begun : List Bit → Bits → Bits → BitRole → Bits
 begun bs state input r =
-    cond (is_input r) (first input ∷ begin bs state (others input))
-    (cond (is_stored r) (first state ∷ begin bs (others state) input) (false ∷ begin bs state input))
+    cond (is_input r) (first input ∷ begin bs state (others input)) (first state ∷ begin bs (others state) input)
 
 pub length-begin : (bits : List Bit) (state input : Bits) → length (begin bits state input) ≡ length bits
 length-begin [] state input = refl
 length-begin (b ∷ bs) state input = by b.role (λ s i. length-begin bs s i)
   where
-    by : (r : Role) → ((s i : Bits) → length (begin bs s i) ≡ length bs) → length (begun bs state input r) ≡ suc (length bs)
+    by : (r : BitRole) → ((s i : Bits) → length (begin bs s i) ≡ length bs) → length (begun bs state input r) ≡ suc (length bs)
     by Input h = ap suc (h state (others input))
-    by Param h = ap suc (h (others state) input)
     by Kept h = ap suc (h (others state) input)
-    by Brief h = ap suc (h state input)
 
 pub length-run_body : (body : List AssignmentTree) (frame : Bits) → length (run_body body frame) ≡ length frame
 length-run_body [] frame = refl
@@ -39,11 +36,11 @@ length-scan_end program state input = length-run_body program.body (begin progra
 
 pub length-state_of : (bits : List Bit) (frame : Bits) → length (state_of bits frame) ≡ state_len bits
 length-state_of [] frame = refl
-length-state_of (b ∷ bs) frame = by (is_stored b.role) (length-state_of bs (others frame))
+length-state_of (b ∷ bs) frame = by (is_kept b.role) (length-state_of bs (others frame))
   where
     by : (t : Bool) → length (state_of bs (others frame)) ≡ state_len bs
         → length (cond t (first frame ∷ state_of bs (others frame)) (state_of bs (others frame)))
-        ≡ length (cond t (b ∷ filter (λ c. is_stored c.role) bs) (filter (λ c. is_stored c.role) bs))
+        ≡ length (cond t (b ∷ filter (λ c. is_kept c.role) bs) (filter (λ c. is_kept c.role) bs))
     by true h = ap suc h
     by false h = h
 
@@ -78,26 +75,21 @@ pub state_of-begin : (bits : List Bit) (state input : Bits) → length state ≡
 state_of-begin [] state input len = none state len
 state_of-begin (b ∷ bs) state input len = by b.role len (λ s i e. state_of-begin bs s i e)
   where
-    by : (r : Role) → length state ≡ length (cond (is_stored r) (b ∷ filter (λ c. is_stored c.role) bs) (filter (λ c. is_stored c.role) bs))
+    by : (r : BitRole) → length state ≡ length (cond (is_kept r) (b ∷ filter (λ c. is_kept c.role) bs) (filter (λ c. is_kept c.role) bs))
         → ((s i : Bits) → length s ≡ state_len bs → state_of bs (begin bs s i) ≡ s)
-        → cond (is_stored r) (first (begun bs state input r) ∷ state_of bs (others (begun bs state input r)))
+        → cond (is_kept r) (first (begun bs state input r) ∷ state_of bs (others (begun bs state input r)))
         (state_of bs (others (begun bs state input r))) ≡ state
     by Input e h = h state (others input) e
-    by Param e h = ap (λ vs. first state ∷ vs) (h (others state) input (length-others state (state_len bs) e))
-        ∙ split state (state_len bs) e
     by Kept e h = ap (λ vs. first state ∷ vs) (h (others state) input (length-others state (state_len bs) e)) ∙ split state (state_len bs) e
-    by Brief e h = h state input e
 
 pub input_of-begin : (bits : List Bit) (state input : Bits) → length input ≡ input_len bits → input_of bits (begin bits state input) ≡ input
 input_of-begin [] state input len = none input len
 input_of-begin (b ∷ bs) state input len = by b.role len (λ s i e. input_of-begin bs s i e)
   where
-    by : (r : Role) → length input ≡ length (cond (is_input r) (b ∷ filter (λ c. is_input c.role) bs) (filter (λ c. is_input c.role) bs))
+    by : (r : BitRole) → length input ≡ length (cond (is_input r) (b ∷ filter (λ c. is_input c.role) bs) (filter (λ c. is_input c.role) bs))
         → ((s i : Bits) → length i ≡ input_len bs → input_of bs (begin bs s i) ≡ i)
         → cond (is_input r) (first (begun bs state input r) ∷ input_of bs (others (begun bs state input r)))
         (input_of bs (others (begun bs state input r))) ≡ input
     by Input e h = ap (λ vs. first input ∷ vs) (h state (others input) (length-others input (input_len bs) e))
         ∙ split input (input_len bs) e
-    by Param e h = h (others state) input e
     by Kept e h = h (others state) input e
-    by Brief e h = h state input e

@@ -1,4 +1,5 @@
 -- what public clauses cite
+pub mod Roles
 pub mod Tree
 pub mod Programs
 pub mod Scans

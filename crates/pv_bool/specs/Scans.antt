@@ -1,8 +1,8 @@
--- What a scan of a Boolean program does. A state has the values of the bits that are stored from scan to scan, an input those
+-- What a scan of a Boolean program does. A state has the values of the bits that are kept from scan to scan, an input those
 -- that each scan takes anew, and a frame, which a scan works on, those of all bits, each in the order of the bits.
 use Rattle.std.specs.Prelude.{ℕ, Bool, false, not, ◌&&◌, ◌||◌, List, [], ◌∷◌, length, map, filter, slice_index_or, slice_set}
 use Rattle.std.specs.Prelude.{if◌then◌else◌}
-use Rattle.pv_machine.specs.Roles.{is_input, is_stored}
+use Rattle.pv_bool.specs.Roles.{is_input, is_kept}
 use Rattle.pv_bool.specs.declared.program.Bit.{Bit}
 use Rattle.pv_bool.specs.Tree.{TermTree, constant, load, negation, conjunction, disjunction, AssignmentTree, ProgramTree}
 
@@ -20,28 +20,26 @@ others (b ∷ bs) = bs
 
 -- how many values a state has, and an input
 abbrev pub state_len : List Bit → ℕ
-state_len bits = length (filter (λ b. is_stored b.role) bits)
+state_len bits = length (filter (λ b. is_kept b.role) bits)
 
 abbrev pub input_len : List Bit → ℕ
 input_len bits = length (filter (λ b. is_input b.role) bits)
 
 -- the state before the first scan
 abbrev pub start : List Bit → Bits
-start bits = map (λ b. b.start) (filter (λ b. is_stored b.role) bits)
+start bits = map (λ b. b.start) (filter (λ b. is_kept b.role) bits)
 
--- the frame at a scan's beginning: state and input stand in their bits; a bit that is neither begins false
+-- the frame at a scan's beginning: state and input stand in their bits
 abbrev pub begin : List Bit → Bits → Bits → Bits
 begin [] state input = []
 begin (b ∷ bs) state input =
-    if is_input b.role then first input ∷ begin bs state (others input)
-    else if is_stored b.role then first state ∷ begin bs (others state) input
-    else false ∷ begin bs state input
+    if is_input b.role then first input ∷ begin bs state (others input) else first state ∷ begin bs (others state) input
 
--- the values of the stored bits in a frame, and of the input bits
+-- the values of the kept bits in a frame, and of the input bits
 abbrev pub state_of : List Bit → Bits → Bits
 state_of [] frame = []
 state_of (b ∷ bs) frame =
-    if is_stored b.role then first frame ∷ state_of bs (others frame) else state_of bs (others frame)
+    if is_kept b.role then first frame ∷ state_of bs (others frame) else state_of bs (others frame)
 
 abbrev pub input_of : List Bit → Bits → Bits
 input_of [] frame = []

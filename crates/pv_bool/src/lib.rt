@@ -8,4 +8,4 @@
 pub mod laws;
 mod program;
 
-pub use program::{Assignment, Bit, Program, Term};
+pub use program::{Assignment, Bit, BitRole, Program, Term};

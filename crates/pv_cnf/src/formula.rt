@@ -1,5 +1,6 @@
 ghost use Rattle.std.specs.Prelude.{◌≡◌, ◌+◌, ◌^◌, ◌<◌, ◌≤◌, [], ◌∷◌, ◌++◌, length, slice_get, slice_index, IfOk, OnOk, OnErr};
 ghost use Rattle.pv_cnf.specs.Clause.{Cnf};
+ghost use Rattle.pv_cnf.specs.Fault.{first_fault};
 ghost use Rattle.pv_cnf.specs.Layout.{LeadTo, parts_from};
 
 use crate::check::fault_of;
@@ -43,6 +44,15 @@ impl Formula {
             ends: Vec::new(alloc),
             marks: vec![in alloc; false; variables as usize + 1]?,
         })
+    }
+
+    /// What is wrong with a clause over the formula's variables, whether or not there is room for it: the
+    /// first that applies of what `push` finds before it asks for space or memory.
+    pub fn fault(&mut self, lits: &[u32]) -> Option<PushFault>
+        ensures fault { result ≡ first_fault self.old.variables lits.now }
+        ensures unchanged { self.new ≡ self.old }
+    {
+        fault_of(self.variables, &mut self.marks, lits)
     }
 }
 

@@ -9,6 +9,7 @@ use Rattle.std.specs.Option.{option_map, option_or}
 use Rattle.std.specs.Ordering.{is_eq}
 use Rattle.std.proofs.lemmas.List.{length_push}
 use Rattle.std.proofs.lemmas.List.Sums.{sum_by_push}
+use Rattle.pv_gate.specs.declared.netlist.TheConstants.{MAX_INPUTS}
 use Rattle.pv_gate.specs.declared.netlist.Node.{Node}
 use Rattle.pv_gate.specs.declared.netlist.Node.TheVariants.{True, Input, And, Xor, Mux}
 use Rattle.pv_gate.specs.Node.{is_same, is_gate, is_input, gate_count, input_count}
@@ -62,7 +63,7 @@ kept_gate nodes find found gates inputs limit node h gate follows new room says 
 }
 
 -- an input
-pub kept_input : (nodes : List Node) (find : Lookup) (gates inputs limit : ℕ) → IsKept nodes find gates inputs limit → inputs < 1000000000 → IsKept (nodes ++ Input inputs ∷ []) find gates (inputs + 1) limit
+pub kept_input : (nodes : List Node) (find : Lookup) (gates inputs limit : ℕ) → IsKept nodes find gates inputs limit → inputs < MAX_INPUTS → IsKept (nodes ++ Input inputs ∷ []) find gates (inputs + 1) limit
 kept_input nodes find gates inputs limit h room = record {
   netlist = IsNetlist-push nodes (Input inputs) h.netlist h.inputs_are;
   gates_are = omega (arith, count_push is_gate nodes (Input inputs) false refl, h.gates_are);
@@ -83,7 +84,7 @@ kept_gate_at old nodes find found gates inputs limit node e h gate =
     subst (λ (o : Netlist). MayFollow o.nodes node → number_of node o.nodes ≡ None → gate_count o.nodes < o.limit → ((q : Node) → found q ≡ cond (is_eq (node_cmp node q)) (Some (pos (suc (length nodes)))) (find q)) → IsKept (nodes ++ node ∷ []) found (gates + 1) inputs limit)
     e (kept_gate nodes find found gates inputs limit node h gate)
 
-pub kept_input_at : (old : Netlist) (nodes : List Node) (find : Lookup) (gates inputs limit : ℕ) → record { nodes = nodes; limit = limit } ≡ old → IsKept nodes find gates inputs limit → input_count old.nodes < 1000000000 → IsKept (nodes ++ Input inputs ∷ []) find gates (inputs + 1) limit
+pub kept_input_at : (old : Netlist) (nodes : List Node) (find : Lookup) (gates inputs limit : ℕ) → record { nodes = nodes; limit = limit } ≡ old → IsKept nodes find gates inputs limit → input_count old.nodes < MAX_INPUTS → IsKept (nodes ++ Input inputs ∷ []) find gates (inputs + 1) limit
 kept_input_at old nodes find gates inputs limit e h room =
     kept_input nodes find gates inputs limit h (omega (arith, h.inputs_are, ap (λ (o : Netlist). input_count o.nodes) e))
 

@@ -4,6 +4,7 @@ use Rattle.std.specs.Option.{option_map}
 use Rattle.std.specs.Ordering.{nat_cmp, int_cmp, ordering_then}
 use Rattle.std.specs.declared.cmp.Ordering.{Ordering}
 use Rattle.std.specs.declared.cmp.Ordering.TheVariants.{Equal}
+use Rattle.pv_gate.specs.declared.netlist.TheConstants.{MAX_GATES, MAX_INPUTS}
 use Rattle.pv_gate.specs.declared.netlist.Node.{Node}
 use Rattle.pv_gate.specs.declared.netlist.Node.TheVariants.{True, Input, And, Xor, Mux}
 use Rattle.pv_gate.specs.Node.{is_gate, gate_count, input_count}
@@ -21,8 +22,8 @@ pub record IsKept (nodes : List Node) (find : Lookup) (gates inputs limit : ℕ)
   pub inputs_are : inputs ≡ input_count nodes
   pub all : length nodes ≡ 1 + gates + inputs
   pub within : gates ≤ limit
-  pub few_gates : limit ≤ 1000000000
-  pub few_inputs : inputs ≤ 1000000000
+  pub few_gates : limit ≤ MAX_GATES
+  pub few_inputs : inputs ≤ MAX_INPUTS
   pub finds : (node : Node) → IsTrue (is_gate node) → find node ≡ option_map pos (number_of node nodes)
 
 -- the order of the index: by kind, then by operands

@@ -129,7 +129,7 @@ digit-clash : (s : Shape) (text bytes left : List ℕ) → solid s ≡ true → 
     → begins c.Digit text ≡ true → text ≡ bytes ++ left → Spells s bytes → ⊥
 digit-clash s text bytes left e table on is sp = no_start c.Digit s text digit-low table on (start-of s text bytes left e is sp)
 
-header-letter : (language : Language) (context : Context) (text bytes left : List ℕ) → text ≡ bytes ++ left
+pub header-letter : (language : Language) (context : Context) (text bytes left : List ℕ) → text ≡ bytes ++ left
     → IsHeaderLine language context bytes → begins c.Letter text ≡ true
 header-letter language context text bytes left is h =
     ap (begins c.Letter) (is ∙ ap (λ (b : List ℕ). b ++ left) h.spelled ∙ append_assoc h.word h.line left)

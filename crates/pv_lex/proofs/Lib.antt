@@ -10,4 +10,7 @@ pub mod Least
 pub mod Answered
 pub mod Cuts
 pub mod Ones
+pub mod Feeds
+pub mod LineEnds
+pub mod Joins
 pub mod ForCallers

@@ -36,7 +36,7 @@ none_of language context kind [] rest is n = stretch-some language context kind 
 none_of language context kind (b ∷ bytes) rest is n = not_nil b (bytes ++ rest) (sym is)
 
 -- nothing is next in an empty text
-nil-none : (language : Language) (context : Context) → NoneIsNext language context []
+pub nil-none : (language : Language) (context : Context) → NoneIsNext language context []
 nil-none language context = λ kind bytes rest is n. none_of language context kind bytes rest is n
 
 piece_is : (p q : Piece) → p.kind ≡ q.kind → p.bytes ≡ q.bytes → p ≡ q
@@ -101,11 +101,11 @@ tokens-faultless language file text tokens kind place a x =
 
 -- ---- the fault is one
 
-low-byte : (n : ℕ) → n < 128 → (b : ℕ) → (b == n) ≡ true → b < 128
+pub low-byte : (n : ℕ) → n < 128 → (b : ℕ) → (b == n) ≡ true → b < 128
 low-byte n h b is = omega (arith, eqb-true b n is)
 
 -- an address or a number doesn't begin as a quote, an attribute or a comment does
-numeric-start : (language : Language) (context : Context) (text : List ℕ) → (x : IsNumeric language context text)
+pub numeric-start : (language : Language) (context : Context) (text : List ℕ) → (x : IsNumeric language context text)
     → (Start any_number text) ⊎ (Start address text)
 numeric-start language context text x = elim x.numeric [
   | inl e ↦ inl (start-of any_number text x.bytes x.rest refl x.whole (subst (λ (y : Kind). IsStretch language context (Some y) x.bytes) e
@@ -118,15 +118,15 @@ no_quote : (text : List ℕ) → begins (c.Byte 34) text ≡ true → (Start any
 no_quote text on (inl x) = no_start (c.Byte 34) any_number text (low-byte 34 (lit< tt)) refl on x
 no_quote text on (inr x) = no_start (c.Byte 34) address text (low-byte 34 (lit< tt)) refl on x
 
-no_brace : (text : List ℕ) → begins (c.Byte 123) text ≡ true → (Start any_number text) ⊎ (Start address text) → ⊥
+pub no_brace : (text : List ℕ) → begins (c.Byte 123) text ≡ true → (Start any_number text) ⊎ (Start address text) → ⊥
 no_brace text on (inl x) = no_start (c.Byte 123) any_number text (low-byte 123 (lit< tt)) refl on x
 no_brace text on (inr x) = no_start (c.Byte 123) address text (low-byte 123 (lit< tt)) refl on x
 
-no_open : (text : List ℕ) → begins (c.Byte 40) text ≡ true → (Start any_number text) ⊎ (Start address text) → ⊥
+pub no_open : (text : List ℕ) → begins (c.Byte 40) text ≡ true → (Start any_number text) ⊎ (Start address text) → ⊥
 no_open text on (inl x) = no_start (c.Byte 40) any_number text (low-byte 40 (lit< tt)) refl on x
 no_open text on (inr x) = no_start (c.Byte 40) address text (low-byte 40 (lit< tt)) refl on x
 
-open-begins : (text : List ℕ) → opens_comment text ≡ true → begins (c.Byte 40) text ≡ true
+pub open-begins : (text : List ℕ) → opens_comment text ≡ true → begins (c.Byte 40) text ≡ true
 open-begins [] on = on
 open-begins (b ∷ others) on = (and_parts (b == 40) (begins (c.Byte 42) others) on).0
 

@@ -191,7 +191,7 @@ front-least p (x ∷ xs) ys e =
     in
     omega (arith, n, front-least p xs ys parts.1)
 
-word-passes : (word : List ℕ) → is_word word ≡ true → list_all is_word_byte word ≡ true
+pub word-passes : (word : List ℕ) → is_word word ≡ true → list_all is_word_byte word ≡ true
 word-passes [] e = refl
 word-passes (b ∷ word) e =
     let parts = and_parts (is_letter b) (list_all is_word_byte word) e in

@@ -3,3 +3,4 @@ pub mod Shapes
 pub mod Values
 pub mod Tokens
 pub mod Scans
+pub mod Lines

@@ -58,8 +58,8 @@ is_stl l.Stl = true
 abbrev pub skip : Class → List ℕ → List ℕ
 skip class text = drop (prefix_len (has class) text) text
 
--- the word, before the rest of its line, begins a header line: it stands first on its line, and either
--- begins one in a block's head, or is the TITLE of STL, with `=` behind it
+-- the word, before the rest of its line, begins a header line: it stands first on its line, and
+-- either begins one in a block's head, or is the TITLE of STL, with `=` behind it
 unfoldable pub is_header : Language → Context → List ℕ → List ℕ → Bool
 is_header language context word line =
     not context.on_line

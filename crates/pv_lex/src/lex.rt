@@ -19,9 +19,10 @@ pub const MAX_SOURCE: usize = 4_194_304;
 
 /// The tokens of the text of this file, ended by `End` at its length.
 ///
-/// Its time is proportional to the text's length. `NoToken` exactly where the text has no tokens: at
-/// the first place where no token and no dropped text begins, with what stands there. The rules are
-/// those of the manuals of SCL and STL for S7-300/400, in the profile of docs/SEMANTICS.md.
+/// Its time is proportional to the text's length. `NoToken` exactly where the text has no tokens:
+/// at the first place where no token and no dropped text begins, with what stands there. The rules
+/// are those of the manuals of SCL and STL for S7-300/400, in the profile that the crate's README
+/// gives.
 pub fn tokens(
     alloc: Global,
     file: u32,

@@ -1,6 +1,8 @@
-//! What stands at the front of a text: bytes of a class, digits, words, and comments up to their end.
+//! What stands at the front of a text: bytes of a class, digits, words, and comments up to their
+//! end.
 //!
-//! Each reader answers what is left behind that which it takes, or none where it doesn't stand there.
+//! Each reader answers what is left behind that which it takes, or none where it doesn't stand
+//! there.
 ghost use Rattle.std.specs.Prelude.{option_copied, ◌≡◌, ◌+◌, ◌≤◌, length};
 ghost use Rattle.std.specs.List.{prefix_len};
 ghost use Rattle.pv_lex.specs.Classes.{has};
@@ -57,7 +59,8 @@ pub fn word_len(text: &[u8]) -> usize
     front_len(Class::WordByte, text)
 }
 
-/// What is left behind a number of digits of the class, where one `_` may stand between two of them.
+/// What is left behind a number of digits of the class, where one `_` may stand between two of
+/// them.
 pub fn past_number(class: Class, text: &[u8]) -> Option<&[u8]>
     ensures { option_copied result ≡ past_number class text.now }
 {

@@ -1,7 +1,7 @@
 //! The shapes of tokens and of dropped text.
 //!
-//! Each reader answers what is left behind the longest text of its shape that begins the text, or none
-//! where none does.
+//! Each reader answers what is left behind the longest text of its shape that begins the text, or
+//! none where none does.
 ghost use Rattle.std.specs.Prelude.{◌≡◌, option_copied, Some};
 ghost use Rattle.pv_lex.specs.Shapes.{Shape, dropped, line_comment, comment, attribute, white, quoted, bit_address, wide_address, plain_address, address, part, milliseconds, seconds, minutes, hours, days, hex, binary, octal, behind_prefix, typed_number, plain_number, exponent, real, pair, sign, of_type, typed_sign, signs, decimals, word, signed, duration};
 ghost use Rattle.pv_lex.specs.Shapes.Shape.{done, one, many, number, either};

@@ -14,8 +14,8 @@ use crate::shapes::{
 use crate::token::{Kind, Language};
 use crate::value::{do_runs_fit, value_of};
 
-/// A stretch at the front of a text: a token's kind, none where it is dropped, and how many bytes it
-/// leaves.
+/// A stretch at the front of a text: a token's kind, none where it is dropped, and how many bytes
+/// it leaves.
 #[derive(Clone, Copy)]
 pub struct Stretch {
     pub kind: Option<Kind>,

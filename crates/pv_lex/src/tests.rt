@@ -3,15 +3,16 @@ use crate::{Kind, Language, LexFault, MAX_SOURCE, tokens};
 use std::alloc::{AllocError, Global};
 use std::test::Fail;
 
-/// Rows of a language (S for SCL, L for STL, B for both), a text and what is read of it: each token with
-/// its offset, its length and, of a number, its value; or the fault with its offset. In the texts `^`
-/// stands for a line feed, `|` for a tab, ` for a carriage return, ' for a form feed and @ for a byte of
-/// 200.
+/// Rows of a language (S for SCL, L for STL, B for both), a text and what is read of it: each token
+/// with its offset, its length and, of a number, its value; or the fault with its offset. In the
+/// texts `^` stands for a line feed, `|` for a tab, ` for a carriage return, ' for a form feed and
+/// @ for a byte of 200.
 const ROWS: &str = "B~E0
 B ~E1
 B |^`~E4
 Ba b~W0+1 W2+1 E3
 Ba'b~W0+1 W2+1 E3
+Ba\x0b~BadByte1
 B(* x *)~E7
 B(**)~E4
 B(*)~OpenComment0
@@ -21,13 +22,18 @@ B(* a^b *) c~W10+1 E11
 B(* a~OpenComment0
 Bx (* a *~OpenComment2
 B(*@*)~E5
+B(* // *) a~W9+1 E10
+B(* { *)}~BadByte7
 B// a^b~W5+1 E6
 B// a~E4
 B//@ \"(* {~E9
+B//`a^b~W5+1 E6
 B{ a }~E5
 B{ a^} b~W6+1 E7
 B{a} b}~BadByte5
 B{ { }~E5
+B{(*} a~W5+1 E6
+B{@}~E3
 B{ a~OpenComment0
 Ba }~BadByte2
 B(* \" *)~E7
@@ -47,12 +53,15 @@ B\"a^\"~OpenQuote0
 B\"a~OpenQuote0
 Bx.\"y\"~W0+1 S1+1 Q2+3 E5
 B\"(*\"~Q0+4 E4
+B\"//\" a~Q0+4 W5+1 E6
+B\"`\"~Q0+3 E3
 B\"a\"b\"~OpenQuote4
 B!~BadByte0
 Ba !~BadByte2
 B@~BadByte0
 Ba@~BadByte1
 B%~BadByte0
+B\x7f~BadByte0
 B% I0.0~BadByte0
 B%x~BadByte0
 B%I 0~BadByte0
@@ -81,6 +90,12 @@ BIB^0~W0+2 N3+1=0 E4
 B%MB10~A0+5 E5
 B%MB10x~A0+5 W5+1 E6
 B%i 1.2~A0+6 E6
+B%MB|10~A0+6 E6
+BI00.07~A0+6 E6
+BI^0.0~W0+1 R2+3 E5
+BI`0.0~W0+1 R2+3 E5
+BDBX0~W0+4 E4
+BDB1.DBX 0.0~W0+3 S3+1 W4+3 R8+3 E11
 BIX0.0~W0+3 S3+1 N4+1=0 E5
 BPIW0~W0+4 E4
 BI0 .0~W0+2 S3+1 N4+1=0 E5
@@ -89,12 +104,15 @@ BMW18446744073709551616~NumberTooWide0
 BI0.18446744073709551616~NumberTooWide0
 BI18446744073709551616.0~NumberTooWide0
 Ba MB18446744073709551616~NumberTooWide2
+B%MB18446744073709551616~NumberTooWide0
 BMB18446744073709551616x~W0+23 E23
 B0~N0+1=0 E1
 B007~N0+3=7 E3
 B1_000~N0+5=1000 E5
 B1__0~N0+1=1 W1+3 E4
 B1_~N0+1=1 W1+1 E2
+B2#1_0~N0+5=2 E5
+B8#1_7~N0+5=15 E5
 B2#1010~N0+6=10 E6
 B2#12~N0+3=1 N3+1=2 E4
 B2#2~N0+1=2 S1+1 N2+1=2 E3
@@ -112,6 +130,8 @@ Bint#-5~N0+6=-5 E6
 BINT#+1_0~N0+8=10 E8
 BDINT#40000~N0+10=40000 E10
 BL#7~N0+3=7 E3
+BL#+5~N0+4=5 E4
+BDINT#-1_0~N0+9=-10 E9
 Bl#-0~N0+4=0 E4
 BINT#16#F~N0+6=16 S6+1 W7+1 E8
 BINT# 5~W0+3 S3+1 N5+1=5 E6
@@ -130,6 +150,11 @@ BINT#18446744073709551615~N0+24=18446744073709551615 E24
 BINT#-18446744073709551615~N0+25=-18446744073709551615 E25
 B18446744073709551615~N0+20=18446744073709551615 E20
 B18446744073709551616~NumberTooWide0
+B0018446744073709551615~N0+22=18446744073709551615 E22
+BINT#18446744073709551616~NumberTooWide0
+BL#-18446744073709551616~NumberTooWide0
+B8#1777777777777777777777~N0+24=18446744073709551615 E24
+B8#2000000000000000000000~NumberTooWide0
 B16#FFFFFFFFFFFFFFFF~N0+19=18446744073709551615 E19
 B16#10000000000000000~NumberTooWide0
 B x := 99999999999999999999;~NumberTooWide6
@@ -139,6 +164,11 @@ BTIME#1d2h3m4s5ms~N0+16=93784005 E16
 BT#-1m~N0+5=-60000 E5
 BT#1ms~N0+5=1 E5
 BT#1m~N0+4=60000 E4
+BT#1Ms~N0+5=1 E5
+BT#-1s500ms~N0+10=-1500 E10
+BT#-0ms~N0+6=0 E6
+BT#1_s~W0+1 S1+1 N2+1=1 W3+2 E5
+BT#1s_5ms~N0+4=1000 W4+4 E8
 BT#1m1ms~N0+7=60001 E7
 BT#1D_~N0+4=86400000 W4+1 E5
 BT#1_0s~N0+6=10000 E6
@@ -152,6 +182,8 @@ BT#1.5s~W0+1 S1+1 R2+3 W5+1 E6
 BT#18446744073709551615ms~N0+24=18446744073709551615 E24
 BT#18446744073709551616ms~NumberTooWide0
 BT#18446744073709552s~NumberTooWide0
+BT#18446744073709551s615ms~N0+25=18446744073709551615 E25
+BT#18446744073709551s616ms~NumberTooWide0
 BS5T#1s~W0+3 S3+1 N4+1=1 W5+1 E6
 B1.5~R0+3 E3
 B1.5E3~R0+5 E5
@@ -193,6 +225,9 @@ S-I0.0~S0+1 A1+4 E5
 L>=Inp~S0+3 W3+2 E5
 LL -INT#5~W0+1 S2+2 W4+2 S6+1 N7+1=5 E8
 L==R~S0+1 S1+1 W2+1 E3
+L==~S0+1 S1+1 E2
+L=I~S0+1 W1+1 E2
+L+IN~S0+2 W2+1 E3
 L**I~S0+2 W2+1 E3
 L//I~E3
 L(*I~OpenComment0
@@ -204,6 +239,15 @@ BNAME x~W0+4 W5+1 E6
 Btype a^version~W0+4 W5+1 E14
 BTYPE a^KNOW_HOW_PROTECT^VAR~W0+4 W5+1 W24+3 E27
 BTYPE a^NAMES~W0+4 W5+1 W7+5 E12
+BTYPE a^{ x } NAME b^c~W0+4 W5+1 W20+1 E21
+BTYPE a^NAME \"(*{@^b~W0+4 W5+1 W18+1 E19
+BTYPE a.^NAME~W0+4 W5+1 S6+1 E12
+BTYPE a^\"NAME\"~W0+4 W5+1 Q7+6 E13
+B\"TYPE\"^NAME~Q0+6 W7+4 E11
+BTYPE ..VAR^NAME~W0+4 S5+2 W7+3 W11+4 E15
+BTYPE var^Name~W0+4 W5+3 W9+4 E13
+BTYPE BEGIN^NAME~W0+4 W5+5 W11+4 E15
+BTYPE VAR TYPE^NAME x~W0+4 W5+3 W9+4 E20
 BTYPE a^ (* c *) AUTHOR : ! ^b~W0+4 W5+1 W28+1 E29
 BTYPE a^(* ^ *) FAMILY^b~W0+4 W5+1 W22+1 E23
 BTYPE a^; NAME~W0+4 W5+1 S7+1 W9+4 E13
@@ -223,6 +267,8 @@ BTYPE VAR_TEMP^NAME~W0+4 W5+8 W14+4 E18
 BTYPE STRUCT^NAME~W0+4 W5+6 W12+4 E16
 LTITLE = !^a~W10+1 E11
 LTITLE=!^a~W8+1 E9
+LTITLE == 1~E10
+L(* *) TITLE = 1~E15
 LTITLE := 1~W0+5 S6+2 N9+1=1 E10
 STITLE = 1~W0+5 S6+1 N8+1=1 E9
 Lx TITLE = 1~W0+1 W2+5 S8+1 N10+1=1 E11

@@ -98,8 +98,8 @@ fn digits_value(base: u64, digits: &[u8]) -> Option<u64>
     Some(value)
 }
 
-/// The number with a digit behind it, or the number itself where the byte is no digit. None where it
-/// has more than 64 bits.
+/// The number with a digit behind it, or the number itself where the byte is no digit. None where
+/// it has more than 64 bits.
 #[inline(always)]
 fn with_byte(base: u64, value: u64, byte: u8) -> Option<u64>
     requires low { 0 < base }
@@ -211,8 +211,8 @@ pub fn do_runs_fit(bytes: &[u8]) -> bool
     true
 }
 
-/// The number of the digits up to the byte since the last one that is no digit, or none where it has
-/// more than 64 bits.
+/// The number of the digits up to the byte since the last one that is no digit, or none where it
+/// has more than 64 bits.
 fn with_run_byte(value: u64, byte: u8) -> Option<u64>
     ensures { MatchOption result (2 ^ 64 ≤ with_run_byte value byte)
         (λ v. v ≡ with_run_byte value byte) }

@@ -1,14 +1,14 @@
--- Hints that are followed one by one, and lines that are tried one by one.
+-- Hints that are followed one by one, and what is asked of a line.
 -- A recursion that looks one element ahead (hints: the last differs) is followed by an index loop with the invariant "the function
 -- of what is left is the function of all"; `drop_more` and one lemma for each of the two cases. `elim` inside a definition: state
 -- a lemma for each with the scrutinee as a variable (`hints-two`), give `as (λ _. T)`, and pass the recursive call as a function.
 -- A parameter `Option<&[T]>` in an `ensures` has two moments; take the slice, and match in the caller.
-use Rattle.std.proofs.Common.{◌≡◌, ℕ, zero, suc, ◌+◌, ◌-◌, ◌/◌, ◌<◌, ◌≤◌, ◌||◌, Bool, true, false, not, cond, eqb, List, [], ◌∷◌, ◌++◌, length, get_or, take, drop, map, refl, sym, ap, subst, ◌∙◌, arith, Option, Some, None, Result, Ok, Err, append_assoc}
+use Rattle.std.proofs.Common.{◌≡◌, ℕ, zero, suc, ◌+◌, ◌-◌, ◌/◌, ◌<◌, ◌≤◌, ◌||◌, Bool, true, false, not, cond, eqb, List, [], ◌∷◌, ◌++◌, length, get_or, take, drop, map, refl, sym, ap, subst, ◌∙◌, arith, Option, Some, None, Result, Ok, Err}
 use Rattle.std.specs.Prelude.{slice_get}
 use Rattle.std.specs.Option.{option_map}
 use Rattle.std.specs.Result.{result_err}
 use Rattle.std.proofs.lemmas.Bool.{eqb-true, eq-eqb, ne_eqb, or_parts, or_from, le-ltb}
-use Rattle.std.proofs.lemmas.List.{drop_more, drop_all, take_all, length-drop, append-nil}
+use Rattle.std.proofs.lemmas.List.{drop_more, drop_all, length-drop}
 use Rattle.pv_cnf.specs.Literal.{complement, is_outside}
 use Rattle.pv_cnf.specs.Clause.{has_outside, has_double}
 use Rattle.pv_log.specs.declared.line.Line.{Line}
@@ -18,6 +18,7 @@ use Rattle.pv_log.specs.Propagation.{named, unit_of, is_falsified, last_step, un
 use Rattle.pv_log.specs.Follows.{Follows, fault_of, EachFollows, FailsFirst, ends_empty}
 use Rattle.pv_log.specs.Checking.{lemmas, known, AreInside}
 use Rattle.pv_log.proofs.Literals.{inside-bounds}
+use Rattle.pv_log.proofs.LineByLine.{Decides, all-not-first, first-once}
 use Rattle.pv_log.proofs.FindLaws.{slice_get-map, length-known}
 
 -- ---- hints
@@ -116,26 +117,17 @@ follows-faultless v clauses line f =
     ∙ ap (λ (b : Bool). cond b (Some Tautology) (hints_fault clauses line.lits line.hints)) (or_from (has_outside v line.lits) (has_double line.lits) f.inside f.distinct)
     ∙ hints-faultless clauses line.hints line.lits f.refutes
 
--- ---- line by line
+-- what `check` asks of a line
+pub follow-decides : (v : ℕ) → Decides (Follows v) (fault_of v)
+follow-decides v = record { none = follows-faultless v; all = faultless-follows v }
 
-regroup : (v : ℕ) (clauses : List (List ℕ)) (line : Line) (lines : List Line) (n : ℕ) → known clauses (line ∷ lines) (suc n) ≡ known (clauses ++ line.lits ∷ []) lines n
-regroup v clauses line lines n = sym (append_assoc clauses (line.lits ∷ []) (map (λ (l : Line). l.lits) (take n lines)))
+pub follows-not-fails : (v : ℕ) (clauses : List (List ℕ)) (lines : List Line) (n : ℕ) (kind : LineFault) → EachFollows (Follows v) clauses lines → FailsFirst (fault_of v) clauses lines n kind → ⊥
+follows-not-fails v clauses lines n kind e f = all-not-first (Follows v) (fault_of v) (follow-decides v) clauses lines n kind e f
 
-pub follows-more : (v : ℕ) (clauses : List (List ℕ)) (lines : List Line) (n : ℕ) (line : Line) → EachFollows (Follows v) clauses (take n lines) → slice_get lines n ≡ Some line → Follows v (known clauses lines n) line → EachFollows (Follows v) clauses (take (suc n) lines)
-follows-more v clauses [] n line e at f = absurd cc
-follows-more v clauses (l ∷ lines) zero line e at f =
-    let same : line ≡ l = cc in
-    (subst (λ (x : Line). Follows v clauses x) same (subst (λ (cs : List (List ℕ)). Follows v cs line) (append-nil clauses) f), tt)
-follows-more v clauses (l ∷ lines) (suc n) line e at f =
-    (e.0, follows-more v (clauses ++ l.lits ∷ []) lines n line e.1 at (subst (λ (cs : List (List ℕ)). Follows v cs line) (regroup v clauses l lines n) f))
+pub fails-once : (v : ℕ) (clauses : List (List ℕ)) (lines : List Line) (n m : ℕ) (kind other : LineFault) → FailsFirst (fault_of v) clauses lines n kind → FailsFirst (fault_of v) clauses lines m other → (n ≡ m) × (kind ≡ other)
+fails-once v clauses lines n m kind other f g = first-once (fault_of v) clauses lines n m kind other f g
 
-pub fails-first : (v : ℕ) (clauses : List (List ℕ)) (lines : List Line) (n : ℕ) (line : Line) (kind : LineFault) → EachFollows (Follows v) clauses (take n lines) → slice_get lines n ≡ Some line → fault_of v (known clauses lines n) line ≡ Some kind → FailsFirst (fault_of v) clauses lines (suc n) kind
-fails-first v clauses [] n line kind e at f = absurd cc
-fails-first v clauses (l ∷ lines) zero line kind e at f =
-    let same : line ≡ l = cc in
-    subst (λ (x : Line). fault_of v clauses x ≡ Some kind) same (subst (λ (cs : List (List ℕ)). fault_of v cs line ≡ Some kind) (append-nil clauses) f)
-fails-first v clauses (l ∷ lines) (suc n) line kind e at f =
-    (follows-faultless v clauses l e.0, fails-first v (clauses ++ l.lits ∷ []) lines n line kind e.1 at (subst (λ (cs : List (List ℕ)). fault_of v cs line ≡ Some kind) (regroup v clauses l lines n) f))
+-- ---- the last line
 
 ends-at : (lines : List Line) (n : ℕ) (lits : List ℕ) → length lines ≡ suc n → slice_get (map (λ (line : Line). line.lits) lines) n ≡ Some lits → ends_empty lines ≡ eqb (length lits) 0
 ends-at [] n lits len at = absurd cc
@@ -151,31 +143,9 @@ pub ends-nowhere : (lines : List Line) → length lines ≡ 0 → ends_empty lin
 ends-nowhere [] none = refl
 ends-nowhere (l ∷ lines) none = absurd (omega arith)
 
-pub all-follow : (v : ℕ) (clauses : List (List ℕ)) (lines : List Line) (n : ℕ) → length lines ≤ n → EachFollows (Follows v) clauses (take n lines) → EachFollows (Follows v) clauses lines
-all-follow v clauses lines n all e = subst (λ (ls : List Line). EachFollows (Follows v) clauses ls) (take_all n lines all) e
-
--- ---- the answers exclude one another
-
-pub follows-not-fails : (v : ℕ) (clauses : List (List ℕ)) (lines : List Line) (n : ℕ) (kind : LineFault) → EachFollows (Follows v) clauses lines → FailsFirst (fault_of v) clauses lines n kind → ⊥
-follows-not-fails v clauses [] n kind e f = f
-follows-not-fails v clauses (l ∷ lines) zero kind e f = f
-follows-not-fails v clauses (l ∷ lines) (suc zero) kind e f = absurd (let none = follows-faultless v clauses l e.0 in cc)
-follows-not-fails v clauses (l ∷ lines) (suc (suc n)) kind e f = follows-not-fails v (clauses ++ l.lits ∷ []) lines (suc n) kind e.1 f.1
-
-pub fails-once : (v : ℕ) (clauses : List (List ℕ)) (lines : List Line) (n m : ℕ) (kind other : LineFault) → FailsFirst (fault_of v) clauses lines n kind → FailsFirst (fault_of v) clauses lines m other → (n ≡ m) × (kind ≡ other)
-fails-once v clauses [] n m kind other f g = absurd f
-fails-once v clauses (l ∷ lines) zero m kind other f g = absurd f
-fails-once v clauses (l ∷ lines) (suc n) zero kind other f g = absurd g
-fails-once v clauses (l ∷ lines) (suc zero) (suc zero) kind other f g = (refl, cc)
-fails-once v clauses (l ∷ lines) (suc zero) (suc (suc m)) kind other f g = absurd (cc (f, g.0))
-fails-once v clauses (l ∷ lines) (suc (suc n)) (suc zero) kind other f g = absurd (cc (f.0, g))
-fails-once v clauses (l ∷ lines) (suc (suc n)) (suc (suc m)) kind other f g =
-    let same = fails-once v (clauses ++ l.lits ∷ []) lines (suc n) (suc m) kind other f.1 g.1 in
-    (ap suc same.0, same.1)
-
 -- ---- the exits of a try
 
-field-at : {X Y : Type 0} (f : X → Y) (xs : List X) (n m : ℕ) (x : X) (y : Y) → m ≡ n + 1 → slice_get xs n ≡ Some x → slice_get (map f xs) (m - 1) ≡ Some y → y ≡ f x
+pub field-at : {X Y : Type 0} (f : X → Y) (xs : List X) (n m : ℕ) (x : X) (y : Y) → m ≡ n + 1 → slice_get xs n ≡ Some x → slice_get (map f xs) (m - 1) ≡ Some y → y ≡ f x
 field-at f xs n m x y next at found =
     let here : m - 1 ≡ n = omega arith in
     let both : Some y ≡ option_map f (Some x) = sym found ∙ ap (slice_get (map f xs)) here ∙ slice_get-map f xs n ∙ ap (option_map f) at in
@@ -209,22 +179,3 @@ module _ (v : ℕ) (clauses : List (List ℕ)) (lines : List Line) (n m : ℕ) (
       ap (λ (xs : List ℕ). hints_fault (known clauses lines n) xs hints) lits-is
       ∙ ap (hints_fault (known clauses lines n) line.lits) hints-is
       ∙ sym (right-id e ∙ ap (λ (b : Bool). cond b (Some Tautology) (hints_fault (known clauses lines n) line.lits line.hints)) (subst (λ (xs : List ℕ). (has_outside v xs || has_double xs) ≡ false) lits-is good))
-
--- ---- the turns of the loop
-
-pub line-at : (lines : List Line) (n : ℕ) → n < length lines → (line : Line) × (slice_get lines n ≡ Some line)
-line-at [] n lt = absurd (omega arith)
-line-at (l ∷ lines) zero lt = (l, refl)
-line-at (l ∷ lines) (suc n) lt = line-at lines n (omega arith)
-
-pub follows-next : (v : ℕ) (clauses : List (List ℕ)) (lines : List Line) (n : ℕ) → EachFollows (Follows v) clauses (take n lines) → n < length lines → ((line : Line) → slice_get lines n ≡ Some line → fault_of v (known clauses lines n) line ≡ None) → EachFollows (Follows v) clauses (take (n + 1) lines)
-follows-next v clauses lines n e lt f =
-    let here = line-at lines n lt in
-    let next : suc n ≡ n + 1 = omega arith in
-    subst (λ (k : ℕ). EachFollows (Follows v) clauses (take k lines)) next (follows-more v clauses lines n here.0 e here.1 (faultless-follows v (known clauses lines n) here.0 (f here.0 here.1)))
-
-pub fails-next : (v : ℕ) (clauses : List (List ℕ)) (lines : List Line) (n : ℕ) (kind : LineFault) → EachFollows (Follows v) clauses (take n lines) → n < length lines → ((line : Line) → slice_get lines n ≡ Some line → fault_of v (known clauses lines n) line ≡ Some kind) → FailsFirst (fault_of v) clauses lines (n + 1) kind
-fails-next v clauses lines n kind e lt f =
-    let here = line-at lines n lt in
-    let next : suc n ≡ n + 1 = omega arith in
-    subst (λ (k : ℕ). FailsFirst (fault_of v) clauses lines k kind) next (fails-first v clauses lines n here.0 kind e here.1 (f here.0 here.1))

@@ -3,9 +3,13 @@ pub mod AssignmentLaws
 pub mod LeftLaws
 pub mod FindLaws
 pub mod AssumeLaws
+pub mod LineByLine
 pub mod FollowLaws
+pub mod NewLaws
+pub mod FilingLaws
 pub mod Sound
 pub mod VerdictLaws
+pub mod Counting
 pub mod ReadingLaws
 pub mod Spelling
 pub mod Spelled

@@ -1,13 +1,14 @@
 -- What the steps of a check find.
-use Rattle.std.specs.Prelude.{◌≡◌, ℕ, false, List, [], ◌∷◌, ◌++◌, map, take}
+use Rattle.std.specs.Prelude.{◌≡◌, ℕ, true, false, List, [], ◌∷◌, ◌++◌, map, take, Option}
 use Rattle.std.specs.List.{AllByRecursion}
 use Rattle.pv_cnf.specs.Clause.{has_outside}
 use Rattle.pv_log.specs.declared.line.Line.{Line}
+use Rattle.pv_log.specs.declared.fault.LineFault.{LineFault}
 use Rattle.pv_log.specs.declared.fault.Verdict.{Verdict}
 use Rattle.pv_log.specs.declared.fault.Verdict.TheVariants.{Accepted, NoEmpty, Refused}
 use Rattle.pv_log.specs.declared.left.Left.{Left}
 use Rattle.pv_log.specs.declared.left.Left.TheVariants as left
-use Rattle.pv_log.specs.Follows.{Follows, fault_of, IsAccepted, LacksEmpty, FailsFirst}
+use Rattle.pv_log.specs.Follows.{IsAccepted, LacksEmpty, FailsFirst, ends_empty}
 
 -- how many literals these are
 abbrev pub left_as : List ℕ → Left
@@ -27,8 +28,14 @@ known clauses lines n = clauses ++ lemmas lines n
 abbrev pub AreInside : ℕ → List (List ℕ) → Type 0
 AreInside variables clauses = AllByRecursion (λ clause. has_outside variables clause ≡ false) clauses
 
--- what a verdict says
-abbrev pub Says : ℕ → List (List ℕ) → List Line → Verdict → Type 0
-Says variables clauses lines Accepted = IsAccepted (Follows variables) clauses lines
-Says variables clauses lines NoEmpty = LacksEmpty (Follows variables) clauses lines
-Says variables clauses lines (Refused n kind) = FailsFirst (fault_of variables) clauses lines n kind
+-- what the verdict is once each line follows
+abbrev pub EndsAs : List Line → Verdict → Type 0
+EndsAs lines Accepted = ends_empty lines ≡ true
+EndsAs lines NoEmpty = ends_empty lines ≡ false
+EndsAs lines (Refused n kind) = ⊥
+
+-- what a verdict says, where this is asked of a line and this is what is wrong first
+abbrev pub Says : (List (List ℕ) → Line → Type 0) → (List (List ℕ) → Line → Option LineFault) → List (List ℕ) → List Line → Verdict → Type 0
+Says follows fault clauses lines Accepted = IsAccepted follows clauses lines
+Says follows fault clauses lines NoEmpty = LacksEmpty follows clauses lines
+Says follows fault clauses lines (Refused n kind) = FailsFirst fault clauses lines n kind

@@ -5,8 +5,7 @@ use std::alloc::AllocError;
 use thiserror::Error;
 
 /// What is wrong with a line of a log: the first that applies, in the order id, literals, and then hint
-/// by hint. A hint is tried with the values that the hints before it gave. (`NotNew`, of a check that
-/// lemmas are new, is to come.)
+/// by hint, and at last `NotNew`. A hint is tried with the values that the hints before it gave.
 #[derive(Clone, Copy, Debug, PartialEq, Eq, Error)]
 pub enum LineFault {
     /// The id isn't the next one.
@@ -24,6 +23,9 @@ pub enum LineFault {
     /// A variable stands twice in the clause, or one is 0 or past the formula's last.
     #[error("a variable stands twice or is not the formula's")]
     Tautology,
+    /// An earlier clause has all its literals among the line's. Only `check_new` asks for this.
+    #[error("an earlier clause has all its literals among the line's")]
+    NotNew,
 }
 
 /// What a log shows.

@@ -14,7 +14,7 @@ use crate::view::LogView;
 use pv_cnf::{ClauseView, flip};
 
 /// The clause with an id: one of the formula's, or that of one of the first `lines` lines.
-fn find<'a, F: ClauseView, L: LogView>(
+pub(crate) fn find<'a, F: ClauseView, L: LogView>(
     f: &'a F,
     log: &'a L,
     lines: u32,
@@ -41,7 +41,7 @@ fn find<'a, F: ClauseView, L: LogView>(
 }
 
 /// Makes the literals of a lemma false.
-fn assume(values: &mut Assignment, variables: u32, lits: &[u32]) -> Result<(), LineFault>
+pub(crate) fn assume(values: &mut Assignment, variables: u32, lits: &[u32]) -> Result<(), LineFault>
     requires enough { variables ≤ values.old.variables }
     requires none { values.old.falses ≡ [] }
     ensures variables { values.new.variables ≡ values.old.variables }
@@ -103,6 +103,7 @@ fn try_line<F: ClauseView, L: LogView>(
     requires none { values.old.falses ≡ [] }
     requires inside { AreInside (F.variables f.now) (lemmas (L.all_lines log.now) lines) }
     ensures variables { values.new.variables ≡ values.old.variables }
+    ensures short { OnOk result (length (F.clauses f.now) + lines + 1 < 2 ^ 32) }
     ensures fault { (line : Line) → slice_get (L.all_lines log.now) lines ≡ Some line → result_err result
         ≡ fault_of (F.variables f.now) (known (F.clauses f.now) (L.all_lines log.now) lines) line }
 {
@@ -128,6 +129,7 @@ pub(crate) fn check_line<F: ClauseView, L: LogView>(
     requires inside { AreInside (F.variables f.now) (lemmas (L.all_lines log.now) lines) }
     ensures variables { values.new.variables ≡ values.old.variables }
     ensures none { values.new.falses ≡ [] }
+    ensures short { OnOk result (length (F.clauses f.now) + lines + 1 < 2 ^ 32) }
     ensures fault { (line : Line) → slice_get (L.all_lines log.now) lines ≡ Some line → result_err result
         ≡ fault_of (F.variables f.now) (known (F.clauses f.now) (L.all_lines log.now) lines) line }
 {

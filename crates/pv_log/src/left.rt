@@ -1,7 +1,7 @@
 ghost use Rattle.std.specs.Prelude.{◌≡◌, ℕ, ◌+◌, ◌*◌, ◌<◌, false, List, [], ◌∷◌, Ok, Err, Some, MatchResult};
 ghost use Rattle.std.specs.Result.{result_err};
 ghost use Rattle.pv_cnf.specs.Clause.{has_outside};
-ghost use Rattle.pv_log.specs.Propagation.{left_of, last_step, unit_step};
+ghost use Rattle.pv_log.specs.Propagation.{left_of, is_falsified, last_step, unit_step};
 ghost use Rattle.pv_log.specs.Checking.{left_as};
 
 use crate::assignment::Assignment;
@@ -54,13 +54,25 @@ pub(crate) fn follow_unit(values: &mut Assignment, clause: &[u32]) -> Result<(),
     Err(LineFault::NotUnit)
 }
 
+/// Whether all literals of a clause are false.
+pub(crate) fn all_false(values: &Assignment, clause: &[u32]) -> bool
+    requires { has_outside values.now.variables clause.now ≡ false }
+    ensures { result ≡ is_falsified values.now.falses clause.now }
+{
+    match count_left(values, clause) {
+        Left::None => true,
+        _ => false,
+    }
+}
+
 /// Follows the last hint: all literals of the clause are false.
 pub(crate) fn follow_last(values: &Assignment, clause: &[u32]) -> Result<(), LineFault>
     requires { has_outside values.now.variables clause.now ≡ false }
     ensures { result_err result ≡ result_err (last_step values.now.falses (Some clause.now)) }
 {
-    match count_left(values, clause) {
-        Left::None => Ok(()),
-        _ => Err(LineFault::LastNotFalse),
+    if all_false(values, clause) {
+        Ok(())
+    } else {
+        Err(LineFault::LastNotFalse)
     }
 }

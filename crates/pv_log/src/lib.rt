@@ -4,10 +4,12 @@
 mod assignment;
 mod checker;
 mod fault;
+mod filing;
 mod follow;
 mod laws;
 mod left;
 mod line;
+mod newness;
 mod numbers;
 mod read;
 mod stage;
@@ -18,7 +20,7 @@ pub use checker::Checker;
 pub use fault::{LineFault, LratFault, Verdict};
 pub use laws::{
     accepted_log_refutes, first_fault_is_one, line_is_true, line_without_fault_follows,
-    text_determines_line,
+    new_lines_are_few, text_determines_line,
 };
 pub use line::Line;
 pub use numbers::Numbers;

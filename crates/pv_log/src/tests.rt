@@ -82,6 +82,42 @@ fn verdicts_on_the_step_formula(rt: HostRuntime) -> Result<(), Fail> {
     Ok(())
 }
 
+#[test]
+fn new_verdicts_on_the_step_formula(rt: HostRuntime) -> Result<(), Fail> {
+    let formula = formula_of(rt.alloc(), 7, &STEP)?;
+    let mut checker = Checker::make(rt.alloc(), 7)?;
+    let cases: [(&[&str], Verdict); 9] = [
+        (&["12 0 11 8 9 5 0"], Verdict::Accepted),
+        (&["12 3 0 11 8 0", "13 0 11 8 9 5 0"], Verdict::Accepted),
+        (&["12 3 5 0 11 8 0", "13 3 0 11 8 0"], Verdict::NoEmpty),
+        // a clause of the formula, alone and with another literal
+        (&["12 7 0 11 0"], refused(1, LineFault::NotNew)),
+        (&["12 -2 7 0 11 0"], refused(1, LineFault::NotNew)),
+        // an earlier line, alone and with another literal
+        (
+            &["12 3 0 11 8 0", "13 3 0 12 0"],
+            refused(2, LineFault::NotNew),
+        ),
+        (
+            &["12 3 0 11 8 0", "13 -4 3 0 12 0"],
+            refused(2, LineFault::NotNew),
+        ),
+        // behind an empty line nothing is new
+        (
+            &["12 0 11 8 9 5 0", "13 3 0 12 0"],
+            refused(2, LineFault::NotNew),
+        ),
+        // another fault comes first
+        (&["12 7 0 5 0"], refused(1, LineFault::LastNotFalse)),
+    ];
+    for (texts, want) in cases {
+        let log = log_of(rt.alloc(), texts)?;
+        let verdict = checker.check_new(rt.alloc(), &formula, &log)?;
+        assert_eq!(rt; verdict, want, "{texts:?}");
+    }
+    Ok(())
+}
+
 /// Three pigeons and two holes: pigeon i sits in hole 1 by variable 2i - 1, and in hole 2 by variable 2i.
 const PIGEONS: [&[u32]; 9] = [
     &[2, 4],

@@ -11,14 +11,15 @@ use Rattle.pv_types.specs.declared.name.Name.{Name}
 use Rattle.pv_types.specs.declared.declaration.Section.{Section}
 use Rattle.pv_types.specs.declared.declaration.Literal.{Literal}
 use Rattle.pv_types.specs.Tree.{TypeTree, plain, VarTree, var}
-use Rattle.pv_tree.specs.FirstForm.{IsFirstVar}
+use Rattle.pv_first.specs.FirstForm.{IsFirstVar}
 use Rattle.pv_bool.specs.declared.program.Bit.{Bit}
+use Rattle.pv_bool.specs.Roles.{is_input as is_input_bit, is_kept}
 use Rattle.pv_bool.specs.Scans.{state_len, input_len as bit_input_len, start as program_start}
 use Rattle.pv_bool.specs.Machine.{bit_range, bit_of, number_of, numbers_of}
 use Rattle.pv_mean.specs.declared.cell.Cell.{Cell}
 use Rattle.pv_mean.specs.Cells.{role_of, cells_of_vars, cell_count_of}
-use Rattle.pv_mean.specs.Frames.{Params, stored_cells, input_cells, image_len, input_len, range_by, range_of_cell, frame_ranges, image_ranges, input_ranges, param_ranges, free_cells, is_free, start_by, start_image}
-use Rattle.pv_mean.specs.FirstForm.{bit_of_cell}
+use Rattle.pv_mean.specs.Frames.{Params, Frame, Image, first, others, left_by, image_after, image_of, stored_cells, input_cells, image_len, input_len, range_by, range_of_cell, frame_ranges, image_ranges, input_ranges, param_ranges, free_cells, is_free, start_by, start_image}
+use Rattle.pv_mean.specs.FirstForm.{bit_role, bit_of_cell}
 
 -- ---- one cell
 
@@ -80,7 +81,7 @@ first_range c is = ap (λ b. range_by b c) is.bound ∙ ap range_of is.ty
 pub first_frame_ranges : (cs : List Cell) → AllByRecursion IsFirstCell cs → frame_ranges cs ≡ replicate (length cs) bit_range
 first_frame_ranges [] all = refl
 first_frame_ranges (c ∷ cs) all =
-    ap (λ r. r ∷ frame_ranges cs) (first_range c all.0) ∙ ap (λ rs. bit_range ∷ rs) (first_frame_ranges cs all.1)
+    ap (λ t. range_of t ∷ frame_ranges cs) all.0.ty ∙ ap (λ rs. bit_range ∷ rs) (first_frame_ranges cs all.1)
 
 pub first_image_ranges : (cs : List Cell) → AllByRecursion IsFirstCell cs → image_ranges cs ≡ replicate (image_len cs) bit_range
 first_image_ranges [] all = refl
@@ -113,33 +114,43 @@ no_params (c ∷ cs) all = lead c.role all.0.role (no_params cs all.1)
         let P : Role → Type 0 = λ q. map range_of_cell (cond (is_free q c.bound) (c ∷ free_cells cs) (free_cells cs)) ≡ [] in
         elim is [ inl e ↦ subst P (sym e) none | inr e ↦ subst P (sym e) none ]
 
+-- what holds of a cell's role where it is an input's and where it is kept holds of it
+pub by_role : (P : Role → Type 0) (c : Cell) → IsFirstCell c → P InputRole → P Kept → P c.role
+by_role P c is of_input of_kept = elim is.role [ inl e ↦ subst P (sym e) of_input | inr e ↦ subst P (sym e) of_kept ]
+
+-- a scan leaves the values of the stored cells at its end
+pub first_image_after : (cs : List Cell) (beginning end : Frame) → AllByRecursion IsFirstCell cs
+    → image_after cs beginning end ≡ image_of cs end
+first_image_after [] beginning end all = refl
+first_image_after (c ∷ cs) beginning end all =
+    let same = first_image_after cs (others beginning) (others end) all.1 in
+    let P : Role → Type 0 = λ r. left_by r (first beginning) (first end) (image_after cs (others beginning) (others end))
+    ≡ cond (is_stored r) (first end ∷ image_of cs (others end)) (image_of cs (others end)) in
+    by_role P c all.0 same (ap (λ (vs : Image). first end ∷ vs) same)
+
 -- ---- as bits
 
-pub state_len-bits : (cs : List Cell) → state_len (map bit_of_cell cs) ≡ image_len cs
-state_len-bits [] = refl
-state_len-bits (c ∷ cs) = lead (is_stored c.role) (state_len-bits cs)
-  where
-    lead : (b : Bool) → state_len (map bit_of_cell cs) ≡ image_len cs
-        → length (cond b (bit_of_cell c ∷ filter (λ b. is_stored b.role) (map bit_of_cell cs))
-        (filter (λ b. is_stored b.role) (map bit_of_cell cs))) ≡ length (cond b (c ∷ stored_cells cs) (stored_cells cs))
-    lead true same = ap suc same
-    lead false same = same
+pub state_len-bits : (cs : List Cell) → AllByRecursion IsFirstCell cs → state_len (map bit_of_cell cs) ≡ image_len cs
+state_len-bits [] all = refl
+state_len-bits (c ∷ cs) all =
+    let rest = filter (λ (b : Bit). is_kept b.role) (map bit_of_cell cs) in
+    let P : Role → Type 0 = λ r. length (cond (is_kept (bit_role r)) (bit_of_cell c ∷ rest) rest)
+    ≡ length (cond (is_stored r) (c ∷ stored_cells cs) (stored_cells cs)) in
+    by_role P c all.0 (state_len-bits cs all.1) (ap suc (state_len-bits cs all.1))
 
-pub input_len-bits : (cs : List Cell) → bit_input_len (map bit_of_cell cs) ≡ input_len cs
-input_len-bits [] = refl
-input_len-bits (c ∷ cs) = lead (is_input c.role) (input_len-bits cs)
-  where
-    lead : (b : Bool) → bit_input_len (map bit_of_cell cs) ≡ input_len cs
-        → length (cond b (bit_of_cell c ∷ filter (λ b. is_input b.role) (map bit_of_cell cs))
-        (filter (λ b. is_input b.role) (map bit_of_cell cs))) ≡ length (cond b (c ∷ input_cells cs) (input_cells cs))
-    lead true same = ap suc same
-    lead false same = same
+pub input_len-bits : (cs : List Cell) → AllByRecursion IsFirstCell cs → bit_input_len (map bit_of_cell cs) ≡ input_len cs
+input_len-bits [] all = refl
+input_len-bits (c ∷ cs) all =
+    let rest = filter (λ (b : Bit). is_input_bit b.role) (map bit_of_cell cs) in
+    let P : Role → Type 0 = λ r. length (cond (is_input_bit (bit_role r)) (bit_of_cell c ∷ rest) rest)
+    ≡ length (cond (is_input r) (c ∷ input_cells cs) (input_cells cs)) in
+    by_role P c all.0 (ap suc (input_len-bits cs all.1)) (input_len-bits cs all.1)
 
 -- one step of `start_image`, and what it is to be
-abbrev StartStep : Role → Cell → List Cell → Params → Type 0
-StartStep r c cs params = start_by r c.bound c.start (λ more. start_image cs more) params
-    ≡ numbers_of (map (λ (b : Bit). b.start) (cond (is_stored r) (bit_of_cell c ∷ filter (λ b. is_stored b.role) (map bit_of_cell cs))
-    (filter (λ b. is_stored b.role) (map bit_of_cell cs))))
+abbrev StartStep : Cell → List Cell → Params → Role → Type 0
+StartStep c cs params r = start_by r c.bound c.start (λ more. start_image cs more) params
+    ≡ numbers_of (map (λ (b : Bit). b.start) (cond (is_kept (bit_role r)) (bit_of_cell c ∷ filter (λ b. is_kept b.role) (map bit_of_cell cs))
+    (filter (λ b. is_kept b.role) (map bit_of_cell cs))))
 
 zero_begins : (v : ℤ) → v ≡ pos 0 → v ≡ number_of (bit_of v)
 zero_begins v e = let P : ℤ → Type 0 = λ w. w ≡ number_of (bit_of w) in subst P (sym e) refl
@@ -148,13 +159,7 @@ zero_begins v e = let P : ℤ → Type 0 = λ w. w ≡ number_of (bit_of w) in s
 pub start-bits : (cs : List Cell) (params : Params) → AllByRecursion IsFirstCell cs
     → start_image cs params ≡ numbers_of (program_start (map bit_of_cell cs))
 start-bits [] params all = refl
-start-bits (c ∷ cs) params all = lead (start-bits cs params all.1)
-  where
-    lead : start_image cs params ≡ numbers_of (program_start (map bit_of_cell cs)) → StartStep c.role c cs params
-    lead same =
-        let P : Role → Type 0 = λ r. StartStep r c cs params in
-        elim all.0.role [
-          | inl e ↦ subst P (sym e) same
-          | inr e ↦ subst P (sym e) (ap (λ v. v ∷ start_image cs params) (zero_begins c.start all.0.start)
-              ∙ ap (λ vs. number_of (bit_of c.start) ∷ vs) same)
-        ]
+start-bits (c ∷ cs) params all =
+    let same = start-bits cs params all.1 in
+    by_role (StartStep c cs params) c all.0 same (ap (λ v. v ∷ start_image cs params) (zero_begins c.start all.0.start)
+    ∙ ap (λ vs. number_of (bit_of c.start) ∷ vs) same)

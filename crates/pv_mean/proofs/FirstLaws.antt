@@ -4,12 +4,12 @@ use Rattle.std.specs.List.{AllByRecursion}
 use Rattle.std.proofs.lemmas.List.{length-map}
 use Rattle.std.proofs.lemmas.List.Elements.{recursion_from_All}
 use Rattle.pv_machine.specs.Ranges.{Range, AreWithin}
-use Rattle.pv_tree.specs.Tree.{ExprTree, BlockTree}
-use Rattle.pv_tree.specs.FirstForm.{IsFirstVar, IsFirstStmt, IsFirstExpr, IsFirstForm}
+use Rattle.pv_first.specs.Tree.{ExprTree, BlockTree}
+use Rattle.pv_first.specs.FirstForm.{IsFirstVar, IsFirstStmt, IsFirstExpr, IsFirstForm}
 use Rattle.pv_bool.specs.Scans.{Bits, begin as begin_bits, start as program_start, run_body}
 use Rattle.pv_bool.specs.Machine.{bit_range, bits_of, number_of as number_of_bit, numbers_of}
 use Rattle.pv_mean.specs.Cells.{cells_of}
-use Rattle.pv_mean.specs.Frames.{Image, Input, Params, Frame, frame_ranges, image_ranges, input_ranges, image_len, input_len, image_of, start_image}
+use Rattle.pv_mean.specs.Frames.{Image, Input, Params, Frame, frame_ranges, image_ranges, input_ranges, image_len, input_len, image_after, start_image}
 use Rattle.pv_mean.specs.Sources.{source_of, number_of}
 use Rattle.pv_mean.specs.Statements.{run_list}
 use Rattle.pv_mean.specs.Scans.{ScanEnd, done, trap, over, end_of, scan, next_image}
@@ -17,10 +17,10 @@ use Rattle.pv_mean.specs.Runs.{start}
 use Rattle.pv_mean.specs.FirstForm.{assignment_by, bit_of_cell, program_of}
 use Rattle.pv_mean.specs.Correct.{IsScanOfProgram}
 use Rattle.pv_mean.proofs.Bits.{numbers_of-within, within-numbers_of}
-use Rattle.pv_mean.proofs.Frames.{length-image_of, length-start_image}
+use Rattle.pv_mean.proofs.Frames.{length-image_after, length-start_image}
 use Rattle.pv_mean.proofs.Statements.{length-done}
 use Rattle.pv_mean.proofs.FirstCells.{IsFirstCell, cells_are_first, first_frame_ranges, first_image_ranges, first_input_ranges, start-bits}
-use Rattle.pv_mean.proofs.FirstScans.{begin-bits, image_of-bits, value-bits, run_list-bits}
+use Rattle.pv_mean.proofs.FirstScans.{begin-bits, image_after-bits, value-bits, run_list-bits}
 
 pub first_cells : (block : BlockTree) → IsFirstForm block → AllByRecursion IsFirstCell (cells_of block)
 first_cells block is = cells_are_first block.vars (recursion_from_All IsFirstVar block.vars is.vars)
@@ -36,7 +36,7 @@ scan-bits : (block : BlockTree) (bound : ℕ) (s i : Bits) → IsFirstForm block
     → (scan (source_of block bound) (numbers_of s) (numbers_of i)).end ≡ done (numbers_of (bits_at_end block bound s i))
 scan-bits block bound s i is =
     let source = source_of block bound in
-    ap end_of (ap (λ f. run_list source block.body f) (begin-bits (cells_of block) s i)
+    ap end_of (ap (λ f. run_list source block.body f) (begin-bits (cells_of block) s i (first_cells block is))
     ∙ run_list-bits source block.body (begin_bits (map bit_of_cell (cells_of block)) s i)
     (recursion_from_All IsFirstStmt block.body is.body))
 
@@ -66,7 +66,8 @@ pub scan_is_programs : (block : BlockTree) (bound : ℕ) (a : ExprTree) (image :
     → IsScanOfProgram (source_of block bound) a image input
 scan_is_programs block bound a image input is first im inp = record {
   ends = scan-ends block bound image input is im inp;
-  next = image_of-bits (cells_of block) (bits_at_end block bound (bits_of image) (bits_of input));
+  next = image_after-bits (cells_of block) (scan (source_of block bound) image input).beginning
+      (bits_at_end block bound (bits_of image) (bits_of input)) (first_cells block is);
   holds = value-bits (source_of block bound) (bits_at_end block bound (bits_of image) (bits_of input)) a first;
 }
 
@@ -117,12 +118,14 @@ frame_within block bound image input frame is im inp ends =
 pub image_within : (block : BlockTree) (bound : ℕ) (image : Image) (input : Input) (frame : Frame) → IsFirstForm block
     → AreWithin (image_ranges (cells_of block)) image → AreWithin (input_ranges (cells_of block)) input
     → (scan (source_of block bound) image input).end ≡ done frame
-    → AreWithin (image_ranges (cells_of block)) (next_image (source_of block bound) frame)
+    → AreWithin (image_ranges (cells_of block))
+    (next_image (source_of block bound) (scan (source_of block bound) image input).beginning frame)
 image_within block bound image input frame is im inp ends =
     let cells = cells_of block in
-    let P : List Range → Type 0 = λ r. AreWithin r (image_of cells frame) in
+    let beginning = (scan (source_of block bound) image input).beginning in
+    let P : List Range → Type 0 = λ r. AreWithin r (image_after cells beginning frame) in
     subst P (sym (first_image_ranges cells (first_cells block is)))
     (within_as_long (image_len cells) _ _
-    (ap (λ f. image_of cells f) (frame-bits block bound image input frame is im inp ends)
-    ∙ image_of-bits cells (bits_at_end block bound (bits_of image) (bits_of input)))
-    (length-image_of cells frame))
+    (ap (λ f. image_after cells beginning f) (frame-bits block bound image input frame is im inp ends)
+    ∙ image_after-bits cells beginning (bits_at_end block bound (bits_of image) (bits_of input)) (first_cells block is))
+    (length-image_after cells beginning frame))

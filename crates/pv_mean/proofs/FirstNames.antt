@@ -8,11 +8,11 @@ use Rattle.std.proofs.lemmas.List.{length-map}
 use Rattle.std.proofs.lemmas.List.Elements.{recursion_from_All, All-map}
 use Rattle.pv_types.specs.Tree.{VarTree}
 use Rattle.pv_types.specs.View.{name_of}
-use Rattle.pv_tree.specs.declared.tree.UnaryOp.TheVariants.{Not}
-use Rattle.pv_tree.specs.declared.tree.BinaryOp.TheVariants.{And, Or}
-use Rattle.pv_tree.specs.Tree.{OperandTree, ExprTree, lit, read, unary, binary, paren, StmtTree, assign, BlockTree}
-use Rattle.pv_tree.specs.Names.{keys_of, key_of, IsDeclared, IsDeclaredIn, HasNames}
-use Rattle.pv_tree.specs.FirstForm.{IsFirstVar, IsFirstForm}
+use Rattle.pv_first.specs.declared.tree.UnaryOp.TheVariants.{Not}
+use Rattle.pv_first.specs.declared.tree.BinaryOp.TheVariants.{And, Or}
+use Rattle.pv_first.specs.Tree.{OperandTree, ExprTree, lit, read, unary, binary, paren, StmtTree, assign, BlockTree}
+use Rattle.pv_first.specs.Names.{keys_of, key_of, IsDeclared, IsDeclaredIn, HasNames}
+use Rattle.pv_first.specs.FirstForm.{IsFirstVar, IsFirstForm}
 use Rattle.pv_bool.specs.Tree.{IsTermOver, IsAssignmentOver, IsProgram}
 use Rattle.pv_mean.specs.Cells.{cells_of}
 use Rattle.pv_mean.specs.Sources.{Source, source_of, first_cell_of, number_of}

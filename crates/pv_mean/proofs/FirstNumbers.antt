@@ -7,10 +7,10 @@ use Rattle.std.proofs.lemmas.List.Elements.{recursion_from_All}
 use Rattle.std.proofs.lemmas.Simd.{map-map}
 use Rattle.pv_types.specs.Tree.{VarTree}
 use Rattle.pv_types.specs.View.{name_of}
-use Rattle.pv_tree.specs.declared.tree.Stmt.{Stmt}
-use Rattle.pv_tree.specs.Tree.{OperandTree, ExprTree, lit, read, unary, binary, paren, StmtTree, assign, BlockTree, stmt_tree}
-use Rattle.pv_tree.specs.Names.{keys_of, key_of, HasNames}
-use Rattle.pv_tree.specs.FirstForm.{IsFirstVar, IsFirstForm}
+use Rattle.pv_first.specs.declared.tree.Stmt.{Stmt}
+use Rattle.pv_first.specs.Tree.{OperandTree, ExprTree, lit, read, unary, binary, paren, StmtTree, assign, BlockTree, stmt_tree}
+use Rattle.pv_first.specs.Names.{keys_of, key_of, HasNames}
+use Rattle.pv_first.specs.FirstForm.{IsFirstVar, IsFirstForm}
 use Rattle.pv_bool.specs.declared.program.Bit.{Bit}
 use Rattle.pv_bool.specs.Tree.{TermTree, load, AssignmentTree, ProgramTree, IsProgram}
 use Rattle.pv_mean.specs.declared.cell.Cell.{Cell}

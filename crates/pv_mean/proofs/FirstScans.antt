@@ -7,57 +7,64 @@ use Rattle.std.proofs.Math.ListN.{get_or-map}
 use Rattle.pv_word.specs.declared.types.Ty.TheVariants.{Bool as BoolType}
 use Rattle.pv_word.specs.Wrap.{wrap_at}
 use Rattle.pv_word.specs.Bits.{pattern_at}
+use Rattle.pv_machine.specs.declared.role.Role.{Role}
 use Rattle.pv_machine.specs.Roles.{is_input, is_stored}
-use Rattle.pv_tree.specs.declared.tree.UnaryOp.{UnaryOp}
-use Rattle.pv_tree.specs.declared.tree.UnaryOp.TheVariants.{Not}
-use Rattle.pv_tree.specs.declared.tree.BinaryOp.{BinaryOp}
-use Rattle.pv_tree.specs.declared.tree.BinaryOp.TheVariants.{And, Or}
-use Rattle.pv_tree.specs.Tree.{ExprTree, lit, read, unary, binary, paren, StmtTree, assign}
-use Rattle.pv_tree.specs.FirstForm.{IsFirstExpr, IsFirstStmt, IsTruth}
+use Rattle.pv_first.specs.declared.tree.UnaryOp.{UnaryOp}
+use Rattle.pv_first.specs.declared.tree.UnaryOp.TheVariants.{Not}
+use Rattle.pv_first.specs.declared.tree.BinaryOp.{BinaryOp}
+use Rattle.pv_first.specs.declared.tree.BinaryOp.TheVariants.{And, Or}
+use Rattle.pv_first.specs.Tree.{ExprTree, lit, read, unary, binary, paren, StmtTree, assign}
+use Rattle.pv_first.specs.FirstForm.{IsFirstExpr, IsFirstStmt, IsTruth}
+use Rattle.pv_bool.specs.Roles.{is_input as is_input_bit, is_kept}
 use Rattle.pv_bool.specs.Tree.{TermTree}
 use Rattle.pv_bool.specs.Scans.{Bits, first as first_bit, others as other_bits, begin as begin_bits, state_of, value_in, run_body}
 use Rattle.pv_bool.specs.Machine.{bit_of, number_of as number_of_bit, numbers_of}
 use Rattle.pv_mean.specs.declared.cell.Cell.{Cell}
-use Rattle.pv_mean.specs.Frames.{first, others, begin, image_of}
+use Rattle.pv_mean.specs.Frames.{first, others, begin, image_after, image_of}
 use Rattle.pv_mean.specs.Sources.{Source, number_of}
 use Rattle.pv_mean.specs.Values.{number, with_number, unary_result, binary_result, value}
 use Rattle.pv_mean.specs.Statements.{normal, go_on, store, run_list}
-use Rattle.pv_mean.specs.FirstForm.{unary_term, binary_term, term_by, assignment_by, bit_of_cell}
+use Rattle.pv_mean.specs.FirstForm.{unary_term, binary_term, term_by, assignment_by, bit_role, bit_of_cell}
 use Rattle.pv_mean.proofs.Bits.{first-numbers_of, others-numbers_of}
+use Rattle.pv_mean.proofs.FirstCells.{IsFirstCell, by_role, first_image_after}
 
 -- ---- frames
 
-pub begin-bits : (cs : List Cell) (s i : Bits) → begin cs (numbers_of s) (numbers_of i) ≡ numbers_of (begin_bits (map bit_of_cell cs) s i)
-begin-bits [] s i = refl
-begin-bits (c ∷ cs) s i = lead (is_input c.role) (is_stored c.role) (λ t j. begin-bits cs t j)
+-- one step of `begin`, on numbers and on bits
+abbrev BeginStep : Cell → List Cell → Bits → Bits → Role → Type 0
+BeginStep c cs s i r =
+    cond (is_input r) (first (numbers_of i) ∷ begin cs (numbers_of s) (others (numbers_of i)))
+    (cond (is_stored r) (first (numbers_of s) ∷ begin cs (others (numbers_of s)) (numbers_of i))
+    (pos 0 ∷ begin cs (numbers_of s) (numbers_of i)))
+    ≡ numbers_of (cond (is_input_bit (bit_role r)) (first_bit i ∷ begin_bits (map bit_of_cell cs) s (other_bits i))
+    (first_bit s ∷ begin_bits (map bit_of_cell cs) (other_bits s) i))
+
+pub begin-bits : (cs : List Cell) (s i : Bits) → AllByRecursion IsFirstCell cs
+    → begin cs (numbers_of s) (numbers_of i) ≡ numbers_of (begin_bits (map bit_of_cell cs) s i)
+begin-bits [] s i all = refl
+begin-bits (c ∷ cs) s i all = by_role (BeginStep c cs s i) c all.0
+    (taken i _ _ (ap (λ j. begin cs (numbers_of s) j) (others-numbers_of i) ∙ begin-bits cs s (other_bits i) all.1))
+    (taken s _ _ (ap (λ t. begin cs t (numbers_of i)) (others-numbers_of s) ∙ begin-bits cs (other_bits s) i all.1))
   where
     taken : (bs : Bits) (vs : List ℤ) (ws : Bits) → vs ≡ numbers_of ws → first (numbers_of bs) ∷ vs ≡ numbers_of (first_bit bs ∷ ws)
     taken bs vs ws same = ap (λ v. v ∷ vs) (first-numbers_of bs) ∙ ap (λ l. number_of_bit (first_bit bs) ∷ l) same
 
-    lead : (b d : Bool) → ((t j : Bits) → begin cs (numbers_of t) (numbers_of j) ≡ numbers_of (begin_bits (map bit_of_cell cs) t j))
-        → cond b (first (numbers_of i) ∷ begin cs (numbers_of s) (others (numbers_of i)))
-        (cond d (first (numbers_of s) ∷ begin cs (others (numbers_of s)) (numbers_of i))
-        (pos 0 ∷ begin cs (numbers_of s) (numbers_of i)))
-        ≡ numbers_of (cond b (first_bit i ∷ begin_bits (map bit_of_cell cs) s (other_bits i))
-        (cond d (first_bit s ∷ begin_bits (map bit_of_cell cs) (other_bits s) i) (false ∷ begin_bits (map bit_of_cell cs) s i)))
-    lead true d same = taken i _ _ (ap (λ j. begin cs (numbers_of s) j) (others-numbers_of i) ∙ same s (other_bits i))
-    lead false true same = taken s _ _ (ap (λ t. begin cs t (numbers_of i)) (others-numbers_of s) ∙ same (other_bits s) i)
-    lead false false same = ap (λ l. pos 0 ∷ l) (same s i)
+pub image_of-bits : (cs : List Cell) (f : Bits) → AllByRecursion IsFirstCell cs
+    → image_of cs (numbers_of f) ≡ numbers_of (state_of (map bit_of_cell cs) f)
+image_of-bits [] f all = refl
+image_of-bits (c ∷ cs) f all =
+    let rest = ap (λ g. image_of cs g) (others-numbers_of f) ∙ image_of-bits cs (other_bits f) all.1 in
+    let P : Role → Type 0 = λ r. cond (is_stored r) (first (numbers_of f) ∷ image_of cs (others (numbers_of f)))
+    (image_of cs (others (numbers_of f)))
+    ≡ numbers_of (cond (is_kept (bit_role r)) (first_bit f ∷ state_of (map bit_of_cell cs) (other_bits f))
+    (state_of (map bit_of_cell cs) (other_bits f))) in
+    by_role P c all.0 rest (ap (λ v. v ∷ image_of cs (others (numbers_of f))) (first-numbers_of f)
+    ∙ ap (λ l. number_of_bit (first_bit f) ∷ l) rest)
 
-pub image_of-bits : (cs : List Cell) (f : Bits) → image_of cs (numbers_of f) ≡ numbers_of (state_of (map bit_of_cell cs) f)
-image_of-bits [] f = refl
-image_of-bits (c ∷ cs) f = lead (is_stored c.role) (image_of-bits cs (other_bits f))
-  where
-    rest : image_of cs (numbers_of (other_bits f)) ≡ numbers_of (state_of (map bit_of_cell cs) (other_bits f))
-        → image_of cs (others (numbers_of f)) ≡ numbers_of (state_of (map bit_of_cell cs) (other_bits f))
-    rest same = ap (λ g. image_of cs g) (others-numbers_of f) ∙ same
-
-    lead : (b : Bool) → image_of cs (numbers_of (other_bits f)) ≡ numbers_of (state_of (map bit_of_cell cs) (other_bits f))
-        → cond b (first (numbers_of f) ∷ image_of cs (others (numbers_of f))) (image_of cs (others (numbers_of f)))
-        ≡ numbers_of (cond b (first_bit f ∷ state_of (map bit_of_cell cs) (other_bits f)) (state_of (map bit_of_cell cs) (other_bits f)))
-    lead true same = ap (λ v. v ∷ image_of cs (others (numbers_of f))) (first-numbers_of f)
-        ∙ ap (λ l. number_of_bit (first_bit f) ∷ l) (rest same)
-    lead false same = rest same
+-- the image that a scan leaves is the program's state
+pub image_after-bits : (cs : List Cell) (beginning : List ℤ) (f : Bits) → AllByRecursion IsFirstCell cs
+    → image_after cs beginning (numbers_of f) ≡ numbers_of (state_of (map bit_of_cell cs) f)
+image_after-bits cs beginning f all = first_image_after cs beginning (numbers_of f) all ∙ image_of-bits cs f all
 
 -- ---- expressions
 

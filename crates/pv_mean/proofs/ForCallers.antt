@@ -4,14 +4,14 @@ use Rattle.std.specs.List.{AllByRecursion}
 use Rattle.std.proofs.lemmas.List.Elements.{recursion_from_All}
 use Rattle.pv_types.specs.Named.{AllNamed, NestsWithin, AreGrounded}
 use Rattle.pv_types.specs.Tree.{TypeTree, VarTree, var}
-use Rattle.pv_tree.specs.Tree.{BlockTree}
-use Rattle.pv_tree.specs.FirstForm.{IsFirstVar, IsFirstForm}
+use Rattle.pv_first.specs.Tree.{BlockTree}
+use Rattle.pv_first.specs.FirstForm.{IsFirstVar, IsFirstForm}
 pub use Rattle.pv_mean.proofs.Lists.{position-none, position-some, each-mapped}
-pub use Rattle.pv_mean.proofs.Frames.{length-begin, length-image_of, length-start_image, input_of-begin, image_of-begin, image_of-carried, input_place, image_place}
+pub use Rattle.pv_mean.proofs.Frames.{length-begin, length-image_of, length-image_after, length-start_image, input_of-begin, image_of-begin, image_of-carried, input_place, image_place}
 pub use Rattle.pv_mean.proofs.Statements.{EndsWith, IsDoneWith, of_scan, of_frame, length-done, value_at-untouched, value_at-assigned, run_list-append}
 pub use Rattle.pv_mean.proofs.Runs.{run_from-append, run_from-length}
 pub use Rattle.pv_mean.proofs.Bits.{bit_of-number_of, bits_of-numbers_of, number_of-within, numbers_of-within, within-numbers_of}
-pub use Rattle.pv_mean.proofs.FirstCells.{IsFirstCell, cells_are_first, as_many, first_frame_ranges, first_image_ranges, first_input_ranges, no_params, state_len-bits, input_len-bits}
+pub use Rattle.pv_mean.proofs.FirstCells.{IsFirstCell, cells_are_first, as_many, first_frame_ranges, first_image_ranges, first_input_ranges, no_params, first_image_after, state_len-bits, input_len-bits}
 pub use Rattle.pv_mean.proofs.FirstNames.{cell-within, cell-apart, program-over}
 pub use Rattle.pv_mean.proofs.FirstNumbers.{place_is_number, as_many_names, program_is}
 pub use Rattle.pv_mean.proofs.FirstLaws.{first_cells, image-bits, input-bits, scan-ends, scan_is_programs, start_is_programs, start_within, frame_within, image_within}

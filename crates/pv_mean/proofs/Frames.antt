@@ -1,11 +1,11 @@
 -- Images and inputs in frames. Each step of the recursions goes by the role of its cell, so it has a name of its own.
-use Rattle.std.proofs.Common.{◌≡◌, ◌++◌, ℕ, suc, List, [], ◌∷◌, length, ℤ, pos, Bool, true, false, cond, get_or, Option, Some, None, refl, ap, ◌∙◌, arith}
+use Rattle.std.proofs.Common.{◌≡◌, ◌++◌, ℕ, suc, List, [], ◌∷◌, length, ℤ, pos, Bool, true, false, cond, get_or, Option, Some, None, refl, ap, sym, subst, ◌∙◌, arith}
 use Rattle.std.proofs.lemmas.Bool.{false≢true}
 use Rattle.pv_machine.specs.declared.role.Role.{Role}
 use Rattle.pv_machine.specs.declared.role.Role.TheVariants.{Input as InputRole, Param, Kept, Brief}
 use Rattle.pv_machine.specs.Roles.{is_input, is_stored}
 use Rattle.pv_mean.specs.declared.cell.Cell.{Cell}
-use Rattle.pv_mean.specs.Frames.{Image, Input, Params, Frame, first, others, stored_cells, input_cells, image_len, input_len, start_by, start_image, begin, image_of, input_of}
+use Rattle.pv_mean.specs.Frames.{Image, Input, Params, Frame, first, others, stored_cells, input_cells, image_len, input_len, start_by, start_image, begin, left_by, image_after, image_of, input_of}
 
 -- ---- how long they are
 
@@ -18,6 +18,18 @@ length-image_of (c ∷ cs) frame = lead (is_stored c.role) (length-image_of cs (
         ≡ length (cond b (c ∷ stored_cells cs) (stored_cells cs))
     lead true same = ap suc same
     lead false same = same
+
+pub length-image_after : (cells : List Cell) (beginning end : Frame) → length (image_after cells beginning end) ≡ image_len cells
+length-image_after [] beginning end = refl
+length-image_after (c ∷ cs) beginning end = lead c.role (length-image_after cs (others beginning) (others end))
+  where
+    lead : (r : Role) → length (image_after cs (others beginning) (others end)) ≡ image_len cs
+        → length (left_by r (first beginning) (first end) (image_after cs (others beginning) (others end)))
+        ≡ length (cond (is_stored r) (c ∷ stored_cells cs) (stored_cells cs))
+    lead InputRole same = same
+    lead Param same = ap suc same
+    lead Kept same = ap suc same
+    lead Brief same = same
 
 pub length-start_image : (cells : List Cell) (params : Params) → length (start_image cells params) ≡ image_len cells
 length-start_image [] params = refl
@@ -87,10 +99,11 @@ image_of-begin (c ∷ cs) image input len = lead c.role image len (λ im i l. im
     lead Kept (v ∷ vs) h same = ap (λ l. v ∷ l) (same vs input (omega arith))
     lead Brief im h same = same im input h
 
--- a frame's image stands in the next frame
-pub image_of-carried : (cells : List Cell) (frame : Frame) (input : Input)
-    → image_of cells (begin cells (image_of cells frame) input) ≡ image_of cells frame
-image_of-carried cells frame input = image_of-begin cells (image_of cells frame) input (length-image_of cells frame)
+-- the image that a scan leaves stands in the next frame
+pub image_of-carried : (cells : List Cell) (beginning end : Frame) (input : Input)
+    → image_of cells (begin cells (image_after cells beginning end) input) ≡ image_after cells beginning end
+image_of-carried cells beginning end input =
+    image_of-begin cells (image_after cells beginning end) input (length-image_after cells beginning end)
 
 -- ---- where the values of an image and of an input stand then
 
@@ -141,3 +154,41 @@ image_place (b ∷ bs) c after image input is = lead b.role (λ im i. image_plac
     lead Param h = h (others image) input ∙ others_at image (image_len bs)
     lead Kept h = h (others image) input ∙ others_at image (image_len bs)
     lead Brief h = h image input
+
+-- ---- where the values stand that a scan leaves
+
+-- a kept cell has the value of the end
+pub kept_place : (before : List Cell) (c : Cell) (after : List Cell) (beginning end : Frame) → c.role ≡ Kept
+    → get_or (image_after (before ++ c ∷ after) beginning end) (image_len before) (pos 0) ≡ get_or end (length before) (pos 0)
+kept_place [] c after beginning end is =
+    let P : Role → Type 0 = λ r. get_or (left_by r (first beginning) (first end) (image_after after (others beginning) (others end))) 0
+    (pos 0) ≡ first end in
+    subst P (sym is) refl ∙ first_is end
+kept_place (b ∷ bs) c after beginning end is = lead b.role (kept_place bs c after (others beginning) (others end) is)
+  where
+    lead : (r : Role) → get_or (image_after (bs ++ c ∷ after) (others beginning) (others end)) (image_len bs) (pos 0)
+        ≡ get_or (others end) (length bs) (pos 0)
+        → get_or (left_by r (first beginning) (first end) (image_after (bs ++ c ∷ after) (others beginning) (others end)))
+        (length (cond (is_stored r) (b ∷ stored_cells bs) (stored_cells bs))) (pos 0) ≡ get_or end (suc (length bs)) (pos 0)
+    lead InputRole h = h ∙ others_at end (length bs)
+    lead Param h = h ∙ others_at end (length bs)
+    lead Kept h = h ∙ others_at end (length bs)
+    lead Brief h = h ∙ others_at end (length bs)
+
+-- a parameter that of the beginning
+pub param_place : (before : List Cell) (c : Cell) (after : List Cell) (beginning end : Frame) → c.role ≡ Param
+    → get_or (image_after (before ++ c ∷ after) beginning end) (image_len before) (pos 0) ≡ get_or beginning (length before) (pos 0)
+param_place [] c after beginning end is =
+    let P : Role → Type 0 = λ r. get_or (left_by r (first beginning) (first end) (image_after after (others beginning) (others end))) 0
+    (pos 0) ≡ first beginning in
+    subst P (sym is) refl ∙ first_is beginning
+param_place (b ∷ bs) c after beginning end is = lead b.role (param_place bs c after (others beginning) (others end) is)
+  where
+    lead : (r : Role) → get_or (image_after (bs ++ c ∷ after) (others beginning) (others end)) (image_len bs) (pos 0)
+        ≡ get_or (others beginning) (length bs) (pos 0)
+        → get_or (left_by r (first beginning) (first end) (image_after (bs ++ c ∷ after) (others beginning) (others end)))
+        (length (cond (is_stored r) (b ∷ stored_cells bs) (stored_cells bs))) (pos 0) ≡ get_or beginning (suc (length bs)) (pos 0)
+    lead InputRole h = h ∙ others_at beginning (length bs)
+    lead Param h = h ∙ others_at beginning (length bs)
+    lead Kept h = h ∙ others_at beginning (length bs)
+    lead Brief h = h ∙ others_at beginning (length bs)

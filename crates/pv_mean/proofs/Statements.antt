@@ -3,7 +3,7 @@
 use Rattle.std.proofs.Common.{◌≡◌, ◌<◌, ◌++◌, ℕ, List, [], ◌∷◌, length, ℤ, pos, set, refl, sym, subst, ◌∙◌}
 use Rattle.std.proofs.lemmas.List.{length-set, get_or-set_same, get_or-set_other}
 use Rattle.pv_machine.specs.declared.place.Place.{Place}
-use Rattle.pv_tree.specs.Tree.{OperandTree, ExprTree, StmtTree, assign}
+use Rattle.pv_first.specs.Tree.{OperandTree, ExprTree, StmtTree, assign}
 use Rattle.pv_mean.specs.Frames.{Image, Input, Frame, begin}
 use Rattle.pv_mean.specs.Sources.{Source, entry_body, number_of}
 use Rattle.pv_mean.specs.Values.{Value, number, trap as trap_value, value, value_at}

@@ -7,7 +7,7 @@ use Rattle.pv_types.specs.declared.declaration.Section.TheVariants.{Input as Inp
 use Rattle.pv_types.specs.declared.leaf.Leaf.{Leaf}
 use Rattle.pv_types.specs.Tree.{VarTree}
 use Rattle.pv_types.specs.Leaves.{leaves_of}
-use Rattle.pv_tree.specs.Tree.{BlockTree}
+use Rattle.pv_first.specs.Tree.{BlockTree}
 use Rattle.pv_mean.specs.declared.cell.Cell.{Cell}
 
 -- the role of a cell is that of the outermost declaration around it: what is handed in takes a value at each scan's beginning,

@@ -1,6 +1,6 @@
 -- What the laws say of blocks of the first form.
 use Rattle.std.specs.Prelude.{◌≡◌}
-use Rattle.pv_tree.specs.Tree.{ExprTree}
+use Rattle.pv_first.specs.Tree.{ExprTree}
 use Rattle.pv_bool.specs.Scans.{scan_end, next_state, keeps}
 use Rattle.pv_bool.specs.Machine.{numbers_of, bits_of, number_of as number_of_bit}
 use Rattle.pv_mean.specs.Frames.{Image, Input, Frame}
@@ -17,7 +17,7 @@ program_end source a image input = numbers_of (scan_end (program_of source a) (b
 -- that it leaves, and with the value that the program's requirement has as that of the expression
 pub record IsScanOfProgram (source : Source) (a : ExprTree) (image : Image) (input : Input) : Type 0 where
   pub ends : (scan source image input).end ≡ done (program_end source a image input)
-  pub next : next_image source (program_end source a image input)
+  pub next : next_image source (scan source image input).beginning (program_end source a image input)
       ≡ numbers_of (next_state (program_of source a) (bits_of image) (bits_of input))
   pub holds : value source (program_end source a image input) a
       ≡ number (number_of_bit (keeps (program_of source a) (bits_of image) (bits_of input)))

@@ -1,12 +1,16 @@
 -- A block of the first form and an expression of that form over it, as a Boolean program: a bit for each cell, and the names as
 -- numbers of bits.
 use Rattle.std.specs.Prelude.{ℕ, List, map}
-use Rattle.pv_tree.specs.declared.tree.UnaryOp.{UnaryOp}
-use Rattle.pv_tree.specs.declared.tree.UnaryOp.TheVariants.{Not}
-use Rattle.pv_tree.specs.declared.tree.BinaryOp.{BinaryOp}
-use Rattle.pv_tree.specs.declared.tree.BinaryOp.TheVariants.{And, Or}
-use Rattle.pv_tree.specs.Tree.{OperandTree, ExprTree, lit, read, unary, binary, paren, StmtTree, assign}
+use Rattle.pv_first.specs.declared.tree.UnaryOp.{UnaryOp}
+use Rattle.pv_first.specs.declared.tree.UnaryOp.TheVariants.{Not}
+use Rattle.pv_first.specs.declared.tree.BinaryOp.{BinaryOp}
+use Rattle.pv_first.specs.declared.tree.BinaryOp.TheVariants.{And, Or}
+use Rattle.pv_first.specs.Tree.{OperandTree, ExprTree, lit, read, unary, binary, paren, StmtTree, assign}
+use Rattle.pv_machine.specs.declared.role.Role.{Role}
+use Rattle.pv_machine.specs.declared.role.Role.TheVariants.{Input, Param, Kept, Brief}
 use Rattle.pv_bool.specs.declared.program.Bit.{Bit}
+use Rattle.pv_bool.specs.declared.program.BitRole.{BitRole}
+use Rattle.pv_bool.specs.declared.program.BitRole.TheVariants.{Input as InputBit, Kept as KeptBit}
 use Rattle.pv_bool.specs.Tree.{TermTree, constant, load, negation, conjunction, disjunction, AssignmentTree, ProgramTree}
 use Rattle.pv_bool.specs.Machine.{bit_of}
 use Rattle.pv_mean.specs.declared.cell.Cell.{Cell}
@@ -30,9 +34,16 @@ term_by number (paren place inner) = term_by number inner
 abbrev pub assignment_by : (OperandTree → ℕ) → StmtTree → AssignmentTree
 assignment_by number (assign target place e) = record { target = number target; value = term_by number e }
 
+-- the role of a cell's bit: cells of the first form are inputs or kept
+abbrev pub bit_role : Role → BitRole
+bit_role Input = InputBit
+bit_role Param = KeptBit
+bit_role Kept = KeptBit
+bit_role Brief = KeptBit
+
 -- the bit of a cell of BOOL
 abbrev pub bit_of_cell : Cell → Bit
-bit_of_cell c = record { role = c.role; start = bit_of c.start }
+bit_of_cell c = record { role = bit_role c.role; start = bit_of c.start }
 
 -- a program of these cells, of this body and with this requirement
 abbrev pub program_by : (OperandTree → ℕ) → List Cell → List StmtTree → ExprTree → ProgramTree

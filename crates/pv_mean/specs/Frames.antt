@@ -65,8 +65,9 @@ range_by (Some v) c = range_at v
 abbrev pub range_of_cell : Cell → Range
 range_of_cell c = range_by c.bound c
 
+-- those of a frame are the types' alone: a block may write a parameter that is bound, and the next scan begins with the bound value
 abbrev pub frame_ranges : List Cell → List Range
-frame_ranges cells = map range_of_cell cells
+frame_ranges cells = map (λ c. range_of c.ty) cells
 
 abbrev pub image_ranges : List Cell → List Range
 image_ranges cells = map range_of_cell (stored_cells cells)
@@ -102,7 +103,18 @@ begin (c ∷ cs) image input =
     else if is_stored c.role then first image ∷ begin cs (others image) input
     else pos 0 ∷ begin cs image input
 
--- the image that a frame leaves: the values of the stored cells
+-- the image that a scan leaves: what is kept has its value of the scan's end, and a parameter that of its beginning
+abbrev pub left_by : Role → ℤ → ℤ → Image → Image
+left_by InputRole begun ended rest = rest
+left_by Param begun ended rest = begun ∷ rest
+left_by Kept begun ended rest = ended ∷ rest
+left_by Brief begun ended rest = rest
+
+abbrev pub image_after : List Cell → Frame → Frame → Image
+image_after [] beginning end = []
+image_after (c ∷ cs) beginning end = left_by c.role (first beginning) (first end) (image_after cs (others beginning) (others end))
+
+-- the values of the stored cells in a frame
 abbrev pub image_of : List Cell → Frame → Image
 image_of [] frame = []
 image_of (c ∷ cs) frame = if is_stored c.role then first frame ∷ image_of cs (others frame) else image_of cs (others frame)

@@ -2,8 +2,8 @@
 -- operand's cell. Cited by private contracts alone.
 use Rattle.std.specs.Prelude.{ℕ, List, bytes_eq}
 use Rattle.std.specs.List.{position_or_len}
-use Rattle.pv_tree.specs.Tree.{OperandTree}
-use Rattle.pv_tree.specs.Names.{key_of}
+use Rattle.pv_first.specs.Tree.{OperandTree}
+use Rattle.pv_first.specs.Names.{key_of}
 
 -- behind all names for one that isn't among them
 abbrev pub place_among : List (List ℕ) → OperandTree → ℕ

@@ -1,8 +1,8 @@
 -- One scan of a source (the scan cycle of a programmable controller, as PLCverif models it): image and input are put into their
--- cells, the entry block runs to its end, and the stored cells' end values are the next image.
+-- cells, the entry block runs to its end, and the next image has the end values of what is kept and the parameters as they were.
 use Rattle.pv_machine.specs.declared.place.Place.{Place}
 use Rattle.pv_machine.specs.declared.trap.TrapKind.{TrapKind}
-use Rattle.pv_mean.specs.Frames.{Frame, Image, Input, begin, image_of}
+use Rattle.pv_mean.specs.Frames.{Frame, Image, Input, begin, image_after}
 use Rattle.pv_mean.specs.Sources.{Source, entry_body}
 use Rattle.pv_mean.specs.Statements.{Ending, normal, trapped, over as over_bound, run_list}
 
@@ -29,6 +29,6 @@ scan source image input = record {
   end = end_of (run_list source (entry_body source) (begin source.cells image input));
 }
 
--- the image that a scan leaves for the next one
-abbrev pub next_image : Source → Frame → Image
-next_image source frame = image_of source.cells frame
+-- the image that a scan leaves for the next one, by the frames at its beginning and at its end
+abbrev pub next_image : Source → Frame → Frame → Image
+next_image source beginning end = image_after source.cells beginning end

@@ -2,8 +2,8 @@
 use Rattle.std.specs.Prelude.{ℕ, zero, suc, ◌+◌, List, [], ◌∷◌, bytes_eq, if◌then◌else◌}
 use Rattle.pv_types.specs.Tree.{VarTree}
 use Rattle.pv_types.specs.View.{name_of}
-use Rattle.pv_tree.specs.Tree.{OperandTree, StmtTree, BlockTree}
-use Rattle.pv_tree.specs.Names.{key_of}
+use Rattle.pv_first.specs.Tree.{OperandTree, StmtTree, BlockTree}
+use Rattle.pv_first.specs.Names.{key_of}
 use Rattle.pv_mean.specs.declared.cell.Cell.{Cell}
 use Rattle.pv_mean.specs.Cells.{cells_of, cell_count_of}
 

@@ -2,7 +2,7 @@
 use Rattle.std.specs.Prelude.{List, [], ◌∷◌, ℕ, ◌≢◌, slice_set}
 use Rattle.pv_machine.specs.declared.place.Place.{Place}
 use Rattle.pv_machine.specs.declared.trap.TrapKind.{TrapKind}
-use Rattle.pv_tree.specs.Tree.{OperandTree, StmtTree, assign}
+use Rattle.pv_first.specs.Tree.{OperandTree, StmtTree, assign}
 use Rattle.pv_mean.specs.Frames.{Frame}
 use Rattle.pv_mean.specs.Sources.{Source, number_of}
 use Rattle.pv_mean.specs.Values.{Value, number, trap, value}

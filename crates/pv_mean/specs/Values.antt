@@ -6,11 +6,11 @@ use Rattle.pv_word.specs.declared.types.Ty.TheVariants.{Bool}
 use Rattle.pv_word.specs.Types.{and_of, or_of, not_of}
 use Rattle.pv_machine.specs.declared.place.Place.{Place}
 use Rattle.pv_machine.specs.declared.trap.TrapKind.{TrapKind}
-use Rattle.pv_tree.specs.declared.tree.UnaryOp.{UnaryOp}
-use Rattle.pv_tree.specs.declared.tree.UnaryOp.TheVariants.{Not}
-use Rattle.pv_tree.specs.declared.tree.BinaryOp.{BinaryOp}
-use Rattle.pv_tree.specs.declared.tree.BinaryOp.TheVariants.{And, Or}
-use Rattle.pv_tree.specs.Tree.{ExprTree, lit, read, unary, binary, paren}
+use Rattle.pv_first.specs.declared.tree.UnaryOp.{UnaryOp}
+use Rattle.pv_first.specs.declared.tree.UnaryOp.TheVariants.{Not}
+use Rattle.pv_first.specs.declared.tree.BinaryOp.{BinaryOp}
+use Rattle.pv_first.specs.declared.tree.BinaryOp.TheVariants.{And, Or}
+use Rattle.pv_first.specs.Tree.{ExprTree, lit, read, unary, binary, paren}
 use Rattle.pv_mean.specs.Frames.{Frame}
 use Rattle.pv_mean.specs.Sources.{Source, number_of}
 

@@ -2,13 +2,13 @@
 ghost use Rattle.std.specs.Prelude.{◌≡◌, ◌≤◌, ◌<◌, [], length, IfOk, OnOk, IsErrOf};
 ghost use Rattle.pv_types.specs.Named.{AreGrounded};
 ghost use Rattle.pv_types.specs.Leaves.{leaves_of};
-ghost use Rattle.pv_tree.specs.Tree.{block_tree};
+ghost use Rattle.pv_first.specs.Tree.{block_tree};
 ghost use Rattle.pv_mean.specs.declared.cell.CellFault.TheVariants.{NoMemory};
 ghost use Rattle.pv_mean.specs.Cells.{cell_of, cells_of, role_of};
 
 use pv_edge::{Text, text};
+use pv_first::Block;
 use pv_machine::Role;
-use pv_tree::Block;
 use pv_types::{FlattenFault, Leaf, Leaves, MAX_LEAVES, Section, Types, flatten};
 use pv_word::Ty;
 use std::alloc::{AllocError, AllocFailed, Global};

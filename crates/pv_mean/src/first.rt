@@ -3,21 +3,22 @@
 //! Each variable has one cell then, so the number of a name's cell is the name's place among the
 //! declared ones, which is looked up.
 ghost use Rattle.std.specs.Prelude.{◌≡◌, ◌≤◌, ◌↔◌, length, map, IfOk, IfSome, IsSome};
-ghost use Rattle.pv_tree.specs.Tree.{operand_tree, expr_tree, stmt_tree, block_tree};
-ghost use Rattle.pv_tree.specs.Names.{keys_of, key_of, HasNames};
-ghost use Rattle.pv_tree.specs.FirstForm.{IsFirstForm, IsFirstExpr};
+ghost use Rattle.pv_first.specs.Tree.{operand_tree, expr_tree, stmt_tree, block_tree};
+ghost use Rattle.pv_first.specs.Names.{keys_of, key_of, HasNames};
+ghost use Rattle.pv_first.specs.FirstForm.{IsFirstForm, IsFirstExpr};
 ghost use Rattle.pv_bool.specs.Tree.{term_tree, assignment_tree};
 ghost use Rattle.pv_bool.specs.Programs.{program_tree};
 ghost use Rattle.pv_mean.specs.Cells.{cells_of};
 ghost use Rattle.pv_mean.specs.Sources.{source_of};
-ghost use Rattle.pv_mean.specs.FirstForm.{unary_term, binary_term, term_by, assignment_by, bit_of_cell, program_by, program_of};
+ghost use Rattle.pv_mean.specs.FirstForm.{unary_term, binary_term, term_by, assignment_by, bit_role, bit_of_cell, program_by, program_of};
 ghost use Rattle.pv_mean.specs.Numbering.{place_among};
 
 use crate::cell::Cell;
 use crate::form::{is_first_expr, is_first_form, statements_of};
-use pv_bool::{Assignment, Bit, Program, Term};
+use pv_bool::{Assignment, Bit, BitRole, Program, Term};
+use pv_first::{BinaryOp, Block, Expr, Operand, Root, Stmt, UnaryOp};
+use pv_machine::Role;
 use pv_rules::Scope;
-use pv_tree::{BinaryOp, Block, Expr, Operand, Root, Stmt, UnaryOp};
 use pv_types::{MAX_LEAVES, Name};
 use std::alloc::{AllocError, Global};
 
@@ -85,8 +86,17 @@ fn make_bit(cell: &Cell) -> Bit
     ensures { result ≡ bit_of_cell cell.now }
 {
     Bit {
-        role: cell.role,
+        role: bit_role(cell.role),
         start: cell.start == 1,
+    }
+}
+
+fn bit_role(role: Role) -> BitRole
+    ensures { result ≡ bit_role role }
+{
+    match role {
+        Role::Input => BitRole::Input,
+        Role::Param | Role::Kept | Role::Brief => BitRole::Kept,
     }
 }
 

@@ -2,10 +2,10 @@
 ghost use Rattle.std.specs.Prelude.{◌≡◌, ◌↔◌, All, IsTrue, map, Some, None};
 ghost use Rattle.pv_types.specs.Tree.{plain};
 ghost use Rattle.pv_types.specs.View.{type_tree, var_tree};
-ghost use Rattle.pv_tree.specs.Tree.{operand_tree, expr_tree, stmt_tree, block_tree, body_trees};
-ghost use Rattle.pv_tree.specs.FirstForm.{IsFirstSection, IsFirstVar, IsFirstOperand, IsTruth, IsFirstExpr, IsFirstStmt, IsFirstForm};
+ghost use Rattle.pv_first.specs.Tree.{operand_tree, expr_tree, stmt_tree, block_tree, body_trees};
+ghost use Rattle.pv_first.specs.FirstForm.{IsFirstSection, IsFirstVar, IsFirstOperand, IsTruth, IsFirstExpr, IsFirstStmt, IsFirstForm};
 
-use pv_tree::{Block, BlockKind, Body, Expr, Operand, Root, Stmt};
+use pv_first::{Block, BlockKind, Body, Expr, Operand, Root, Stmt};
 use pv_types::{DeclType, Interface, Section, Var};
 use pv_word::Ty;
 

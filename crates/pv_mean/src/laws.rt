@@ -2,19 +2,20 @@
 ghost use Rattle.std.specs.Prelude.{◌≡◌, ◌++◌, ◌∷◌, ◌<◌, length, pos, ℕ, ℤ, List, Some, Contains, slice_index_or, true};
 ghost use Rattle.pv_word.specs.declared.types.Ty.TheVariants.{Bool};
 ghost use Rattle.pv_machine.specs.declared.place.Place.{Place};
+ghost use Rattle.pv_machine.specs.declared.role.Role.TheVariants.{Kept, Param};
 ghost use Rattle.pv_machine.specs.Roles.{is_input, is_stored};
 ghost use Rattle.pv_machine.specs.Ranges.{AreWithin};
-ghost use Rattle.pv_tree.specs.declared.tree.UnaryOp.TheVariants.{Not};
-ghost use Rattle.pv_tree.specs.declared.tree.BinaryOp.TheVariants.{And, Or};
-ghost use Rattle.pv_tree.specs.Tree.{OperandTree, ExprTree, assign, BlockTree};
-ghost use Rattle.pv_tree.specs.Names.{keys_of, key_of, HasNames};
-ghost use Rattle.pv_tree.specs.FirstForm.{IsFirstForm, IsFirstExpr};
+ghost use Rattle.pv_first.specs.declared.tree.UnaryOp.TheVariants.{Not};
+ghost use Rattle.pv_first.specs.declared.tree.BinaryOp.TheVariants.{And, Or};
+ghost use Rattle.pv_first.specs.Tree.{OperandTree, ExprTree, assign, BlockTree};
+ghost use Rattle.pv_first.specs.Names.{keys_of, key_of, HasNames};
+ghost use Rattle.pv_first.specs.FirstForm.{IsFirstForm, IsFirstExpr};
 ghost use Rattle.pv_bool.specs.Tree.{IsProgram};
 ghost use Rattle.pv_bool.specs.Scans.{start as program_start};
 ghost use Rattle.pv_bool.specs.Machine.{numbers_of};
 ghost use Rattle.pv_mean.specs.declared.cell.Cell.{Cell};
 ghost use Rattle.pv_mean.specs.Cells.{cells_of};
-ghost use Rattle.pv_mean.specs.Frames.{Image, Input, Params, Frame, image_len, input_len, frame_ranges, image_ranges, input_ranges, param_ranges, begin, image_of, input_of};
+ghost use Rattle.pv_mean.specs.Frames.{Image, Input, Params, Frame, image_len, input_len, frame_ranges, image_ranges, input_ranges, param_ranges, begin, image_after, image_of, input_of};
 ghost use Rattle.pv_mean.specs.Sources.{Source, source_of, entry_body, number_of};
 ghost use Rattle.pv_mean.specs.Values.{number, unary_result, binary_result, value, value_at};
 ghost use Rattle.pv_mean.specs.Statements.{normal, run_one, IsUntouched};
@@ -88,8 +89,8 @@ pub fn images_keep_their_length()
         → length (scan source image input).beginning ≡ length source.cells }
     ensures end { (source : Source) (image : Image) (input : Input) (frame : Frame)
         → (scan source image input).end ≡ done frame → length frame ≡ length source.cells }
-    ensures next { (source : Source) (frame : Frame)
-        → length (next_image source frame) ≡ image_len source.cells }
+    ensures next { (source : Source) (beginning frame : Frame)
+        → length (next_image source beginning frame) ≡ image_len source.cells }
     ensures start { (source : Source) (params : Params)
         → length (start source params) ≡ image_len source.cells }
 {}
@@ -112,9 +113,22 @@ pub fn scans_begin_with_image_and_input()
         → length input ≡ input_len cells → input_of cells (begin cells image input) ≡ input }
     ensures image { (cells : List Cell) (image : Image) (input : Input)
         → length image ≡ image_len cells → image_of cells (begin cells image input) ≡ image }
-    ensures carried { (source : Source) (frame : Frame) (input : Input)
-        → image_of source.cells (begin source.cells (next_image source frame) input)
-        ≡ next_image source frame }
+    ensures carried { (source : Source) (beginning frame : Frame) (input : Input)
+        → image_of source.cells (begin source.cells (next_image source beginning frame) input)
+        ≡ next_image source beginning frame }
+{}
+
+/// The image that a scan leaves has the value of its end for a cell that is kept, and that of its
+/// beginning for a parameter, whatever the block wrote to it.
+pub fn scans_leave_what_is_kept()
+    ensures kept { (before : List Cell) (c : Cell) (after : List Cell) (beginning end : Frame)
+        → c.role ≡ Kept
+        → slice_index_or (image_after (before ++ c ∷ after) beginning end) (image_len before) (pos 0)
+        ≡ slice_index_or end (length before) (pos 0) }
+    ensures param { (before : List Cell) (c : Cell) (after : List Cell) (beginning end : Frame)
+        → c.role ≡ Param
+        → slice_index_or (image_after (before ++ c ∷ after) beginning end) (image_len before) (pos 0)
+        ≡ slice_index_or beginning (length before) (pos 0) }
 {}
 
 /// On the first form a start image has values within the ranges of its cells, and a scan from such
@@ -134,7 +148,8 @@ pub fn scans_keep_the_ranges()
         → AreWithin (image_ranges (cells_of block)) image
         → AreWithin (input_ranges (cells_of block)) input
         → (scan (source_of block bound) image input).end ≡ done frame
-        → AreWithin (image_ranges (cells_of block)) (next_image (source_of block bound) frame) }
+        → AreWithin (image_ranges (cells_of block))
+        (next_image (source_of block bound) (scan (source_of block bound) image input).beginning frame) }
 {}
 
 /// On the first form a scan is that of the Boolean program, from its start on. Where the names are

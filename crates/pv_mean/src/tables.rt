@@ -1,13 +1,13 @@
 //! What a block of the first form is worked on with: its names and its cells.
 ghost use Rattle.std.specs.Prelude.{◌≡◌, ◌≤◌, length, IfOk};
-ghost use Rattle.pv_tree.specs.Tree.{block_tree};
-ghost use Rattle.pv_tree.specs.Names.{keys_of, KeepsNames};
-ghost use Rattle.pv_tree.specs.FirstForm.{IsFirstForm};
+ghost use Rattle.pv_first.specs.Tree.{block_tree};
+ghost use Rattle.pv_first.specs.Names.{keys_of, KeepsNames};
+ghost use Rattle.pv_first.specs.FirstForm.{IsFirstForm};
 ghost use Rattle.pv_mean.specs.Cells.{cells_of};
 
 use crate::cell::{Cell, CellFault, cells};
+use pv_first::Block;
 use pv_rules::{NameFault, Scope, scope_of};
-use pv_tree::Block;
 use pv_types::MAX_LEAVES;
 use std::alloc::{AllocError, Global};
 

@@ -2,8 +2,8 @@
 use Rattle.std.proofs.Common.{◌≡◌, ℕ, Bool, true, false, not, cond, replicate, Some, None, is_some, refl, ap, sym, subst, ◌∙◌}
 use Rattle.pv_machine.specs.Ranges.{AreWithin}
 use Rattle.pv_machine.specs.Machines.{Values, done, IsLawful}
-use Rattle.pv_tree.specs.Tree.{ExprTree, BlockTree}
-use Rattle.pv_tree.specs.FirstForm.{IsFirstForm, IsFirstExpr}
+use Rattle.pv_first.specs.Tree.{ExprTree, BlockTree}
+use Rattle.pv_first.specs.FirstForm.{IsFirstForm, IsFirstExpr}
 use Rattle.pv_bool.specs.Scans.{keeps}
 use Rattle.pv_bool.specs.Machine.{bit_range, bits_of, number_of as number_of_bit, machine_of as program_machine}
 use Rattle.pv_mean.specs.Cells.{cells_of}
@@ -25,7 +25,7 @@ lawful block bound p is = record {
   starts = λ params are. start_within block bound params is;
   steps = λ s i t is_state is_input h.
       let source = source_of block bound in
-      let left = left_is source (scan source s i).end t h in
+      let left = left_is source (scan source s i).beginning (scan source s i).end t h in
       let P : Values → Type 0 = λ v. AreWithin (image_ranges (cells_of block)) v in
       subst P left.2 (image_within block bound s i left.0 is is_state is_input left.1);
 }
@@ -53,13 +53,13 @@ alike block bound a is first =
     let source = source_of block bound in
     let cells = cells_of block in
     record {
-      state = first_image_ranges cells (first_cells block is) ∙ ap (λ n. replicate n bit_range) (sym (state_len-bits cells));
-      input = first_input_ranges cells (first_cells block is) ∙ ap (λ n. replicate n bit_range) (sym (input_len-bits cells));
+      state = first_image_ranges cells (first_cells block is) ∙ ap (λ n. replicate n bit_range) (sym (state_len-bits cells (first_cells block is)));
+      input = first_input_ranges cells (first_cells block is) ∙ ap (λ n. replicate n bit_range) (sym (input_len-bits cells (first_cells block is)));
       params = no_params cells (first_cells block is);
       start = λ p. start_is_programs block bound a p is;
       step = λ s i is_state is_input.
           let same = scan_is_programs block bound a s i is first is_state is_input in
-          ap (λ e. step_of source e) same.ends ∙ ap done same.next;
+          ap (λ e. step_of source (scan source s i).beginning e) same.ends ∙ ap done same.next;
       fails = λ s i is_state is_input.
           let same = scan_is_programs block bound a s i is first is_state is_input in
           ends-bits source a (scan source s i) (program_end source a s i)

@@ -40,11 +40,15 @@ is_left : (s : Step) (t : Values) → s ≡ done t → IsLeft t s
 is_left s t h = let P : Step → Type 0 = λ x. IsLeft t x in subst P (sym h) refl
 
 -- a step that is done is a scan that is done, and leaves its image
-pub left_is : (source : Source) (e : ScanEnd) (t : Values) → step_of source e ≡ done t
-    → (frame : Frame) × (e ≡ done_scan frame) × (next_image source frame ≡ t)
-left_is source (done_scan frame) t h = (frame, refl, is_left (done (next_image source frame)) t h)
-left_is source (trap_scan kind place) t h = absurd (is_left (trap kind place) t h)
-left_is source (over_scan place) t h = absurd (is_left (over place) t h)
+pub left_is : (source : Source) (b : Frame) (e : ScanEnd) (t : Values) → step_of source b e ≡ done t
+    → (frame : Frame) × (e ≡ done_scan frame) × (next_image source b frame ≡ t)
+left_is source b (done_scan frame) t h = (frame, refl, is_left (done (next_image source b frame)) t h)
+left_is source b (trap_scan kind place) t h = absurd (is_left (trap kind place) t h)
+left_is source b (over_scan place) t h = absurd (is_left (over place) t h)
+
+-- the frame with which a scan begins
+abbrev begins : Source → Image → Input → Frame
+begins source image i = (scan source image i).beginning
 
 -- ---- no scan fails
 
@@ -56,14 +60,14 @@ runs_to source p prev image (i ∷ inputs) none = (
   λ t h. lead (scan source image i).end t h (λ mark next later. runs_to source p mark next inputs later) none.1,
 )
   where
-    lead : (e : ScanEnd) (t : Values) → step_of source e ≡ done t
+    lead : (e : ScanEnd) (t : Values) → step_of source (begins source image i) e ≡ done t
         → ((mark : Option Bool) (next : Image) → NoneFailsFrom source p mark (run_from source next inputs)
         → NoneFails (machine_of source p) next inputs)
-        → NoneFailsFrom source p (mark_of source p e) (after source e (λ next. run_from source next inputs))
+        → NoneFailsFrom source p (mark_of source p e) (after source (begins source image i) e (λ next. run_from source next inputs))
         → NoneFails (machine_of source p) t inputs
     lead (done_scan frame) t h more later =
         let P : Values → Type 0 = λ v. NoneFails (machine_of source p) v inputs in
-        subst P (is_left (done (next_image source frame)) t h) (more (mark_of source p (done_scan frame)) (next_image source frame) later)
+        subst P (is_left (done (next_image source (begins source image i) frame)) t h) (more (mark_of source p (done_scan frame)) (next_image source (begins source image i) frame) later)
     lead (trap_scan kind place) t h more later = absurd (is_left (trap kind place) t h)
     lead (over_scan place) t h more later = absurd (is_left (over place) t h)
 
@@ -75,12 +79,12 @@ runs_from source p prev image (i ∷ inputs) none = (
   lead (scan source image i).end (λ t h. none.1 t h) (λ mark next later. runs_from source p mark next inputs later),
 )
   where
-    lead : (e : ScanEnd) → ((t : Values) → step_of source e ≡ done t → NoneFails (machine_of source p) t inputs)
+    lead : (e : ScanEnd) → ((t : Values) → step_of source (begins source image i) e ≡ done t → NoneFails (machine_of source p) t inputs)
         → ((mark : Option Bool) (next : Image) → NoneFails (machine_of source p) next inputs
         → NoneFailsFrom source p mark (run_from source next inputs))
-        → NoneFailsFrom source p (mark_of source p e) (after source e (λ next. run_from source next inputs))
-    lead (done_scan frame) later more = more (mark_of source p (done_scan frame)) (next_image source frame)
-        (later (next_image source frame) refl)
+        → NoneFailsFrom source p (mark_of source p e) (after source (begins source image i) e (λ next. run_from source next inputs))
+    lead (done_scan frame) later more = more (mark_of source p (done_scan frame)) (next_image source (begins source image i) frame)
+        (later (next_image source (begins source image i) frame) refl)
     lead (trap_scan kind place) later more = tt
     lead (over_scan place) later more = tt
 
@@ -95,16 +99,16 @@ FailsWithin source p image n =
 -- a scan that is done and doesn't fail, before those
 one_more : (source : Source) (p : Pattern) (image : Image) (i : Input) (n : ℕ) (frame : Frame) → IsInput (machine_of source p) i
     → (scan source image i).end ≡ done_scan frame → ends_as source p None (scan source image i) ≡ None
-    → FailsWithin source p (next_image source frame) (suc n) → FailsWithin source p image (suc (suc n))
+    → FailsWithin source p (next_image source (begins source image i) frame) (suc n) → FailsWithin source p image (suc (suc n))
 one_more source p image i n frame is ends none fails = lead fails.0 fails.1 fails.2 fails.3
   where
-    good : IsGoodScan (machine_of source p) image i (next_image source frame)
-    good = record { done = ap (λ e. step_of source e) ends; keeps = ap (λ c. is_some c) none }
+    good : IsGoodScan (machine_of source p) image i (next_image source (begins source image i) frame)
+    good = record { done = ap (λ e. step_of source (begins source image i) e) ends; keeps = ap (λ c. is_some c) none }
 
     lead : (inputs : List Input) → length inputs ≡ suc n → AllByRecursion (IsInput (machine_of source p)) inputs
-        → FailsAtLast (machine_of source p) (next_image source frame) inputs → FailsWithin source p image (suc (suc n))
+        → FailsAtLast (machine_of source p) (next_image source (begins source image i) frame) inputs → FailsWithin source p image (suc (suc n))
     lead [] len all f = absurd f
-    lead (j ∷ inputs) len all f = (i ∷ j ∷ inputs, ap suc len, (is, all), (next_image source frame, good, f))
+    lead (j ∷ inputs) len all f = (i ∷ j ∷ inputs, ap suc len, (is, all), (next_image source (begins source image i) frame, good, f))
 
 pub first_fails : (source : Source) (p : Pattern) (prev : Option Bool) (image : Image) (inputs : List Input) (n : ℕ) (cause : Cause)
     → AllByRecursion (IsInput (machine_of source p)) inputs
@@ -119,11 +123,11 @@ first_fails source p prev image (i ∷ inputs) (suc (suc n)) cause all f =
     lead : (e : ScanEnd) → (scan source image i).end ≡ e
         → ((mark : Option Bool) (next : Image) → FailsFirstFrom source p mark (run_from source next inputs) (suc n) cause
         → FailsWithin source p next (suc n))
-        → FailsFirstFrom source p (mark_of source p e) (after source e (λ next. run_from source next inputs)) (suc n) cause
+        → FailsFirstFrom source p (mark_of source p e) (after source (begins source image i) e (λ next. run_from source next inputs)) (suc n) cause
         → FailsWithin source p image (suc (suc n))
     lead (done_scan frame) ends more later =
         one_more source p image i n frame all.0 ends (ends-alike source p None prev (scan source image i) ∙ f.0)
-        (more (mark_of source p (done_scan frame)) (next_image source frame) later)
+        (more (mark_of source p (done_scan frame)) (next_image source (begins source image i) frame) later)
     lead (trap_scan kind place) ends more later = absurd later
     lead (over_scan place) ends more later = absurd later
 
@@ -140,16 +144,16 @@ fails_first source p prev image (i ∷ j ∷ inputs) f =
     none : ends_as source p prev (scan source image i) ≡ None
     none = ends-alike source p prev None (scan source image i) ∙ is_none (ends_as source p None (scan source image i)) (f.1).keeps
 
-    lead : (e : ScanEnd) → step_of source e ≡ done f.0
+    lead : (e : ScanEnd) → step_of source (begins source image i) e ≡ done f.0
         → ((mark : Option Bool) (next : Image) → FailsAtLast (machine_of source p) next (j ∷ inputs)
         → (cause : Cause) × FailsFirstFrom source p mark (run_from source next (j ∷ inputs)) (suc (length inputs)) cause)
         → (cause : Cause) × ((ends_as source p prev (scan source image i) ≡ None)
-        × FailsFirstFrom source p (mark_of source p e) (after source e (λ next. run_from source next (j ∷ inputs)))
+        × FailsFirstFrom source p (mark_of source p e) (after source (begins source image i) e (λ next. run_from source next (j ∷ inputs)))
         (suc (length inputs)) cause)
     lead (done_scan frame) is more =
         let P : Values → Type 0 = λ v. FailsAtLast (machine_of source p) v (j ∷ inputs) in
-        let later = more (mark_of source p (done_scan frame)) (next_image source frame)
-        (subst P (sym (is_left (done (next_image source frame)) f.0 is)) f.2) in
+        let later = more (mark_of source p (done_scan frame)) (next_image source (begins source image i) frame)
+        (subst P (sym (is_left (done (next_image source (begins source image i) frame)) f.0 is)) f.2) in
         (later.0, (none, later.1))
     lead (trap_scan kind place) is more = absurd (is_left (trap kind place) f.0 is)
     lead (over_scan place) is more = absurd (is_left (over place) f.0 is)

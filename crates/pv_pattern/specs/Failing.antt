@@ -1,12 +1,12 @@
--- Failing scans along a run. A scan that is done fails where its judgment is a failure; one that traps or goes over a loop's bound
--- fails too. (With a pattern that asks for a goal a trap will end a run without failing.)
+-- Failing scans along a run. A scan that is done fails where its judgment is a failure, one that traps where the pattern says so,
+-- and one that goes over a loop's bound always.
 use Rattle.std.specs.Prelude.{◌≡◌, ℕ, zero, suc, List, [], ◌∷◌, Bool, Option, Some, None, if◌then◌else◌}
 use Rattle.pv_machine.specs.declared.place.Place.{Place}
 use Rattle.pv_machine.specs.declared.trap.TrapKind.{TrapKind}
 use Rattle.pv_mean.specs.Frames.{Frame}
 use Rattle.pv_mean.specs.Sources.{Source}
 use Rattle.pv_mean.specs.Scans.{Scan, ScanEnd, done, trap as trap_end, over as over_end}
-use Rattle.pv_pattern.specs.Patterns.{Pattern, judge, mark, is_failure}
+use Rattle.pv_pattern.specs.Patterns.{Pattern, judge, mark, is_failure, is_trap_failure}
 
 -- why a scan fails: the pattern, a trap, or a loop's bound
 pub data Cause : Type 0 where
@@ -17,7 +17,7 @@ pub data Cause : Type 0 where
 -- how a scan fails, if it does, where the scan before left this mark
 abbrev pub ends_by : Source → Pattern → Option Bool → Frame → ScanEnd → Option Cause
 ends_by source p prev beginning (done end) = if is_failure p (judge source p prev beginning end) then Some pattern else None
-ends_by source p prev beginning (trap_end kind place) = Some (trap kind place)
+ends_by source p prev beginning (trap_end kind place) = if is_trap_failure p then Some (trap kind place) else None
 ends_by source p prev beginning (over_end place) = Some (over place)
 
 abbrev pub ends_as : Source → Pattern → Option Bool → Scan → Option Cause

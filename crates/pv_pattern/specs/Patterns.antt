@@ -1,8 +1,8 @@
 -- Requirement patterns, judged along a run at each scan that is done, by the frames at the scan's beginning and at its end and by
 -- what the scan before left (the patterns of PLCverif). The five others are further cases.
-use Rattle.std.specs.Prelude.{Bool, false, not, pos, Option}
+use Rattle.std.specs.Prelude.{Bool, true, false, not, pos, Option}
 use Rattle.std.specs.Ordering.{int_eq}
-use Rattle.pv_tree.specs.Tree.{ExprTree}
+use Rattle.pv_first.specs.Tree.{ExprTree}
 use Rattle.pv_mean.specs.Frames.{Frame}
 use Rattle.pv_mean.specs.Sources.{Source}
 use Rattle.pv_mean.specs.Values.{Value, number, trap, value}
@@ -27,3 +27,7 @@ mark source (invariant a) end = is_true (value source end a)
 -- whether a judgment is a failure: of a pattern that asks whether a goal is reached, that it holds would be one
 abbrev pub is_failure : Pattern → Bool → Bool
 is_failure (invariant a) holds = not holds
+
+-- whether a scan that traps is a failure: by a pattern that asks whether a goal is reached, a trap would end the run without one
+abbrev pub is_trap_failure : Pattern → Bool
+is_trap_failure (invariant a) = true

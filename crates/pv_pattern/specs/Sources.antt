@@ -4,18 +4,18 @@ use Rattle.std.specs.Prelude.{List, None, is_some}
 use Rattle.std.specs.List.{AllByRecursion}
 use Rattle.pv_machine.specs.Ranges.{AreWithin}
 use Rattle.pv_machine.specs.Machines.{Machine, Step, done, trap, over}
-use Rattle.pv_mean.specs.Frames.{Input, Params, image_ranges, input_ranges, param_ranges}
+use Rattle.pv_mean.specs.Frames.{Frame, Input, Params, image_ranges, input_ranges, param_ranges}
 use Rattle.pv_mean.specs.Sources.{Source}
 use Rattle.pv_mean.specs.Scans.{ScanEnd, done as done_scan, trap as trap_scan, over as over_scan, scan, next_image}
 use Rattle.pv_mean.specs.Runs.{start, run}
 use Rattle.pv_pattern.specs.Patterns.{Pattern}
 use Rattle.pv_pattern.specs.Failing.{ends_as, NoneFails}
 
--- a scan that is done leaves its image
-abbrev pub step_of : Source → ScanEnd → Step
-step_of source (done_scan frame) = done (next_image source frame)
-step_of source (trap_scan kind place) = trap kind place
-step_of source (over_scan place) = over place
+-- a scan with this beginning that is done leaves its image
+abbrev pub step_of : Source → Frame → ScanEnd → Step
+step_of source beginning (done_scan frame) = done (next_image source beginning frame)
+step_of source beginning (trap_scan kind place) = trap kind place
+step_of source beginning (over_scan place) = over place
 
 abbrev pub machine_of : Source → Pattern → Machine
 machine_of source p = record {
@@ -23,7 +23,7 @@ machine_of source p = record {
   input = input_ranges source.cells;
   params = param_ranges source.cells;
   start = λ params. start source params;
-  step = λ image input. step_of source (scan source image input).end;
+  step = λ image input. step_of source (scan source image input).beginning (scan source image input).end;
   fails = λ image input. is_some (ends_as source p None (scan source image input));
 }
 

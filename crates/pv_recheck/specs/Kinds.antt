@@ -1,7 +1,7 @@
 -- The kinds of faults of a certificate, and their words in a fault line.
 use Rattle.std.specs.Prelude.{ℕ, List, codes}
 use Rattle.pv_log.specs.declared.fault.LineFault.{LineFault}
-use Rattle.pv_log.specs.declared.fault.LineFault.TheVariants.{BadId, UnknownHint, NotUnit, LastNotFalse, Tautology}
+use Rattle.pv_log.specs.declared.fault.LineFault.TheVariants.{BadId, UnknownHint, NotUnit, LastNotFalse, Tautology, NotNew}
 use Rattle.pv_recheck.specs.declared.fault.Kind.{Kind}
 use Rattle.pv_recheck.specs.declared.fault.Kind.TheVariants.{NotACertificate, Line, NoEmpty, WrongQuery}
 
@@ -11,6 +11,7 @@ line_word UnknownHint = codes "UnknownHint"
 line_word NotUnit = codes "NotUnit"
 line_word LastNotFalse = codes "LastNotFalse"
 line_word Tautology = codes "Tautology"
+line_word NotNew = codes "NotNew"
 
 abbrev pub kind_word : Kind → List ℕ
 kind_word NotACertificate = codes "NotACertificate"

@@ -43,6 +43,7 @@ fn line_name(fault: LineFault) -> &'static str
         LineFault::NotUnit => "NotUnit",
         LineFault::LastNotFalse => "LastNotFalse",
         LineFault::Tautology => "Tautology",
+        LineFault::NotNew => "NotNew",
     }
 }
 

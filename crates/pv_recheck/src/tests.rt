@@ -4,8 +4,7 @@ ghost use Rattle.pv_bool.specs.Tree.{term_tree, IsTermOver};
 
 use crate::check::{MAX_STEP_GATES, check};
 use crate::{RecheckFault, check_certificate};
-use pv_bool::{Assignment, Bit, Program, Term};
-use pv_machine::Role;
+use pv_bool::{Assignment, Bit, BitRole, Program, Term};
 use std::alloc::{AllocError, Global};
 use std::test::Fail;
 
@@ -40,7 +39,7 @@ fn latch(alloc: Global, holds: Term) -> Result<Program, AllocError>
     let bit = |role| Bit { role, start: false };
     let bits = Vec::from_slice(
         alloc,
-        &[bit(Role::Input), bit(Role::Input), bit(Role::Kept)],
+        &[bit(BitRole::Input), bit(BitRole::Input), bit(BitRole::Kept)],
     )?;
     let on = or(alloc, Term::Load(0), Term::Load(2))?;
     let off = not(alloc, Term::Load(1))?;

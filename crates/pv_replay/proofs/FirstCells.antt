@@ -13,8 +13,8 @@ use Rattle.pv_types.specs.declared.declaration.Section.TheVariants.{Input as Inp
 use Rattle.pv_types.specs.declared.declaration.Literal.{Literal}
 use Rattle.pv_types.specs.Tree.{TypeTree, plain, VarTree, var}
 use Rattle.pv_types.specs.View.{name_of}
-use Rattle.pv_tree.specs.Names.{keys_of}
-use Rattle.pv_tree.specs.FirstForm.{IsFirstVar, IsFirstSection}
+use Rattle.pv_first.specs.Names.{keys_of}
+use Rattle.pv_first.specs.FirstForm.{IsFirstVar, IsFirstSection}
 use Rattle.pv_mean.specs.declared.cell.Cell.{Cell}
 use Rattle.pv_mean.specs.Cells.{cells_of_vars, cell_count_of}
 use Rattle.pv_mean.specs.Sources.{first_cell_of}

@@ -14,9 +14,9 @@ use Rattle.pv_word.specs.Types.{InRange}
 use Rattle.pv_machine.specs.declared.role.Role.{Role}
 use Rattle.pv_machine.specs.declared.role.Role.TheVariants.{Input, Kept}
 use Rattle.pv_machine.specs.Roles.{is_input, is_stored}
-use Rattle.pv_tree.specs.Tree.{ExprTree, StmtTree, BlockTree}
-use Rattle.pv_tree.specs.Names.{keys_of}
-use Rattle.pv_tree.specs.FirstForm.{IsFirstForm}
+use Rattle.pv_first.specs.Tree.{ExprTree, StmtTree, BlockTree}
+use Rattle.pv_first.specs.Names.{keys_of}
+use Rattle.pv_first.specs.FirstForm.{IsFirstForm}
 use Rattle.pv_mean.specs.declared.cell.Cell.{Cell}
 use Rattle.pv_mean.specs.Cells.{cells_of}
 use Rattle.pv_mean.specs.Frames.{Image, first, others, start_by, start_image, begin, image_of, input_len}
@@ -24,6 +24,7 @@ use Rattle.pv_mean.specs.Sources.{Source, source_of, entry_body}
 use Rattle.pv_mean.specs.Statements.{Ending, normal, run_list}
 use Rattle.pv_mean.specs.Scans.{Scan, ScanEnd, done, end_of, scan, next_image}
 use Rattle.pv_mean.specs.Runs.{after, run, run_from}
+use Rattle.pv_mean.proofs.ForCallers.{first_image_after, first_cells as first_cells_of}
 use Rattle.pv_pattern.specs.Patterns.{Pattern, is_true, judge, is_failure, invariant as inv}
 use Rattle.pv_pattern.specs.Failing.{Cause, pattern, ends_by, ends_as, mark_of}
 use Rattle.pv_cert.specs.Traces.{IsBit, AreBits, IsScan, AreScans, scan_text, scans_text, trace_text}
@@ -66,6 +67,7 @@ machine_is block bound a keys m is same_keys same_cells of_body of_term =
       numbering = numbered block bound is;
       program = subst P same_keys of_body;
       requirement = subst Q same_keys of_term;
+      images = λ beginning frame. first_image_after (cells_of block) beginning frame (first_cells_of block is);
     }
 
 -- ---- its scans
@@ -83,8 +85,9 @@ runs_done source a m image [] of = tt
 runs_done source a m image (input ∷ inputs) of =
     let frame = run_program m.program.items (begin source.cells image input) in
     let is = scan_is source a m image input of in
-    let P : ScanEnd → Type 0 = λ e. AllByRecursion IsDone (after source e (λ next. run_from source next inputs)) in
-    ((frame, is), subst P (sym is) (runs_done source a m (next_image source frame) inputs of))
+    let beginning = begin source.cells image input in
+    let P : ScanEnd → Type 0 = λ e. AllByRecursion IsDone (after source beginning e (λ next. run_from source next inputs)) in
+    ((frame, is), subst P (sym is) (runs_done source a m (next_image source beginning frame) inputs of))
 
 -- how a scan that ends with this frame fails, by the requirement's term
 pub fails_is : (source : Source) (a : ExprTree) (m : Machine) (prev : Option Bool) (beginning frame : List ℤ) (b : Bool) → IsMachineOf source a m → int_eq (value_in frame m.requirement) (pos 1) ≡ b → ends_by source (inv a) prev beginning (done frame) ≡ cond (not b) (Some pattern) None
@@ -106,7 +109,7 @@ all_remains source a width all frame lines ok e = record { more = all; scans = o
 
 -- the end from a scan on, by how its statements end
 from_scan : (source : Source) (a : ExprTree) (n : ℕ) (prev : Option Bool) (later : List (List ℤ)) (beginning : List ℤ) → ScanEnd → End
-from_scan source a n prev later beginning e = end_by (ends_by source (inv a) prev beginning e) n (end_after (n + 1) source (inv a) (mark_of source (inv a) e) (after source e (λ next. run_from source next later)))
+from_scan source a n prev later beginning e = end_by (ends_by source (inv a) prev beginning e) n (end_after (n + 1) source (inv a) (mark_of source (inv a) e) (after source beginning e (λ next. run_from source next later)))
 
 at_scan : (source : Source) (a : ExprTree) (m : Machine) (n : ℕ) (prev : Option Bool) (image values : List ℤ) (more later : List (List ℤ)) (b : Bool) → IsMachineOf source a m → more ≡ values ∷ later → int_eq (value_in (run_program m.program.items (begin source.cells image values)) m.requirement) (pos 1) ≡ b
     → end_after n source (inv a) prev (run_from source image more) ≡ end_by (cond (not b) (Some pattern) None) n (end_after (n + 1) source (inv a) (mark_of source (inv a) (done (run_program m.program.items (begin source.cells image values)))) (run_from source (image_of source.cells (run_program m.program.items (begin source.cells image values))) later))
@@ -114,8 +117,12 @@ unfolding from_scan
 at_scan source a m n prev image values more later b of split value =
     let frame = run_program m.program.items (begin source.cells image values) in
     let rest = end_after (n + 1) source (inv a) (mark_of source (inv a) (done frame)) (run_from source (image_of source.cells frame) later) in
+    let beginning = begin source.cells image values in
+    let ends : Image → End = λ next. end_by (ends_by source (inv a) prev beginning (done frame)) n (end_after (n + 1) source (inv a)
+    (mark_of source (inv a) (done frame)) (run_from source next later)) in
     ap (λ l. end_after n source (inv a) prev (run_from source image l)) split
     ∙ ap (λ e. from_scan source a n prev later (begin source.cells image values) e) (scan_is source a m image values of)
+    ∙ ap ends (of.images beginning frame)
     ∙ ap (λ c. end_by c n rest) (fails_is source a m prev (begin source.cells image values) frame b of value)
 
 -- the frame that the machine leaves is that of the source's scan

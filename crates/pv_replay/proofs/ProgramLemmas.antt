@@ -13,12 +13,12 @@ use Rattle.pv_word.specs.declared.types.Ty.{Ty}
 use Rattle.pv_word.specs.declared.types.Ty.TheVariants.{Bool}
 use Rattle.pv_word.specs.Types.{InRange, and_of, or_of, not_of}
 use Rattle.pv_machine.specs.declared.place.Place.{Place}
-use Rattle.pv_tree.specs.declared.tree.UnaryOp.TheVariants.{Not}
-use Rattle.pv_tree.specs.declared.tree.BinaryOp.TheVariants.{And, Or}
-use Rattle.pv_tree.specs.declared.tree.Stmt.{Stmt}
-use Rattle.pv_tree.specs.Tree.{OperandTree, ExprTree, lit, read, unary, binary, paren, StmtTree, assign, stmt_tree}
-use Rattle.pv_tree.specs.Names.{key_of}
-use Rattle.pv_tree.specs.FirstForm.{IsTruth}
+use Rattle.pv_first.specs.declared.tree.UnaryOp.TheVariants.{Not}
+use Rattle.pv_first.specs.declared.tree.BinaryOp.TheVariants.{And, Or}
+use Rattle.pv_first.specs.declared.tree.Stmt.{Stmt}
+use Rattle.pv_first.specs.Tree.{OperandTree, ExprTree, lit, read, unary, binary, paren, StmtTree, assign, stmt_tree}
+use Rattle.pv_first.specs.Names.{key_of}
+use Rattle.pv_first.specs.FirstForm.{IsTruth}
 use Rattle.pv_mean.specs.Frames.{Frame}
 use Rattle.pv_mean.specs.Sources.{Source}
 use Rattle.pv_mean.specs.Values.{number, with_number, value, value_at}

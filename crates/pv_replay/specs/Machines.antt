@@ -1,9 +1,10 @@
 -- A source as the machine of the interpreter has it. No public clause cites this.
 use Rattle.std.specs.Prelude.{◌≡◌, ◌+◌, ℕ, List, [], ◌∷◌, length, ℤ, Bool, Option, Some, None}
-use Rattle.pv_tree.specs.Tree.{ExprTree}
-use Rattle.pv_tree.specs.Names.{keys_of}
+use Rattle.pv_first.specs.Tree.{ExprTree}
+use Rattle.pv_first.specs.Names.{keys_of}
 use Rattle.pv_mean.specs.Sources.{Source, entry_vars, entry_body}
-use Rattle.pv_mean.specs.Scans.{Scan}
+use Rattle.pv_mean.specs.Frames.{Frame, image_of}
+use Rattle.pv_mean.specs.Scans.{Scan, next_image}
 use Rattle.pv_replay.specs.declared.end.End.{End}
 use Rattle.pv_replay.specs.declared.end.End.TheVariants.{Kept, Broken}
 use Rattle.pv_replay.specs.declared.machine.Machine.{Machine}
@@ -11,12 +12,14 @@ use Rattle.pv_replay.specs.Programs.{AreBools, IsNumbering, IsTermOf, IsProgramO
 use Rattle.pv_pattern.specs.Patterns.{Pattern}
 use Rattle.pv_pattern.specs.Failing.{Cause, ends_as, mark_of}
 
--- the machine is that of the source and the requirement
+-- the machine is that of the source and the requirement. It goes on with the frame that a scan leaves, which has the next image, as
+-- no cell is a parameter
 pub record IsMachineOf (source : Source) (a : ExprTree) (m : Machine) : Type 0 where
   pub cells : m.cells.items ≡ source.cells
   pub numbering : IsNumbering (keys_of (entry_vars source)) source
   pub program : IsProgramOf (keys_of (entry_vars source)) (entry_body source) m.program.items
   pub requirement : IsTermOf (keys_of (entry_vars source)) a m.requirement
+  pub images : (beginning frame : Frame) → next_image source beginning frame ≡ image_of source.cells frame
 
 -- a frame that the machine can go on with
 pub record IsReady (m : Machine) (frame : List ℤ) : Type 0 where

@@ -4,7 +4,7 @@ use Rattle.std.specs.Coded.{×_prop}
 use Rattle.std.proofs.Props.{props}
 use Rattle.pv_word.specs.declared.types.Ty.TheVariants.{Bool}
 use Rattle.pv_word.specs.Types.{InRange, and_of, or_of, not_of}
-use Rattle.pv_tree.specs.Tree.{OperandTree, ExprTree, StmtTree, assign}
+use Rattle.pv_first.specs.Tree.{OperandTree, ExprTree, StmtTree, assign}
 use Rattle.pv_mean.specs.declared.cell.Cell.{Cell}
 use Rattle.pv_mean.specs.Frames.{Frame}
 use Rattle.pv_mean.specs.Sources.{Source, entry_vars, first_cell_of}

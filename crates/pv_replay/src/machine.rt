@@ -2,9 +2,9 @@
 //! requirement.
 ghost use Rattle.std.specs.Prelude.{◌≡◌, ◌≤◌, length, map, ℕ, ℤ, pos, [], List, Bool, None, IfOk, IfErr};
 ghost use Rattle.std.specs.Ordering.{int_eq};
-ghost use Rattle.pv_tree.specs.Tree.{ExprTree, block_tree, expr_tree};
-ghost use Rattle.pv_tree.specs.Names.{HasNames};
-ghost use Rattle.pv_tree.specs.FirstForm.{IsFirstForm, IsFirstExpr};
+ghost use Rattle.pv_first.specs.Tree.{ExprTree, block_tree, expr_tree};
+ghost use Rattle.pv_first.specs.Names.{HasNames};
+ghost use Rattle.pv_first.specs.FirstForm.{IsFirstForm, IsFirstExpr};
 ghost use Rattle.pv_cert.specs.Traces.{AreScans, scans_text, trace_text};
 ghost use Rattle.pv_mean.specs.Cells.{cells_of};
 ghost use Rattle.pv_mean.specs.Frames.{input_len, begin, image_of};
@@ -19,8 +19,8 @@ use crate::end::End;
 use crate::fault::ReplayFault;
 use crate::program::{Assignment, Term, execute, place, program_of, term_of, value_of};
 use pv_cert::traces::{next_scan, scans};
+use pv_first::{Block, Expr};
 use pv_mean::{Cell, first_cells, first_names};
-use pv_tree::{Block, Expr};
 use pv_types::MAX_LEAVES;
 use std::alloc::{AllocError, Global};
 

@@ -2,18 +2,18 @@
 ghost use Rattle.std.specs.Prelude.{◌≡◌, ◌<◌, ◌^◌, length, map, pos, true, slice_index_or, slice_set, Contains, IfOk, All};
 ghost use Rattle.pv_word.specs.declared.types.Ty.TheVariants.{Bool};
 ghost use Rattle.pv_word.specs.Types.{InRange};
-ghost use Rattle.pv_tree.specs.Tree.{operand_tree, expr_tree, stmt_tree, body_trees};
-ghost use Rattle.pv_tree.specs.Names.{key_of, IsDeclared, IsDeclaredIn};
-ghost use Rattle.pv_tree.specs.FirstForm.{IsFirstExpr, IsFirstStmt};
+ghost use Rattle.pv_first.specs.Tree.{operand_tree, expr_tree, stmt_tree, body_trees};
+ghost use Rattle.pv_first.specs.Names.{key_of, IsDeclared, IsDeclaredIn};
+ghost use Rattle.pv_first.specs.FirstForm.{IsFirstExpr, IsFirstStmt};
 ghost use Rattle.pv_machine.specs.Roles.{is_input, is_stored};
 ghost use Rattle.pv_mean.specs.Frames.{input_len, begin, image_of};
 ghost use Rattle.pv_replay.specs.Beginnings.{begun, taken};
 ghost use Rattle.pv_replay.specs.Programs.{IsTerm, value_in, AreBools, IsAssignment, run_program, IsTermOf, IsAssignmentOf, IsProgramOf, IsNumberAmong, target_of, source_of};
 
+use pv_first::{BinaryOp, Body, Expr, Operand, Root, Stmt, UnaryOp};
 use pv_machine::Role;
 use pv_mean::Cell;
 use pv_rules::Scope;
-use pv_tree::{BinaryOp, Body, Expr, Operand, Root, Stmt, UnaryOp};
 use pv_word::Ty;
 use std::alloc::{AllocError, Global};
 

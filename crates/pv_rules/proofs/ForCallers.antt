@@ -2,8 +2,8 @@
 use Rattle.std.proofs.Common.{◌≡◌, Err, All, IsErrOf, refl}
 use Rattle.pv_rules.specs.declared.fault.NameFault.{NameFault}
 use Rattle.pv_rules.specs.declared.fault.NameFault.TheVariants.{DoubledName, UndeclaredName, NoMemory}
-use Rattle.pv_tree.specs.Tree.{BlockTree}
-use Rattle.pv_tree.specs.Names.{keys_of, AreApart, IsDeclaredIn, KeepsNames}
+use Rattle.pv_first.specs.Tree.{BlockTree}
+use Rattle.pv_first.specs.Names.{keys_of, AreApart, IsDeclaredIn, KeepsNames}
 
 pub not_kept : {T : Type 0} (block : BlockTree) (fault : NameFault)
     → (IsErrOf {T = T} (Err fault) DoubledName → AreApart (keys_of block.vars) → ⊥)

@@ -10,8 +10,8 @@ use Rattle.std.proofs.lemmas.Map.Made.{AllPairs-from_IsDistinct}
 use Rattle.std.proofs.lemmas.List.{get_or-take, length-take, take-map, get_or-map, length-map, take_all}
 use Rattle.pv_types.specs.declared.declaration.Var.{Var}
 use Rattle.pv_types.specs.View.{var_trees}
-use Rattle.pv_tree.specs.Names.{keys_of, AreApart}
-use Rattle.pv_tree.proofs.ForCallers.{keys-of-trees}
+use Rattle.pv_first.specs.Names.{keys_of, AreApart}
+use Rattle.pv_first.proofs.ForCallers.{keys-of-trees}
 
 -- the key at the place that a search gives is the key that was sought
 pub found : (key : List ℕ) (keys : List (List ℕ)) (r : Option ℕ) → r ≡ position (bytes_eq key) keys

@@ -1,13 +1,13 @@
 //! The names that a block declares.
 ghost use Rattle.std.specs.Prelude.{◌≡◌, ◌↔◌, ◌<◌, Some, IfOk, IfSome, IsErrOf, IsSome, IsTrue, OnOk, All, Contains, length, map, position, slice_get, bytes_eq};
 ghost use Rattle.pv_types.specs.View.{var_trees};
-ghost use Rattle.pv_tree.specs.Tree.{operand_tree, expr_tree, stmt_tree, body_trees, block_tree};
-ghost use Rattle.pv_tree.specs.Names.{keys_of, key_of, AreApart, IsDeclared, IsDeclaredIn, KeepsNames};
+ghost use Rattle.pv_first.specs.Tree.{operand_tree, expr_tree, stmt_tree, body_trees, block_tree};
+ghost use Rattle.pv_first.specs.Names.{keys_of, key_of, AreApart, IsDeclared, IsDeclaredIn, KeepsNames};
 
 use crate::fault::NameFault;
 use indexmap::IndexSet;
 use pv_edge::Text;
-use pv_tree::{Block, Body, Expr, Operand, Root, Stmt};
+use pv_first::{Block, Body, Expr, Operand, Root, Stmt};
 use pv_types::{Name, Var};
 use std::alloc::Global;
 use std::marker::Model;

@@ -11,12 +11,13 @@ use Rattle.pv_scl_parse.specs.declared.lex.Kind.TheVariants as kind
 use Rattle.pv_scl_parse.specs.declared.lex.Token.{Token}
 use Rattle.pv_scl_parse.specs.declared.parse.declarations.Stage.TheVariants as stage
 use Rattle.pv_scl_parse.specs.declared.parse.declarations.Step.TheVariants as step
-use Rattle.pv_tree.specs.declared.tree.BlockKind.{BlockKind}
-use Rattle.pv_tree.specs.declared.tree.BlockKind.TheVariants.{Fb}
+use Rattle.pv_first.specs.declared.tree.BlockKind.{BlockKind}
+use Rattle.pv_first.specs.declared.tree.BlockKind.TheVariants.{Fb}
 use Rattle.pv_word.specs.declared.types.Ty.{Ty}
-use Rattle.pv_tree.specs.Tree.{StmtTree, assign, BlockTree}
+use Rattle.pv_first.specs.Tree.{StmtTree, assign, BlockTree}
 use Rattle.pv_scl_parse.specs.Statements.{SpellsStatement, SpellsStatements}
-use Rattle.pv_scl_parse.specs.Reading.{IsBegin, first_place, SpellsName, by_word, by_quotes, by_number, by_two, SpellsBlock, IsWellFormedBlock, HasHeaderLine, TokensReadBlock, most_vars}
+use Rattle.pv_scl_parse.specs.Reading.{IsBegin, first_place, SpellsName, by_word, by_quotes, by_number, by_two, SpellsBlock, IsWellFormedBlock, HasHeaderLine, TokensReadBlock}
+use Rattle.pv_scl_parse.specs.declared.parse.TheConstants.{MAX_VARS}
 use Rattle.pv_scl_parse.specs.Readers.{FoundName, name_in, FoundVars, found_vars, variables_in, step_of, FoundStmts, found_stmts, is_word, is_begin, behind_begin, is_closing, behind_closing, is_opening, FoundBlock, block_of, found_block, closed, body_in, block_in, ended, is_ended, whole_block_in}
 use Rattle.pv_scl_parse.proofs.ExpressionsSound.{none_some, some_same, option_map_found, chosen}
 use Rattle.pv_scl_parse.proofs.Expressions.{ending_from, ended_at}
@@ -121,10 +122,10 @@ block_read text block tokens rest h w =
     ap (λ ts. ts ++ rest) h.parts
     ∙ ap (λ ts. h.opening ∷ ts) (append_assoc h.name _ rest ∙ ap (λ ts. h.name ++ ts) (append_assoc h.vars _ rest
     ∙ ap (λ ts. h.vars ++ ts) (append_assoc h.begin _ rest ∙ ap (λ ts. h.begin ++ ts) (append_assoc h.body (h.closing ∷ []) rest)))) in
-    let vars_read : variables_in text most_vars stage.Outside (h.vars ++ (h.begin ++ last))
+    let vars_read : variables_in text MAX_VARS stage.Outside (h.vars ++ (h.begin ++ last))
     ≡ Some (found_vars block.vars (h.begin ++ last)) =
-    ap (λ ts. variables_in text most_vars stage.Outside (h.vars ++ ts)) t.split
-    ∙ variables_read text block.vars h.vars t.next t.others h.declares t.behind most_vars w.few
+    ap (λ ts. variables_in text MAX_VARS stage.Outside (h.vars ++ ts)) t.split
+    ∙ variables_read text block.vars h.vars t.next t.others h.declares t.behind MAX_VARS w.few
     ∙ ap (λ ts. Some (found_vars block.vars ts)) (sym t.split) in
     let body_read : body_in text (behind_begin (h.begin ++ last)) ≡ Some (found_stmts block.body (h.closing ∷ rest)) =
     ap (body_in text) t.body ∙ statements_read text block.body h.body h.states w.well_formed w.nesting (h.closing ∷ rest)
@@ -133,7 +134,7 @@ block_read text block tokens rest h w =
     (body_in text (behind_begin vars.rest)) in
     let from_vars : Place → FoundName → Option FoundBlock =
     λ place name. option_and_then (λ (vars : FoundVars). option_and_then (closed place name.name vars.vars)
-    (body_in text (behind_begin vars.rest))) (variables_in text most_vars stage.Outside name.rest) in
+    (body_in text (behind_begin vars.rest))) (variables_in text MAX_VARS stage.Outside name.rest) in
     let behind : List Token = h.vars ++ (h.begin ++ last) in
     ap (block_in text) whole
     ∙ cond-true _ _ _ (ap is_opening h.opens)
@@ -189,12 +190,12 @@ pub record FoundWhole (text : List ℕ) (tokens : List Token) (found : FoundBloc
 
 parts_found : (text : List ℕ) (token : Token) (tokens : List Token) (place : Place) (name : FoundName) (vars : FoundVars)
     (stmts : FoundStmts) (rest : List Token) (found : FoundBlock) → is_opening token.kind ≡ true
-    → first_place tokens ≡ Some place → name_in text tokens ≡ Some name → variables_in text most_vars stage.Outside name.rest ≡ Some vars
+    → first_place tokens ≡ Some place → name_in text tokens ≡ Some name → variables_in text MAX_VARS stage.Outside name.rest ≡ Some vars
     → body_in text (behind_begin vars.rest) ≡ Some stmts → behind_closing stmts.rest ≡ Some rest
     → found_block (block_of place name.name vars.vars stmts.stmts) rest ≡ found → FoundWhole text (token ∷ tokens) found
 parts_found text token tokens place name vars stmts rest found opens at named declared stated closes same =
     let n = name_found text tokens name named in
-    let v = sections_found text name.rest most_vars vars declared in
+    let v = sections_found text name.rest MAX_VARS vars declared in
     let b = begun vars.rest in
     let s = statements_found text (length (behind_begin vars.rest)) (behind_begin vars.rest) stmts stated in
     let c = closing_from stmts.rest rest closes in

@@ -15,9 +15,9 @@ use Rattle.pv_scl_parse.specs.declared.lex.Kind.{Kind}
 use Rattle.pv_scl_parse.specs.declared.lex.Kind.TheVariants as kind
 use Rattle.pv_scl_parse.specs.declared.lex.Token.{Token}
 use Rattle.pv_scl_parse.specs.declared.parse.expressions.Start.{Start}
-use Rattle.pv_tree.specs.declared.tree.BinaryOp.{BinaryOp}
-use Rattle.pv_tree.specs.declared.tree.BinaryOp.TheVariants.{And, Or}
-use Rattle.pv_tree.specs.Tree.{ExprTree, binary}
+use Rattle.pv_first.specs.declared.tree.BinaryOp.{BinaryOp}
+use Rattle.pv_first.specs.declared.tree.BinaryOp.TheVariants.{And, Or}
+use Rattle.pv_first.specs.Tree.{ExprTree, binary}
 use Rattle.pv_scl_parse.specs.Expressions.{IsSignOf}
 use Rattle.pv_scl_parse.specs.Readers.{FoundExpr, found_expr, Stops, IsSignBefore, is_sign, joined, chain, readers, operand_in, factor_in, start_of, started}
 

@@ -6,8 +6,8 @@ use Rattle.std.proofs.lemmas.Bool.{cond-true, false≢true}
 use Rattle.pv_scl_parse.specs.declared.lex.Kind.{Kind}
 use Rattle.pv_scl_parse.specs.declared.lex.Kind.TheVariants as kind
 use Rattle.pv_scl_parse.specs.declared.lex.Token.{Token}
-use Rattle.pv_tree.specs.declared.tree.BinaryOp.TheVariants.{And, Or}
-use Rattle.pv_tree.specs.Tree.{ExprTree}
+use Rattle.pv_first.specs.declared.tree.BinaryOp.TheVariants.{And, Or}
+use Rattle.pv_first.specs.Tree.{ExprTree}
 use Rattle.pv_scl_parse.specs.Expressions.{levels}
 use Rattle.pv_scl_parse.specs.Reading.{TokensReadExpression}
 use Rattle.pv_scl_parse.specs.Readers.{FoundExpr, is_sign, readers, is_end, is_ended, ended, expression_in}

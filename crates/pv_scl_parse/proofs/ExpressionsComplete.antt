@@ -11,10 +11,10 @@ use Rattle.pv_scl_parse.specs.declared.words.Word.TheVariants as word
 use Rattle.pv_scl_parse.specs.declared.lex.Kind.{Kind}
 use Rattle.pv_scl_parse.specs.declared.lex.Kind.TheVariants as kind
 use Rattle.pv_scl_parse.specs.declared.lex.Token.{Token}
-use Rattle.pv_tree.specs.declared.tree.UnaryOp.TheVariants.{Not}
-use Rattle.pv_tree.specs.declared.tree.BinaryOp.{BinaryOp}
-use Rattle.pv_tree.specs.declared.tree.BinaryOp.TheVariants.{And, Or}
-use Rattle.pv_tree.specs.Tree.{ExprTree, lit, read, unary, binary, paren}
+use Rattle.pv_first.specs.declared.tree.UnaryOp.TheVariants.{Not}
+use Rattle.pv_first.specs.declared.tree.BinaryOp.{BinaryOp}
+use Rattle.pv_first.specs.declared.tree.BinaryOp.TheVariants.{And, Or}
+use Rattle.pv_first.specs.Tree.{ExprTree, lit, read, unary, binary, paren}
 use Rattle.pv_scl_parse.specs.Expressions.{IsTruth, IsSignOf, word_operand, SpellsExpression, IsWellFormed, strength, levels}
 use Rattle.pv_scl_parse.specs.Readers.{FoundExpr, Stops, start_of, started, enclosed, negated, is_sign, chain, readers, factor_in, is_close}
 use Rattle.pv_scl_parse.proofs.Chains.{chain-stops, chain-joins, factor-suc, conjunction-suc, disjunction-suc}

@@ -12,9 +12,9 @@ use Rattle.pv_scl_parse.specs.declared.lex.Kind.TheVariants as kind
 use Rattle.pv_scl_parse.specs.declared.lex.Token.{Token}
 use Rattle.pv_scl_parse.specs.declared.parse.expressions.Start.{Start}
 use Rattle.pv_scl_parse.specs.declared.parse.expressions.Start.TheVariants as start
-use Rattle.pv_tree.specs.declared.tree.BinaryOp.{BinaryOp}
-use Rattle.pv_tree.specs.declared.tree.BinaryOp.TheVariants.{And, Or}
-use Rattle.pv_tree.specs.Tree.{ExprTree, binary}
+use Rattle.pv_first.specs.declared.tree.BinaryOp.{BinaryOp}
+use Rattle.pv_first.specs.declared.tree.BinaryOp.TheVariants.{And, Or}
+use Rattle.pv_first.specs.Tree.{ExprTree, binary}
 use Rattle.pv_scl_parse.specs.Expressions.{SpellsExpression, IsWellFormed, strength_of, strength, levels}
 use Rattle.pv_scl_parse.specs.Readers.{FoundExpr, start_of, started, enclosed, negated, joined, is_sign, chain, readers, factor_in, is_close}
 use Rattle.pv_scl_parse.proofs.Chains.{is_sign_from}

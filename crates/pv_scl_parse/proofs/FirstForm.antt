@@ -5,8 +5,8 @@ use Rattle.std.proofs.lemmas.List.Elements.{All-nil, All-cons, All-append}
 use Rattle.pv_types.specs.declared.declaration.Section.{Section}
 use Rattle.pv_types.specs.declared.declaration.Section.TheVariants.{Input, Output, Static}
 use Rattle.pv_types.specs.Tree.{VarTree}
-use Rattle.pv_tree.specs.Tree.{OperandTree, ExprTree, lit, read, unary, binary, paren, StmtTree, assign, BlockTree}
-use Rattle.pv_tree.specs.FirstForm.{IsFirstSection, IsFirstVar, IsFirstOperand, IsTruth, IsFirstExpr, IsFirstStmt, IsFirstForm}
+use Rattle.pv_first.specs.Tree.{OperandTree, ExprTree, lit, read, unary, binary, paren, StmtTree, assign, BlockTree}
+use Rattle.pv_first.specs.FirstForm.{IsFirstSection, IsFirstVar, IsFirstOperand, IsTruth, IsFirstExpr, IsFirstStmt, IsFirstForm}
 use Rattle.pv_scl_parse.specs.declared.lex.Token.{Token}
 use Rattle.pv_scl_parse.specs.declared.lex.Kind.{Kind}
 use Rattle.pv_scl_parse.specs.Expressions.{word_operand, IsTruth as IsTruthOf, SpellsExpression}

@@ -2,7 +2,7 @@
 use Rattle.std.proofs.Common.{◌≡◌, ℕ, ◌≤◌, List, length, Some, subst}
 use Rattle.pv_scl_parse.specs.declared.lex.Token.{Token}
 use Rattle.pv_types.specs.declared.name.Name.{Name}
-use Rattle.pv_tree.specs.Tree.{ExprTree, BlockTree}
+use Rattle.pv_first.specs.Tree.{ExprTree, BlockTree}
 use Rattle.pv_scl_parse.specs.Reading.{TokensReadBlock, TokensReadExpression, TokensReadName, HasHeaderLine, ReadsBlock, ReadsExpression, ReadsName}
 use Rattle.pv_scl_parse.specs.Tokens.{AreTokens}
 use Rattle.pv_scl_parse.specs.Readers.{whole_block_in, expression_in, whole_name_in}

@@ -11,11 +11,12 @@ use Rattle.pv_scl_parse.specs.declared.words.Word.TheVariants as word
 use Rattle.pv_scl_parse.specs.declared.lex.Kind.{Kind}
 use Rattle.pv_scl_parse.specs.declared.lex.Kind.TheVariants as kind
 use Rattle.pv_scl_parse.specs.declared.lex.Token.{Token}
-use Rattle.pv_tree.specs.declared.tree.BinaryOp.{BinaryOp}
-use Rattle.pv_tree.specs.declared.tree.BinaryOp.TheVariants.{And, Or}
-use Rattle.pv_tree.specs.Tree.{StmtTree, assign}
+use Rattle.pv_first.specs.declared.tree.BinaryOp.{BinaryOp}
+use Rattle.pv_first.specs.declared.tree.BinaryOp.TheVariants.{And, Or}
+use Rattle.pv_first.specs.Tree.{StmtTree, assign}
 use Rattle.pv_scl_parse.specs.Expressions.{word_operand, levels}
-use Rattle.pv_scl_parse.specs.Statements.{SpellsStatement, SpellsStatements, IsWellFormedStatement, statement_levels, most_levels}
+use Rattle.pv_scl_parse.specs.Statements.{SpellsStatement, SpellsStatements, IsWellFormedStatement, statement_levels}
+use Rattle.pv_scl_parse.specs.declared.parse.TheConstants.{MAX_NESTING}
 use Rattle.pv_scl_parse.specs.Readers.{FoundExpr, is_sign, readers, is_word, is_assign, is_semicolon, behind_semicolon, Target, target, assigned, assignment_in, begins_statement, FoundStmt, found_stmt, FoundStmts, found_stmts, with_stmt, statements_in}
 use Rattle.pv_scl_parse.proofs.Chains.{chain-stops}
 use Rattle.pv_scl_parse.proofs.ExpressionsComplete.{reads}
@@ -27,7 +28,7 @@ semicolon_is_no_sign Or = refl
 
 -- the tokens that spell an assignment are read as it
 assignment_read : (text : List ℕ) (stmt : StmtTree) (tokens : List Token) → SpellsStatement text stmt tokens → IsWellFormedStatement stmt
-    → statement_levels stmt ≤ most_levels
+    → statement_levels stmt ≤ MAX_NESTING
     → (rest : List Token) → assignment_in text (tokens ++ rest) ≡ Some (found_stmt stmt rest)
 assignment_read text (assign to place value) tokens (name, sign, inner, ending, split, is, same, at, spelled, ends) formed fits rest =
     let stops : (op : BinaryOp) → is_sign op ending.kind ≡ false = λ op. ap (is_sign op) ends ∙ semicolon_is_no_sign op in
@@ -51,7 +52,7 @@ pub record FoundOne (text : List ℕ) (tokens : List Token) (found : FoundStmt) 
   pub some : 0 < length front
   pub spelled : SpellsStatement text found.stmt front
   pub formed : IsWellFormedStatement found.stmt
-  pub fits : statement_levels found.stmt ≤ most_levels
+  pub fits : statement_levels found.stmt ≤ MAX_NESTING
 
 is_word_from : (k : Kind) → is_word k ≡ true → k ≡ kind.Word word.Plain
 is_word_from (kind.Word word.Plain) e = refl
@@ -162,7 +163,7 @@ word_counts text (assign to place value) tokens (name, sign, inner, ending, spli
 -- the tokens that spell statements are read as them, where no other statement follows
 pub statements_read : (text : List ℕ) (stmts : List StmtTree) (tokens : List Token) → SpellsStatements text stmts tokens
     → AllByRecursion IsWellFormedStatement stmts
-    → AllByRecursion (λ stmt. statement_levels stmt ≤ most_levels) stmts → (rest : List Token) → begins_statement rest ≡ false → (n : ℕ)
+    → AllByRecursion (λ stmt. statement_levels stmt ≤ MAX_NESTING) stmts → (rest : List Token) → begins_statement rest ≡ false → (n : ℕ)
     → length (tokens ++ rest) ≤ n
     → statements_in text n (tokens ++ rest) ≡ Some (found_stmts stmts rest)
 statements_read text [] tokens split formed fits rest stops n bound = ap (λ ts. statements_in text n (ts ++ rest)) split
@@ -188,7 +189,7 @@ pub record FoundAll (text : List ℕ) (tokens : List Token) (found : FoundStmts)
   pub split : tokens ≡ front ++ found.rest
   pub spelled : SpellsStatements text found.stmts front
   pub formed : AllByRecursion IsWellFormedStatement found.stmts
-  pub fits : AllByRecursion (λ stmt. statement_levels stmt ≤ most_levels) found.stmts
+  pub fits : AllByRecursion (λ stmt. statement_levels stmt ≤ MAX_NESTING) found.stmts
 
 no_statement : (text : List ℕ) (tokens : List Token) → FoundAll text tokens (found_stmts [] tokens)
 no_statement text tokens = record { front = []; split = refl; spelled = refl; formed = tt; fits = tt }

@@ -19,17 +19,17 @@ use Rattle.pv_scl_parse.specs.declared.parse.declarations.Stage.{Stage}
 use Rattle.pv_scl_parse.specs.declared.parse.declarations.Stage.TheVariants as stage
 use Rattle.pv_scl_parse.specs.declared.parse.declarations.Step.{Step}
 use Rattle.pv_scl_parse.specs.declared.parse.declarations.Step.TheVariants as step
-use Rattle.pv_tree.specs.declared.tree.BlockKind.TheVariants.{Fb}
-use Rattle.pv_tree.specs.declared.tree.UnaryOp.TheVariants.{Not}
-use Rattle.pv_tree.specs.declared.tree.BinaryOp.{BinaryOp}
-use Rattle.pv_tree.specs.declared.tree.BinaryOp.TheVariants.{And, Or}
+use Rattle.pv_first.specs.declared.tree.BlockKind.TheVariants.{Fb}
+use Rattle.pv_first.specs.declared.tree.UnaryOp.TheVariants.{Not}
+use Rattle.pv_first.specs.declared.tree.BinaryOp.{BinaryOp}
+use Rattle.pv_first.specs.declared.tree.BinaryOp.TheVariants.{And, Or}
 use Rattle.pv_types.specs.declared.declaration.Section.TheVariants.{Input, Output, Static}
 use Rattle.pv_types.specs.Tree.{VarTree}
-use Rattle.pv_tree.specs.Tree.{ExprTree, lit, read, unary, binary, paren, StmtTree, assign, BlockTree}
+use Rattle.pv_first.specs.Tree.{ExprTree, lit, read, unary, binary, paren, StmtTree, assign, BlockTree}
 use Rattle.pv_scl_parse.specs.Expressions.{text_of, plain_name, word_operand}
-use Rattle.pv_scl_parse.specs.Statements.{most_levels}
+use Rattle.pv_scl_parse.specs.declared.parse.TheConstants.{MAX_NESTING, MAX_VARS}
 use Rattle.pv_scl_parse.specs.Declarations.{declared_by}
-use Rattle.pv_scl_parse.specs.Reading.{quoted_name, most_vars, first_place}
+use Rattle.pv_scl_parse.specs.Reading.{quoted_name, first_place}
 
 -- what was answered, seen by `view`, is what was read; want of memory says nothing
 abbrev pub Fails : {Y : Type 0} → ReadFault → Option Y → Type 0
@@ -166,7 +166,7 @@ abbrev pub ended : {X : Type 0} → X → List Token → Option X
 ended x rest = if is_ended rest then Some x else None
 
 abbrev pub expression_in : List ℕ → List Token → Option ExprTree
-expression_in text tokens = option_and_then (λ found. ended found.expr found.rest) ((readers text most_levels).disjunction tokens)
+expression_in text tokens = option_and_then (λ found. ended found.expr found.rest) ((readers text MAX_NESTING).disjunction tokens)
 
 -- whether it is a plain word
 abbrev pub is_word : Kind → Bool
@@ -371,7 +371,7 @@ block_in text (token ∷ tokens) =
     if is_opening token.kind
     then option_and_then (λ place. option_and_then (λ name. option_and_then
     (λ vars. option_and_then (closed place name.name vars.vars) (body_in text (behind_begin vars.rest)))
-    (variables_in text most_vars stage.Outside name.rest)) (name_in text tokens)) (first_place tokens)
+    (variables_in text MAX_VARS stage.Outside name.rest)) (name_in text tokens)) (first_place tokens)
     else None
 
 -- the name that all the tokens are

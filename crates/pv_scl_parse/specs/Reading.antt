@@ -8,21 +8,15 @@ use Rattle.pv_scl_parse.specs.declared.words.Word.TheVariants as word
 use Rattle.pv_scl_parse.specs.declared.lex.Kind.{Kind}
 use Rattle.pv_scl_parse.specs.declared.lex.Kind.TheVariants as kind
 use Rattle.pv_scl_parse.specs.declared.lex.Token.{Token}
-use Rattle.pv_tree.specs.declared.tree.BlockKind.TheVariants.{Fb}
-use Rattle.pv_tree.specs.Tree.{ExprTree, BlockTree}
+use Rattle.pv_scl_parse.specs.declared.lex.TheConstants.{MAX_SOURCE}
+use Rattle.pv_scl_parse.specs.declared.parse.TheConstants.{MAX_NESTING, MAX_VARS}
+use Rattle.pv_first.specs.declared.tree.BlockKind.TheVariants.{Fb}
+use Rattle.pv_first.specs.Tree.{ExprTree, BlockTree}
 use Rattle.pv_scl_parse.specs.Expressions.{text_of, plain_name, SpellsExpression, IsWellFormed, levels}
-use Rattle.pv_scl_parse.specs.Statements.{SpellsStatements, IsWellFormedStatement, statement_levels, most_levels}
+use Rattle.pv_scl_parse.specs.Statements.{SpellsStatements, IsWellFormedStatement, statement_levels}
 use Rattle.pv_scl_parse.specs.Declarations.{SpellsVariables}
 use Rattle.pv_scl_parse.specs.Tokens.{AreTokens}
 use Rattle.pv_scl_parse.specs.Words.{is_header_word}
-
--- the most bytes that a source has
-abbrev pub most_bytes : ℕ
-most_bytes = 4194304
-
--- the most variables that a block declares
-abbrev pub most_vars : ℕ
-most_vars = 20000
 
 -- the bytes between a quoted name's quotes
 abbrev pub between_quotes : List ℕ → List ℕ
@@ -74,8 +68,8 @@ pub record SpellsBlock (text : List ℕ) (block : BlockTree) (tokens : List Toke
 -- the block's expressions are well formed, and it keeps the limits on nesting and on the number of variables
 pub record IsWellFormedBlock (block : BlockTree) : Type 0 where
   pub well_formed : AllByRecursion IsWellFormedStatement block.body
-  pub nesting : AllByRecursion (λ statement. statement_levels statement ≤ most_levels) block.body
-  pub few : length block.vars ≤ most_vars
+  pub nesting : AllByRecursion (λ statement. statement_levels statement ≤ MAX_NESTING) block.body
+  pub few : length block.vars ≤ MAX_VARS
 
 -- a word with which a section or the body begins; a block with any other section has no tree today
 abbrev pub EndsHead : Kind → Type 0
@@ -124,7 +118,7 @@ pub record TokensReadExpression (text : List ℕ) (tokens : List Token) (expr : 
   pub ends : ending.kind ≡ kind.End
   pub spelled : SpellsExpression text expr inner
   pub well_formed : IsWellFormed expr
-  pub nesting : levels expr ≤ most_levels
+  pub nesting : levels expr ≤ MAX_NESTING
 
 -- the tokens of a text, ended by End, read as this name
 pub record TokensReadName (text : List ℕ) (tokens : List Token) (name : Name) : Type 0 where
@@ -136,21 +130,21 @@ pub record TokensReadName (text : List ℕ) (tokens : List Token) (name : Name) 
 
 -- the text of this file reads as the block
 pub record ReadsBlock (file : ℕ) (text : List ℕ) (block : BlockTree) : Type 0 where
-  pub size : length text ≤ most_bytes
+  pub size : length text ≤ MAX_SOURCE
   pub tokens : List Token
   pub cut : AreTokens file text tokens
   pub read : TokensReadBlock text tokens block
 
 -- the text of this file reads as the expression
 pub record ReadsExpression (file : ℕ) (text : List ℕ) (expr : ExprTree) : Type 0 where
-  pub size : length text ≤ most_bytes
+  pub size : length text ≤ MAX_SOURCE
   pub tokens : List Token
   pub cut : AreTokens file text tokens
   pub read : TokensReadExpression text tokens expr
 
 -- the text reads as the name of a block
 pub record ReadsName (text : List ℕ) (name : Name) : Type 0 where
-  pub size : length text ≤ most_bytes
+  pub size : length text ≤ MAX_SOURCE
   pub tokens : List Token
   pub cut : AreTokens 0 text tokens
   pub read : TokensReadName text tokens name

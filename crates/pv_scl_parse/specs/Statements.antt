@@ -3,7 +3,7 @@ use Rattle.std.specs.Prelude.{◌≡◌, ℕ, ◌+◌, List, [], ◌∷◌, ◌+
 use Rattle.pv_scl_parse.specs.declared.words.Word.TheVariants as word
 use Rattle.pv_scl_parse.specs.declared.lex.Kind.TheVariants as kind
 use Rattle.pv_scl_parse.specs.declared.lex.Token.{Token}
-use Rattle.pv_tree.specs.Tree.{StmtTree, assign}
+use Rattle.pv_first.specs.Tree.{StmtTree, assign}
 use Rattle.pv_scl_parse.specs.Expressions.{IsAt, word_operand, SpellsExpression, IsWellFormed, levels}
 
 -- the tokens spell the statement, with the `;` behind it
@@ -27,7 +27,3 @@ IsWellFormedStatement (assign target place value) = IsWellFormed value
 -- the statements and expressions on the longest way down, an assignment's target being none
 abbrev pub statement_levels : StmtTree → ℕ
 statement_levels (assign target place value) = levels value + 1
-
--- the most levels that a tree has
-abbrev pub most_levels : ℕ
-most_levels = 64

@@ -2,8 +2,8 @@
 ghost use Rattle.std.specs.Prelude.{◌≡◌, ℕ, List, [], ◌∷◌, ◌++◌, length, All};
 ghost use Rattle.pv_scl_parse.specs.declared.lex.Token.{Token};
 ghost use Rattle.pv_types.specs.declared.name.Name.{Name};
-ghost use Rattle.pv_tree.specs.Tree.{ExprTree, BlockTree};
-ghost use Rattle.pv_tree.specs.FirstForm.{IsFirstForm, IsFirstExpr};
+ghost use Rattle.pv_first.specs.Tree.{ExprTree, BlockTree};
+ghost use Rattle.pv_first.specs.FirstForm.{IsFirstForm, IsFirstExpr};
 ghost use Rattle.pv_scl_parse.specs.Declarations.{IsNamedByWord};
 ghost use Rattle.pv_scl_parse.specs.Reading.{ReadsBlock, ReadsExpression, ReadsName};
 ghost use Rattle.pv_scl_parse.specs.declared.lex.Kind.TheVariants.{End};

@@ -2,7 +2,7 @@
 ghost use Rattle.std.specs.Prelude.{◌≡◌, ◌≤◌, IfOk, IfErr, vec_len};
 ghost use Rattle.pv_scl_parse.specs.declared.fault.ReadFault.TheVariants.{NotOfForm};
 ghost use Rattle.pv_types.specs.declared.name.Name.{Name};
-ghost use Rattle.pv_tree.specs.Tree.{ExprTree, BlockTree, expr_tree, block_tree};
+ghost use Rattle.pv_first.specs.Tree.{ExprTree, BlockTree, expr_tree, block_tree};
 ghost use Rattle.pv_scl_parse.specs.Reading.{ReadsBlock, ReadsExpression, ReadsName};
 ghost use Rattle.pv_scl_parse.specs.Readers.{Gives, is_ended, whole_block_in, expression_in, whole_name_in};
 
@@ -20,15 +20,15 @@ use block::block;
 use expressions::disjunction;
 use head::has_header_line;
 use names::block_name;
-use pv_tree::{Block, Expr};
+use pv_first::{Block, Expr};
 use pv_types::Name;
 use std::alloc::Global;
 
 /// The most levels of statements, expressions and types on the way down a tree.
-const MAX_NESTING: u32 = 64;
+pub const MAX_NESTING: u32 = 64;
 
 /// The most variables that a block declares.
-const MAX_VARS: usize = 20_000;
+pub const MAX_VARS: usize = 20_000;
 
 /// Reads a source of one function block. `file` is the source's number.
 ///

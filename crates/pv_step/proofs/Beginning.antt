@@ -1,24 +1,23 @@
 -- The nodes before a scan, one by one, and the literals with which it begins.
 use Rattle.std.proofs.Common.{◌≡◌, ◌+◌, ◌<◌, ◌≤◌, ℕ, zero, suc, ℤ, pos, List, [], ◌∷◌, ◌++◌, length, map, refl, sym, ◌∙◌, ap, subst}
 use Rattle.std.proofs.Common.{arith}
-use Rattle.std.proofs.Common.{Bool, true, false, cond, not, take, get_or, length-take-le, to_z, of_z, w32}
+use Rattle.std.proofs.Common.{Bool, true, false, cond, not, take, to_z, of_z, w32}
 use Rattle.std.proofs.Common.{Some}
 use Rattle.std.specs.List.{count_by, range_with_len, slice_get}
 use Rattle.std.proofs.lemmas.Int.{to_z-of_z}
-use Rattle.std.proofs.lemmas.List.{take_more}
-use Rattle.std.proofs.lemmas.List.Sums.{sum_by_push, sum_by-append, count_by-le-length}
+use Rattle.std.proofs.lemmas.List.Sums.{sum_by_push}
 use Rattle.std.proofs.lemmas.List.FromFn.{map-range_with_len_more, length-map-range_with_len, get_or-map-range_with_len}
 use Rattle.std.proofs.lemmas.Option.{slice_get-get_or}
 use mir.Val.{SFits}
 use Rattle.pv_gate.specs.declared.netlist.Node.{Node}
 use Rattle.pv_gate.specs.declared.netlist.Node.TheVariants.{True, Input}
-use Rattle.pv_gate.specs.Node.{is_gate, is_input, gate_count, input_count, false_literal}
+use Rattle.pv_gate.specs.Node.{is_gate, is_input, gate_count, input_count}
 use Rattle.pv_gate.specs.Netlist.{Netlist, IsNetlist, MayFollow}
+use Rattle.pv_gate.specs.Build.{input_gate}
 use Rattle.pv_gate.specs.Value.{value_of, node_values, literal_value}
 use Rattle.pv_gate.proofs.ForCallers.{IsNetlist-push, node_values_at}
 use Rattle.pv_bool.specs.declared.program.Bit.{Bit}
-use Rattle.pv_step.specs.Wiring.{next_net, next_literal}
-use Rattle.pv_step.specs.Circuits.{is_given, given_count, begin_nodes, begin_from, begin_literals}
+use Rattle.pv_step.specs.Circuits.{begin_nodes, input_literals, begin_literals}
 
 begin_nodes-more : (n : ℕ) → begin_nodes (n + 1) ≡ begin_nodes n ++ Input n ∷ []
 begin_nodes-more n = ap (λ (ns : List Node). True ∷ ns) (map-range_with_len_more (λ i. Input i) 0 n n (omega arith))
@@ -74,89 +73,31 @@ begin_value inputs n k lt =
 
 -- ---- the literals
 
-pub length-begin_from : (m : ℕ) (bits : List Bit) → length (begin_from m bits) ≡ length bits
-length-begin_from m [] = refl
-length-begin_from m (b ∷ bs) = by (is_given b.role) (length-begin_from (m + 1) bs) (length-begin_from m bs)
-  where
-    by : (t : Bool) → length (begin_from (m + 1) bs) ≡ length bs → length (begin_from m bs) ≡ length bs
-        → length (cond t (pos (2 + m) ∷ begin_from (m + 1) bs) (false_literal ∷ begin_from m bs)) ≡ suc (length bs)
-    by true h k = ap suc h
-    by false h k = ap suc k
+pub length-begin_literals : (bits : List Bit) → length (begin_literals bits) ≡ length bits
+length-begin_literals bits = length-map-range_with_len {X = ℤ} (λ i. pos (2 + i)) 0 (length bits)
 
-pub given_count-cons : (b : Bit) (bs : List Bit) → given_count (b ∷ bs) ≡ cond (is_given b.role) 1 0 + given_count bs
-given_count-cons b bs = sum_by_front
-  where
-    sum_by_front : given_count (b ∷ bs) ≡ cond (is_given b.role) 1 0 + given_count bs
-    sum_by_front = omega (arith, sum_by-append (λ (x : Bit). cond (is_given x.role) 1 0) (b ∷ []) bs)
-
-given_count-push : (bits : List Bit) (b : Bit) → given_count (bits ++ b ∷ []) ≡ given_count bits + cond (is_given b.role) 1 0
-given_count-push bits b = sum_by_push (λ (x : Bit). cond (is_given x.role) 1 0) bits b
-
-begin_from-push : (m : ℕ) (bits : List Bit) (b : Bit) → begin_from m (bits ++ b ∷ [])
-    ≡ begin_from m bits ++ cond (is_given b.role) (pos (2 + (m + given_count bits))) false_literal ∷ []
-begin_from-push m [] b = by (is_given b.role)
-  where
-    by : (t : Bool) → cond t (pos (2 + m) ∷ []) (false_literal ∷ []) ≡ cond t (pos (2 + (m + given_count []))) false_literal ∷ []
-    by true = let e : 2 + m ≡ 2 + (m + 0) = omega arith in ap (λ n. pos n ∷ []) e
-    by false = refl
-begin_from-push m (c ∷ bits) b = by (is_given c.role) (begin_from-push (m + 1) bits b) (begin_from-push m bits b) (given_count-cons c bits)
-  where
-    by : (t : Bool) → begin_from (m + 1) (bits ++ b ∷ []) ≡ begin_from (m + 1) bits ++ cond (is_given b.role)
-        (pos (2 + (m + 1 + given_count bits))) false_literal ∷ []
-        → begin_from m (bits ++ b ∷ []) ≡ begin_from m bits ++ cond (is_given b.role) (pos (2 + (m + given_count bits))) false_literal ∷ []
-        → given_count (c ∷ bits) ≡ cond t 1 0 + given_count bits
-        → cond t (pos (2 + m) ∷ begin_from (m + 1) (bits ++ b ∷ [])) (false_literal ∷ begin_from m (bits ++ b ∷ []))
-        ≡ cond t (pos (2 + m) ∷ begin_from (m + 1) bits) (false_literal ∷ begin_from m bits) ++ cond (is_given b.role)
-        (pos (2 + (m + given_count (c ∷ bits)))) false_literal ∷ []
-    by true h k n =
-        let e : m + 1 + given_count bits ≡ m + given_count (c ∷ bits) = omega arith in
-        ap (λ ls. pos (2 + m) ∷ ls) (h ∙ ap (λ i. begin_from (m + 1) bits ++ cond (is_given b.role) (pos (2 + i)) false_literal ∷ []) e)
-    by false h k n =
-        let e : m + given_count bits ≡ m + given_count (c ∷ bits) = omega arith in
-        ap (λ ls. false_literal ∷ ls) (k ∙ ap (λ i. begin_from m bits ++ cond (is_given b.role) (pos (2 + i)) false_literal ∷ []) e)
+input_literals-more : (n : ℕ) → input_literals 0 (n + 1) ≡ input_literals 0 n ++ pos (2 + n) ∷ []
+input_literals-more n = map-range_with_len_more (λ i. pos (2 + i)) 0 n n (omega arith)
 
 -- ---- the loop that makes them
 
-module _ (bits : List Bit) (k : ℕ) (d : Bit) (lt : k < length bits) where
-  abbrev b : Bit
-  b = get_or bits k d
+-- the nodes behind one more input
+pub next_nodes : (k : ℕ) (old before after : Netlist) → before ≡ record old { nodes = begin_nodes k }
+    → after ≡ record before { nodes = (input_gate before.nodes).nodes } → after ≡ record old { nodes = begin_nodes (k + 1) }
+next_nodes k old before after at made =
+    let of : List Node → Netlist = λ ns. record old { nodes = ns } in
+    let one : Netlist → Netlist = λ g. record g { nodes = (input_gate g.nodes).nodes } in
+    let named : ℕ → Netlist = λ i. of (begin_nodes k ++ Input i ∷ []) in
+    made ∙ (ap one at ∙ (ap named (input_count-begin k) ∙ ap of (sym (begin_nodes-more k))))
 
-  front : take (k + 1) bits ≡ take k bits ++ b ∷ []
-  front = take_more bits k d lt
-
-  next_count : given_count (take (k + 1) bits) ≡ given_count (take k bits) + cond (is_given b.role) 1 0
-  next_count = ap given_count front ∙ given_count-push (take k bits) b
-
-  pub next_nodes : (limit : ℕ) (old new : Netlist) → old ≡ record { nodes = begin_nodes (given_count (take k bits)); limit = limit }
-      → new ≡ next_net (is_given b.role) old
-      → new ≡ record { nodes = begin_nodes (given_count (take (k + 1) bits)); limit = limit }
-  next_nodes limit old new at made = made ∙ (ap (next_net (is_given b.role)) at ∙ (by (is_given b.role) ∙ ap of (sym next_count)))
-    where
-      of : ℕ → Netlist
-      of i = record { nodes = begin_nodes i; limit = limit }
-
-      by : (t : Bool) → next_net t (record { nodes = begin_nodes (given_count (take k bits)); limit = limit })
-          ≡ record { nodes = begin_nodes (given_count (take k bits) + cond t 1 0); limit = limit }
-      by true =
-          let named : ℕ → Netlist = λ i. record { nodes = begin_nodes (given_count (take k bits)) ++ Input i ∷ []; limit = limit } in
-          let with : List Node → Netlist = λ ns. record { nodes = ns; limit = limit } in
-          ap named (input_count-begin (given_count (take k bits))) ∙ ap with (sym (begin_nodes-more (given_count (take k bits))))
-      by false = let e : given_count (take k bits) ≡ given_count (take k bits) + 0 = omega arith in ap
-          (λ i. let at : Netlist = record { nodes = begin_nodes i; limit = limit } in at) e
-
-  pub next_literals : (limit : ℕ) (old : Netlist) (before after : List ℤ) (literal : ℤ)
-      → old ≡ record { nodes = begin_nodes (given_count (take k bits)); limit = limit } → before ≡ begin_literals (take k bits)
-      → literal ≡ next_literal (is_given b.role) old → after ≡ before ++ literal ∷ [] → after ≡ begin_literals (take (k + 1) bits)
-  next_literals limit old before after literal at so_far made grown =
-      grown ∙ (ap (λ ls. ls ++ literal ∷ []) so_far ∙ (ap (λ l. begin_literals (take k bits) ++ l ∷ [])
-      (made ∙ (ap (next_literal (is_given b.role)) at ∙ by (is_given b.role)))
-      ∙ (sym (begin_from-push 0 (take k bits) b) ∙ ap begin_literals (sym front))))
-    where
-      by : (t : Bool) → next_literal t (record { nodes = begin_nodes (given_count (take k bits)); limit = limit })
-          ≡ cond t (pos (2 + (0 + given_count (take k bits)))) false_literal
-      by true = let e : suc (length (begin_nodes (given_count (take k bits))))
-          ≡ 2 + (0 + given_count (take k bits)) = omega (arith, length-begin_nodes (given_count (take k bits))) in ap pos e
-      by false = refl
+-- and its literal behind the others
+pub next_literals : (k : ℕ) (old gates : Netlist) (before after : List ℤ) (literal : ℤ) → gates ≡ record old { nodes = begin_nodes k }
+    → before ≡ input_literals 0 k → literal ≡ (input_gate gates.nodes).literal → after ≡ before ++ literal ∷ []
+    → after ≡ input_literals 0 (k + 1)
+next_literals k old gates before after literal at so_far made grown =
+    let e : suc (length (begin_nodes k)) ≡ 2 + k = omega (arith, length-begin_nodes k) in
+    let is : literal ≡ pos (2 + k) = made ∙ (ap (λ (g : Netlist). (input_gate g.nodes).literal) at ∙ ap pos e) in
+    grown ∙ (ap (λ ls. ls ++ literal ∷ []) so_far ∙ (ap (λ l. input_literals 0 k ++ l ∷ []) is ∙ sym (input_literals-more k)))
 
 -- a list after a push of a signed number
 pub pushed : (xs ys : List ℤ) (ok err : Bool) (z : ℤ) → ys ≡ cond ok (xs ++ to_z w32 (of_z w32 z) ∷ []) xs → ok ≡ not err → err ≡ false
@@ -166,15 +107,6 @@ pushed xs ys ok err z e f h fits =
     e ∙ (ap grown (f ∙ ap not h) ∙ ap (λ l. xs ++ l ∷ []) (to_z-of_z w32 z fits))
 
 -- there is room for another input
-pub room : (bits : List Bit) (k limit most : ℕ) (old : Netlist) → old
-    ≡ record { nodes = begin_nodes (given_count (take k bits)); limit = limit } → k < length bits → length bits ≤ most
-    → input_count old.nodes < most
-room bits k limit most old at lt few =
-    omega (
-      arith,
-      ap (λ (g : Netlist). input_count g.nodes) at,
-      input_count-begin (given_count (take k bits)),
-      count_by-le-length
-          (λ (b : Bit). is_given b.role) (take k bits),
-      length-take-le k bits (omega arith),
-    )
+pub room : (k n most : ℕ) (old gates : Netlist) → gates ≡ record old { nodes = begin_nodes k } → k < n → n ≤ most
+    → input_count gates.nodes < most
+room k n most old gates at lt few = omega (arith, ap (λ (g : Netlist). input_count g.nodes) at, input_count-begin k)

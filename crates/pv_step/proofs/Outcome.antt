@@ -9,7 +9,6 @@ use Rattle.std.specs.Ordering.{int_eq}
 use Rattle.std.proofs.lemmas.Int.{to_z-of_z}
 use Rattle.std.proofs.lemmas.Bool.{or_cases}
 use Rattle.std.proofs.lemmas.List.{length-set}
-use Rattle.std.proofs.lemmas.List.Sums.{count_by-le-length}
 use mir.Val.{SFits}
 use Rattle.pv_gate.specs.declared.fault.GateFault.{GateFault}
 use Rattle.pv_gate.specs.declared.fault.GateFault.TheVariants.{Limit}
@@ -21,7 +20,7 @@ use Rattle.pv_gate.proofs.ForCallers.{int_eq-true}
 use Rattle.pv_bool.specs.declared.program.Bit.{Bit}
 use Rattle.pv_bool.specs.Tree.{AssignmentTree, ProgramTree}
 use Rattle.pv_step.specs.declared.made.StepCircuit.{StepCircuit}
-use Rattle.pv_step.specs.Circuits.{Circuit, Literals, Wires, is_given, given_count, stored_literals, taken_literals, begin_literals}
+use Rattle.pv_step.specs.Circuits.{Circuit, Literals, Wires, kept_literals, taken_literals, begin_literals}
 use Rattle.pv_step.specs.Circuits.{term_gate, assign_gate, body_gates, scan_gate, with_made}
 use Rattle.pv_step.specs.Circuits.{trap_literal, over_literal, done_literal, fail_gate, ok_gate, begin_nodes, begin_wires, end_wires}
 use Rattle.pv_step.specs.Circuits.{holds_gate, outcome, judged, circuit_of}
@@ -71,7 +70,7 @@ circuit_is program =
     (ok_folds p.nodes p.literal)
 
 -- the nodes of the requirement are those of the beginning and gates
-pub grows_circuit : (program : ProgramTree) → Grows (begin_nodes (given_count program.bits)) (holds_gate program).nodes
+pub grows_circuit : (program : ProgramTree) → Grows (begin_nodes (length program.bits)) (holds_gate program).nodes
 grows_circuit program =
     grows_twice (begin_wires program.bits).nodes (end_wires program).nodes (holds_gate program).nodes
     (grows_body program.body (begin_wires program.bits)) (grows_term (end_wires program).literals (end_wires program).nodes program.holds)
@@ -83,7 +82,7 @@ gates-circuit program = ap (λ (c : Circuit). gate_count c.nodes) (circuit_is pr
 pub nodes-circuit : (program : ProgramTree) → length (circuit_of program).nodes ≤ 1 + length program.bits + gate_count
     (circuit_of program).nodes
 nodes-circuit program =
-    let n = given_count program.bits in
+    let n = length program.bits in
     omega (
       arith,
       ap (λ (c : Circuit). length c.nodes) (circuit_is program),
@@ -91,7 +90,6 @@ nodes-circuit program =
       others-grows (begin_nodes n) (holds_gate program).nodes (grows_circuit program),
       length-begin_nodes n,
       gate_count-begin n,
-      count_by-le-length (λ (b : Bit). is_given b.role) program.bits,
     )
 
 -- the assignments leave as many literals
@@ -104,12 +102,12 @@ length-body (a ∷ body) w =
 -- ---- in the terms of the code
 
 -- the wires before the assignments
-pub begins : (bits : List Bit) (old gates : Netlist) (literals : List ℤ) → gates ≡ record old { nodes = begin_nodes (given_count bits) }
+pub begins : (bits : List Bit) (old gates : Netlist) (literals : List ℤ) → gates ≡ record old { nodes = begin_nodes (length bits) }
     → literals ≡ begin_literals bits
     → ◌≡◌ {A = Wires} (record { nodes = gates.nodes; literals = literals }) (begin_wires bits)
 begins bits old gates literals made begin =
     let at : List Node → List ℤ → Wires = λ ns ls. record { nodes = ns; literals = ls } in
-    ap (λ (g : Netlist). at g.nodes literals) made ∙ ap (at (begin_nodes (given_count bits))) begin
+    ap (λ (g : Netlist). at g.nodes literals) made ∙ ap (at (begin_nodes (length bits))) begin
 
 -- what a scan has made, before its outcome is judged
 pub record Scanned (program : ProgramTree) (limit : ℕ) (begin end : List ℤ) (gates : Netlist) (ok : ℤ) : Type 0 where
@@ -119,7 +117,7 @@ pub record Scanned (program : ProgramTree) (limit : ℕ) (begin end : List ℤ) 
   pub ok_is : ok ≡ (holds_gate program).literal
 
 pub scanned : (program : ProgramTree) (old gates last : Netlist) (begin copy end : List ℤ) (ok : ℤ)
-    → gates ≡ record old { nodes = begin_nodes (given_count program.bits) } → begin ≡ begin_literals program.bits → copy ≡ begin
+    → gates ≡ record old { nodes = begin_nodes (length program.bits) } → begin ≡ begin_literals program.bits → copy ≡ begin
     → end ≡ (body_gates program.body (record { nodes = gates.nodes; literals = copy })).literals
     → Gives gates last (scan_gate program.body (record { nodes = gates.nodes; literals = copy }) program.holds) (Ok ok)
     → Scanned program old.limit begin end last ok
@@ -138,25 +136,25 @@ scanned program old gates last begin copy end ok made begin_are copied ended giv
 
 is_step_circuit : (program : ProgramTree) (limit : ℕ) (begin end : List ℤ) (gates : Netlist) (ok : ℤ) (made : StepCircuit)
     → Scanned program limit begin end gates ok → made.gates ≡ gates
-    → made.state_in.items ≡ stored_literals program.bits begin → made.input.items ≡ taken_literals program.bits begin
-    → made.state_out.items ≡ stored_literals program.bits end → made.ok ≡ ok → made.fail ≡ neg_ℤ ok
+    → made.state_in.items ≡ kept_literals program.bits begin → made.input.items ≡ taken_literals program.bits begin
+    → made.state_out.items ≡ kept_literals program.bits end → made.ok ≡ ok → made.fail ≡ neg_ℤ ok
     → IsStepCircuit (circuit_of program) limit made
 is_step_circuit program limit begin end gates ok made scan gates_are state_in input state_out ok_is fail =
     let P : Circuit → Type 0 = λ c. IsStepCircuit c limit made in
     subst P (sym (circuit_is program)) (record {
       gates = gates_are ∙ scan.gates_are;
-      state_in = state_in ∙ ap (stored_literals program.bits) scan.begin_is;
+      state_in = state_in ∙ ap (kept_literals program.bits) scan.begin_is;
       input = input ∙ ap (taken_literals program.bits) scan.begin_is;
-      state_out = state_out ∙ ap (stored_literals program.bits) scan.end_is;
+      state_out = state_out ∙ ap (kept_literals program.bits) scan.end_is;
       ok = ok_is ∙ scan.ok_is;
       fail = fail ∙ ap neg_ℤ scan.ok_is;
     })
 
 pub judged_is : (program : ProgramTree) (limit : ℕ) (begin end : List ℤ) (gates : Netlist) (ok : ℤ)
     (result : Result StepCircuit GateFault) → Scanned program limit begin end gates ok → IfOk result (λ c. c.gates ≡ gates)
-    → IfOk result (λ c. c.state_in.items ≡ stored_literals program.bits begin)
+    → IfOk result (λ c. c.state_in.items ≡ kept_literals program.bits begin)
     → IfOk result (λ c. c.input.items ≡ taken_literals program.bits begin)
-    → IfOk result (λ c. c.state_out.items ≡ stored_literals program.bits end)
+    → IfOk result (λ c. c.state_out.items ≡ kept_literals program.bits end)
     → IfOk result (λ c. c.ok ≡ ok) → IfOk result (λ c. c.fail ≡ neg_ℤ ok) → IfOk result (λ c. IsStepCircuit (circuit_of program) limit c)
 judged_is program limit begin end gates ok (Ok c) scan a b d e f g = is_step_circuit program limit begin end gates ok c scan a b d e f g
 judged_is program limit begin end gates ok (Err fault) scan a b d e f g = tt
@@ -174,7 +172,7 @@ within-scanned program limit begin end gates ok scan within =
 
 -- a scan that goes beyond the limit is a circuit that does
 pub beyond_circuit : (program : ProgramTree) (old gates last : Netlist) (copy : List ℤ)
-    → gates ≡ record old { nodes = begin_nodes (given_count program.bits) } → copy ≡ begin_literals program.bits → (fault : GateFault)
+    → gates ≡ record old { nodes = begin_nodes (length program.bits) } → copy ≡ begin_literals program.bits → (fault : GateFault)
     → Gives gates last (scan_gate program.body (record { nodes = gates.nodes; literals = copy }) program.holds) (Err fault)
     → fault ≡ Limit → old.limit < gate_count (circuit_of program).nodes
 beyond_circuit program old gates last copy made begin_are fault gives is =

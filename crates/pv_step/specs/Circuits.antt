@@ -1,14 +1,14 @@
 -- The step circuit of a Boolean program: the gates of one scan. One literal stands beside each bit, as one value does in a frame.
-use Rattle.std.specs.Prelude.{ℕ, ◌+◌, ℤ, pos, neg_ℤ, Bool, true, false, ◌||◌, List, [], ◌∷◌, map, count_by}
+use Rattle.std.specs.Prelude.{ℕ, ◌+◌, ℤ, pos, neg_ℤ, Bool, true, false, List, [], ◌∷◌, length, map}
 use Rattle.std.specs.Prelude.{slice_index_or, slice_set, if◌then◌else◌}
 use Rattle.std.specs.List.{range_with_len}
-use Rattle.pv_machine.specs.declared.role.Role.{Role}
-use Rattle.pv_machine.specs.Roles.{is_input, is_stored}
 use Rattle.pv_gate.specs.declared.netlist.Node.{Node}
 use Rattle.pv_gate.specs.declared.netlist.Node.TheVariants.{True, Input}
 use Rattle.pv_gate.specs.Node.{true_literal, false_literal}
 use Rattle.pv_gate.specs.Build.{Made, present, complemented, and_gate, or_gate}
+use Rattle.pv_bool.specs.declared.program.BitRole.{BitRole}
 use Rattle.pv_bool.specs.declared.program.Bit.{Bit}
+use Rattle.pv_bool.specs.Roles.{is_input, is_kept}
 use Rattle.pv_bool.specs.Tree.{TermTree, constant, load, negation, conjunction, disjunction, AssignmentTree, ProgramTree}
 
 -- the literals of all bits, in their order
@@ -16,14 +16,6 @@ abbrev pub Literals : Type 0
 Literals = List ℤ
 
 -- ---- the beginning
-
--- a state or an input has a value for the bit; other bits begin each scan as false
-abbrev pub is_given : Role → Bool
-is_given role = is_input role || is_stored role
-
--- how many of the bits are given
-abbrev pub given_count : List Bit → ℕ
-given_count bits = count_by (λ b. is_given b.role) bits
 
 -- the nodes before the scan: constant true, and n inputs
 abbrev pub begin_nodes : ℕ → List Node
@@ -33,13 +25,9 @@ begin_nodes n = True ∷ map (λ i. Input i) (range_with_len 0 n)
 abbrev pub input_literals : ℕ → ℕ → Literals
 input_literals m n = map (λ i. pos (2 + i)) (range_with_len m n)
 
--- the literals with which the scan begins, where m inputs were taken before: each given bit takes the next input, others are false
-abbrev pub begin_from : ℕ → List Bit → Literals
-begin_from m [] = []
-begin_from m (b ∷ bs) = if is_given b.role then pos (2 + m) ∷ begin_from (m + 1) bs else false_literal ∷ begin_from m bs
-
+-- the literals with which the scan begins: each bit takes the next input
 abbrev pub begin_literals : List Bit → Literals
-begin_literals bits = begin_from 0 bits
+begin_literals bits = input_literals 0 (length bits)
 
 -- ---- the literals of some bits
 
@@ -52,14 +40,14 @@ other_literals [] = []
 other_literals (l ∷ ls) = ls
 
 -- those of the bits whose role passes
-abbrev pub picked : (Role → Bool) → List Bit → Literals → Literals
+abbrev pub picked : (BitRole → Bool) → List Bit → Literals → Literals
 picked test [] ls = []
 picked test (b ∷ bs) ls =
     if test b.role then first_literal ls ∷ picked test bs (other_literals ls) else picked test bs (other_literals ls)
 
--- those of the stored bits
-abbrev pub stored_literals : List Bit → Literals → Literals
-stored_literals bits ls = picked is_stored bits ls
+-- those of the kept bits
+abbrev pub kept_literals : List Bit → Literals → Literals
+kept_literals bits ls = picked is_kept bits ls
 
 -- those of the input bits
 abbrev pub taken_literals : List Bit → Literals → Literals
@@ -134,11 +122,11 @@ ok_gate nodes fail = and_gate nodes done_literal (neg_ℤ fail)
 -- a step circuit, as a list of nodes and the literals that stand for a scan's begin, end and outcome
 pub record Circuit : Type 0 where
   pub nodes : List Node
-  -- of the stored bits at the beginning
+  -- of the kept bits at the beginning
   pub state_in : Literals
   -- of the input bits
   pub input : Literals
-  -- of the stored bits at the end
+  -- of the kept bits at the end
   pub state_out : Literals
   pub ok : ℤ
   pub fail : ℤ
@@ -149,7 +137,7 @@ circuit_with nodes state_in input state_out ok fail =
     record { nodes = nodes; state_in = state_in; input = input; state_out = state_out; ok = ok; fail = fail }
 
 abbrev pub begin_wires : List Bit → Wires
-begin_wires bits = record { nodes = begin_nodes (given_count bits); literals = begin_literals bits }
+begin_wires bits = record { nodes = begin_nodes (length bits); literals = begin_literals bits }
 
 abbrev pub end_wires : ProgramTree → Wires
 end_wires program = body_gates program.body (begin_wires program.bits)
@@ -161,9 +149,9 @@ holds_gate program = scan_gate program.body (begin_wires program.bits) program.h
 abbrev pub outcome : ProgramTree → Made → Made → Circuit
 outcome program fail ok = record {
   nodes = ok.nodes;
-  state_in = stored_literals program.bits (begin_wires program.bits).literals;
+  state_in = kept_literals program.bits (begin_wires program.bits).literals;
   input = taken_literals program.bits (begin_wires program.bits).literals;
-  state_out = stored_literals program.bits (end_wires program).literals;
+  state_out = kept_literals program.bits (end_wires program).literals;
   ok = ok.literal;
   fail = fail.literal;
 }

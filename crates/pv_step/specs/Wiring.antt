@@ -1,10 +1,9 @@
 -- What a private call gives that makes a part of a circuit. No public clause cites this.
-use Rattle.std.specs.Prelude.{◌≡◌, ℤ, Bool, Result, Err, IfOk, OnOk, if◌then◌else◌}
+use Rattle.std.specs.Prelude.{◌≡◌, ℤ, Result, Err, IfOk, OnOk}
 use Rattle.pv_gate.specs.declared.fault.GateFault.{GateFault}
 use Rattle.pv_gate.specs.declared.fault.GateFault.TheVariants.{Limit}
 use Rattle.pv_gate.specs.Netlist.{Netlist}
-use Rattle.pv_gate.specs.Node.{false_literal}
-use Rattle.pv_gate.specs.Build.{Made, IsBeyond, input_gate}
+use Rattle.pv_gate.specs.Build.{Made, IsBeyond}
 use Rattle.pv_step.specs.Circuits.{Literals, Wires}
 
 -- the nodes and the literals that there are
@@ -16,10 +15,3 @@ pub record Gives (old new : Netlist) (made : Made) (result : Result ℤ GateFaul
   pub literal : IfOk result (λ literal. literal ≡ made.literal)
   pub nodes : OnOk result (new ≡ record old { nodes = made.nodes })
   pub limit : result ≡ Err Limit → IsBeyond old made
-
--- what is there behind the beginning of a bit that is given, or isn't, and its literal
-abbrev pub next_net : Bool → Netlist → Netlist
-next_net given old = if given then record old { nodes = (input_gate old.nodes).nodes } else old
-
-abbrev pub next_literal : Bool → Netlist → ℤ
-next_literal given old = if given then (input_gate old.nodes).literal else false_literal

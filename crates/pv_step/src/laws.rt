@@ -8,7 +8,7 @@ ghost use Rattle.pv_step.specs.Correct.{IsCircuit, DoesTheScan, HaveLengths, Sta
 
 /// Whatever the inputs are, they stand for a state and an input, and the circuit's literals have the
 /// values of the scan from there: `fail` is true exactly where the requirement isn't kept, `ok`
-/// exactly where it is, and the stored bits' literals behind the scan are the next state.
+/// exactly where it is, and the kept bits' literals behind the scan are the next state.
 pub fn circuits_do_the_scan()
     ensures scan { (program : ProgramTree) (inputs : ℕ → Bool)
         → IsProgram program → DoesTheScan program inputs }

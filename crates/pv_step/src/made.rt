@@ -9,17 +9,17 @@ use pv_gate::Gates;
 #[derive(Drop)]
 pub struct StepCircuit {
     pub gates: Gates,
-    /// The stored bits at the scan's beginning: input nodes.
+    /// The kept bits at the scan's beginning: input nodes.
     pub state_in: Vec<i32>,
     /// The input bits: input nodes.
     pub input: Vec<i32>,
-    /// The stored bits at the scan's end.
+    /// The kept bits at the scan's end.
     pub state_out: Vec<i32>,
     /// True where the scan is done and the requirement holds at its end.
     pub ok: i32,
     /// True where the scan isn't done, or the requirement doesn't hold at its end.
     pub fail: i32,
     /// Each literal names a node, the lists of the beginning have each input node once, and as many
-    /// bits are stored at the end.
+    /// bits are kept at the end.
     pub ghost kept: { ∥ IsCircuit (circuit_with gates.nodes state_in.items input.items state_out.items ok fail) ∥₁ },
 }

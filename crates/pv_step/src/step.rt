@@ -5,21 +5,19 @@ ghost use Rattle.pv_gate.specs.declared.fault.GateFault.TheVariants.{Limit, NoMe
 ghost use Rattle.pv_gate.specs.declared.netlist.Node.TheVariants.{True};
 ghost use Rattle.pv_gate.specs.Node.{Names, gate_count, input_count};
 ghost use Rattle.pv_bool.specs.Programs.{program_tree};
-ghost use Rattle.pv_step.specs.Circuits.{is_given, given_count, begin_nodes, begin_literals};
-ghost use Rattle.pv_step.specs.Circuits.{stored_literals, taken_literals, circuit_with, circuit_of};
+ghost use Rattle.pv_step.specs.Circuits.{begin_nodes, input_literals};
+ghost use Rattle.pv_step.specs.Circuits.{kept_literals, taken_literals, circuit_with, circuit_of};
 ghost use Rattle.pv_step.specs.Correct.{IsCircuit};
-ghost use Rattle.pv_step.specs.Wiring.{next_net, next_literal};
 ghost use Rattle.pv_step.specs.Made.{IsStepCircuit};
 
 use crate::build::scan;
 use crate::made::StepCircuit;
 use pv_bool::{Bit, Program};
-use pv_gate::{FALSE, GateFault, Gates, MAX_GATES, MAX_INPUTS, make};
-use pv_machine::Role;
+use pv_gate::{GateFault, Gates, MAX_GATES, MAX_INPUTS, make};
 use std::alloc::Global;
 
-/// The step circuit of a program. Node 1 is true, and the input nodes follow, one for each bit that
-/// is stored or an input, in the order of the bits. Other bits begin as false.
+/// The step circuit of a program. Node 1 is true, and the input nodes follow, one for each bit, in
+/// the order of the bits.
 ///
 /// Limit exactly where it has more than `limit` gates, unless memory runs out first, which is the other
 /// error.
@@ -51,7 +49,7 @@ fn build(alloc: Global, program: &Program, mut gates: Gates) -> Result<StepCircu
     ensures limit { result ≡ Err Limit
         → gates.limit < gate_count (circuit_of (program_tree program.now)).nodes }
 {
-    let begin = inputs(alloc, &mut gates, &program.bits)?;
+    let begin = inputs(alloc, &mut gates, program.bits.len())?;
     let mut end = or_no_memory(Vec::from_slice(alloc, &begin))?;
     let ok = scan(&mut gates, program, &mut end)?;
     judged(alloc, program, gates, &begin, &end, ok)
@@ -73,16 +71,16 @@ fn judged(
     requires end { length end.now ≡ length program.now.bits.items }
     requires ok { Names (length gates.nodes) ok }
     requires circuit { IsCircuit (circuit_with gates.nodes
-        (stored_literals program.now.bits.items begin.now)
+        (kept_literals program.now.bits.items begin.now)
         (taken_literals program.now.bits.items begin.now)
-        (stored_literals program.now.bits.items end.now) ok (neg_ℤ ok)) }
+        (kept_literals program.now.bits.items end.now) ok (neg_ℤ ok)) }
     ensures gates { IfOk result (λ c. c.gates ≡ gates) }
     ensures state_in { IfOk result
-        (λ c. c.state_in.items ≡ stored_literals program.now.bits.items begin.now) }
+        (λ c. c.state_in.items ≡ kept_literals program.now.bits.items begin.now) }
     ensures input { IfOk result
         (λ c. c.input.items ≡ taken_literals program.now.bits.items begin.now) }
     ensures state_out { IfOk result
-        (λ c. c.state_out.items ≡ stored_literals program.now.bits.items end.now) }
+        (λ c. c.state_out.items ≡ kept_literals program.now.bits.items end.now) }
     ensures ok { IfOk result (λ c. c.ok ≡ ok) }
     ensures fail { IfOk result (λ c. c.fail ≡ neg_ℤ ok) }
     ensures within { gate_count gates.nodes ≤ gates.limit }
@@ -92,9 +90,9 @@ fn judged(
     let _count = gates.nodes();
     let fail = gates.complement(ok);
     Ok(StepCircuit {
-        state_in: stored(alloc, &program.bits, begin)?,
+        state_in: kept(alloc, &program.bits, begin)?,
         input: taken(alloc, &program.bits, begin)?,
-        state_out: stored(alloc, &program.bits, end)?,
+        state_out: kept(alloc, &program.bits, end)?,
         gates,
         ok,
         fail,
@@ -113,18 +111,17 @@ fn or_no_memory<T, E: Drop>(made: Result<T, E>) -> Result<T, GateFault>
     }
 }
 
-/// The literals with which a scan begins, and an input node for each bit that is stored or an input.
-fn inputs(alloc: Global, gates: &mut Gates, bits: &[Bit]) -> Result<Vec<i32>, GateFault>
+/// The literals with which a scan of this many bits begins: those of an input node for each.
+fn inputs(alloc: Global, gates: &mut Gates, count: usize) -> Result<Vec<i32>, GateFault>
     requires empty { gates.old.nodes ≡ True ∷ [] }
-    requires count { length bits.now ≤ MAX_INPUTS }
-    ensures literals { IfOk result (λ literals. literals.items ≡ begin_literals bits.now) }
-    ensures nodes { OnOk result
-        (gates.new ≡ record gates.old { nodes = begin_nodes (given_count bits.now) }) }
+    requires count { count ≤ MAX_INPUTS }
+    ensures literals { IfOk result (λ literals. literals.items ≡ input_literals 0 count) }
+    ensures nodes { OnOk result (gates.new ≡ record gates.old { nodes = begin_nodes count }) }
     ensures err { OnErr result (result ≡ Err NoMemory) }
 {
-    let mut literals = or_no_memory(Vec::with_capacity(alloc, bits.len()))?;
-    for bit in bits {
-        let literal = begin_literal(gates, bit.role)?;
+    let mut literals = or_no_memory(Vec::with_capacity(alloc, count))?;
+    for taken in 0..count {
+        let literal = gates.input()?;
         if literals.push(literal).is_err() {
             return Err(GateFault::NoMemory);
         }
@@ -132,29 +129,15 @@ fn inputs(alloc: Global, gates: &mut Gates, bits: &[Bit]) -> Result<Vec<i32>, Ga
     Ok(literals)
 }
 
-/// The next input's literal for a bit that is stored or an input, and false for another.
-fn begin_literal(gates: &mut Gates, role: Role) -> Result<i32, GateFault>
-    requires { input_count gates.old.nodes < MAX_INPUTS }
-    ensures literal { IfOk result (λ literal. literal ≡ next_literal (is_given role) gates.old) }
-    ensures nodes { OnOk result (gates.new ≡ next_net (is_given role) gates.old) }
-    ensures err { OnErr result (result ≡ Err NoMemory) }
-{
-    if role.is_input() || role.is_stored() {
-        gates.input()
-    } else {
-        Ok(FALSE)
-    }
-}
-
-/// The literals of the stored bits.
-fn stored(alloc: Global, bits: &[Bit], literals: &[i32]) -> Result<Vec<i32>, GateFault>
+/// The literals of the kept bits.
+fn kept(alloc: Global, bits: &[Bit], literals: &[i32]) -> Result<Vec<i32>, GateFault>
     requires { length literals.now ≡ length bits.now }
-    ensures literals { IfOk result (λ found. found.items ≡ stored_literals bits.now literals.now) }
+    ensures literals { IfOk result (λ found. found.items ≡ kept_literals bits.now literals.now) }
     ensures err { OnErr result (result ≡ Err NoMemory) }
 {
     let mut found = Vec::new(alloc);
     for (number, bit) in bits.iter().enumerate() {
-        if bit.role.is_stored() && found.push(literals[number]).is_err() {
+        if bit.role.is_kept() && found.push(literals[number]).is_err() {
             return Err(GateFault::NoMemory);
         }
     }

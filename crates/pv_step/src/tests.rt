@@ -3,9 +3,8 @@ ghost use Rattle.std.specs.Prelude.{◌≡◌, ℕ, length, IfOk};
 ghost use Rattle.pv_bool.specs.Tree.{term_tree, IsTermOver};
 
 use crate::circuit;
-use pv_bool::{Assignment, Bit, Program, Term};
+use pv_bool::{Assignment, Bit, BitRole, Program, Term};
 use pv_gate::{GateFault, Node};
-use pv_machine::Role;
 use std::alloc::{AllocError, Global};
 use std::test::Fail;
 
@@ -34,12 +33,12 @@ fn not(alloc: Global, term: Term) -> Result<Term, AllocError>
 
 /// `run := (start OR run) AND NOT stop`, over the bits start, stop and run, of which the last has this
 /// role.
-fn latch(alloc: Global, run: Role, holds: Term) -> Result<Program, AllocError>
+fn latch(alloc: Global, run: BitRole, holds: Term) -> Result<Program, AllocError>
     requires { IsTermOver 3 (term_tree holds) }
     ensures { IfOk result (λ p. length p.bits.items ≡ 3) }
 {
     let bit = |role| Bit { role, start: false };
-    let bits = Vec::from_slice(alloc, &[bit(Role::Input), bit(Role::Input), bit(run)])?;
+    let bits = Vec::from_slice(alloc, &[bit(BitRole::Input), bit(BitRole::Input), bit(run)])?;
     let on = or(alloc, Term::Load(0), Term::Load(2))?;
     let off = not(alloc, Term::Load(1))?;
     let value = and(alloc, on, off)?;
@@ -54,7 +53,7 @@ fn latch(alloc: Global, run: Role, holds: Term) -> Result<Program, AllocError>
 fn step_of_a_latch(rt: HostRuntime) -> Result<(), Fail> {
     let both = and(rt.alloc(), Term::Load(2), Term::Load(1))?;
     let holds = not(rt.alloc(), both)?;
-    let program = latch(rt.alloc(), Role::Kept, holds)?;
+    let program = latch(rt.alloc(), BitRole::Kept, holds)?;
     let step = circuit(rt.alloc(), &program, 3)?;
     assert_eq!(rt; step.gates.nodes(), 7);
     assert_eq!(rt; step.gates.node(4), Node::Input(2));
@@ -72,17 +71,19 @@ fn step_of_a_latch(rt: HostRuntime) -> Result<(), Fail> {
     Ok(())
 }
 
-// A bit that is neither stored nor an input has no node and begins as false, so the gates fold: the
-// last one is `start AND NOT stop`, and the requirement of constants needs none.
+// An input that the scan writes has a node and is no part of the state, and a requirement of constants
+// needs no gate of its own.
 #[test]
 fn constants_fold(rt: HostRuntime) -> Result<(), Fail> {
     let both = and(rt.alloc(), Term::Constant(true), Term::Load(1))?;
     let either = or(rt.alloc(), both, Term::Constant(false))?;
     let holds = not(rt.alloc(), either)?;
-    let program = latch(rt.alloc(), Role::Brief, holds)?;
-    let step = circuit(rt.alloc(), &program, 1)?;
-    assert_eq!(rt; step.gates.nodes(), 4);
-    assert_eq!(rt; step.gates.node(4), Node::And(2, -3));
+    let program = latch(rt.alloc(), BitRole::Input, holds)?;
+    let step = circuit(rt.alloc(), &program, 2)?;
+    assert_eq!(rt; step.gates.nodes(), 6);
+    assert_eq!(rt; step.gates.node(6), Node::And(-3, -5));
+    assert_eq!(rt; step.input.as_slice(), [2, 3, 4].as_slice());
+    assert_eq!(rt; step.state_in.as_slice(), [].as_slice());
     assert_eq!(rt; step.state_out.as_slice(), [].as_slice());
     assert_eq!(rt; step.ok, -3);
     assert_eq!(rt; step.fail, 3);

@@ -4,8 +4,8 @@ use Rattle.std.proofs.lemmas.List.{length-map}
 use Rattle.pv_machine.specs.Queries.{MeetsStep, MeetsReachableStep}
 use Rattle.pv_machine.proofs.ForCallers.{no_base, step_of_reachable, none_fails}
 use Rattle.pv_types.specs.declared.layout.TheConstants.{MAX_LEAVES}
-use Rattle.pv_tree.specs.Tree.{ExprTree, BlockTree}
-use Rattle.pv_tree.specs.FirstForm.{IsFirstForm, IsFirstExpr}
+use Rattle.pv_first.specs.Tree.{ExprTree, BlockTree}
+use Rattle.pv_first.specs.FirstForm.{IsFirstForm, IsFirstExpr}
 use Rattle.pv_bool.specs.declared.program.Program.{Program}
 use Rattle.pv_bool.specs.Tree.{ProgramTree, IsProgram}
 use Rattle.pv_bool.specs.Programs.{program_tree}

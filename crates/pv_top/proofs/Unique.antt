@@ -1,7 +1,7 @@
 -- What files hold is one thing: a file one case, and the source that it names one project.
 use Rattle.std.proofs.Common.{◌≡◌, ℕ, List, Some, sym, subst, ◌∙◌, ap}
 use Rattle.pv_edge.specs.Files.{FileMap}
-use Rattle.pv_tree.specs.Tree.{ExprTree, BlockTree}
+use Rattle.pv_first.specs.Tree.{ExprTree, BlockTree}
 use Rattle.pv_scl_parse.specs.Reading.{ReadsBlock, ReadsExpression}
 use Rattle.pv_scl_parse.proofs.ForCallers.{block-unique, expression-unique}
 use Rattle.pv_case.specs.Cases.{CaseData, IsCaseText}

@@ -1,8 +1,8 @@
 -- What a case and its source say together: the block that is run, with the requirement over it.
 use Rattle.std.specs.Prelude.{◌≡◌, ℕ, List}
 use Rattle.pv_types.specs.declared.name.Name.{Name}
-use Rattle.pv_tree.specs.Tree.{ExprTree, BlockTree}
-use Rattle.pv_tree.specs.Names.{HasNames}
+use Rattle.pv_first.specs.Tree.{ExprTree, BlockTree}
+use Rattle.pv_first.specs.Names.{HasNames}
 use Rattle.pv_scl_parse.specs.Reading.{ReadsBlock, ReadsExpression, ReadsName}
 use Rattle.pv_mean.specs.Sources.{Source, source_of}
 use Rattle.pv_case.specs.Cases.{CaseData}

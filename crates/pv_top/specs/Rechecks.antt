@@ -1,7 +1,7 @@
 -- What the command `recheck CASE CERT` says.
 use Rattle.std.specs.Prelude.{◌≡◌, ◌↔◌, ◌⊎◌, ℕ, List, Option, Some, Result, Ok, Err, string_bytes}
 use Rattle.pv_edge.specs.Files.{FileMap}
-use Rattle.pv_tree.specs.Tree.{ExprTree}
+use Rattle.pv_first.specs.Tree.{ExprTree}
 use Rattle.pv_mean.specs.Sources.{Source}
 use Rattle.pv_mean.specs.FirstForm.{program_of}
 use Rattle.pv_pattern.specs.Patterns.{invariant}

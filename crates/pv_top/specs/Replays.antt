@@ -1,7 +1,7 @@
 -- What the command `replay CASE TRACE` says.
 use Rattle.std.specs.Prelude.{◌≡◌, ◌↔◌, ℕ, ℤ, [], List, Option, Some, Result, Ok, Err, string_bytes}
 use Rattle.pv_edge.specs.Files.{FileMap}
-use Rattle.pv_tree.specs.Tree.{ExprTree}
+use Rattle.pv_first.specs.Tree.{ExprTree}
 use Rattle.pv_mean.specs.Frames.{input_len}
 use Rattle.pv_mean.specs.Sources.{Source}
 use Rattle.pv_mean.specs.Runs.{run}

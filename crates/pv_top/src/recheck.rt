@@ -1,8 +1,8 @@
 //! The command `recheck CASE CERT`.
 ghost use Rattle.std.specs.Prelude.{◌≡◌, ◌≤◌, length, Some, IfOk, IfErr, MatchResult, OnOk, string_bytes};
-ghost use Rattle.pv_tree.specs.Tree.{block_tree, expr_tree};
-ghost use Rattle.pv_tree.specs.Names.{HasNames};
-ghost use Rattle.pv_tree.specs.FirstForm.{IsFirstForm, IsFirstExpr};
+ghost use Rattle.pv_first.specs.Tree.{block_tree, expr_tree};
+ghost use Rattle.pv_first.specs.Names.{HasNames};
+ghost use Rattle.pv_first.specs.FirstForm.{IsFirstForm, IsFirstExpr};
 ghost use Rattle.pv_bool.specs.Programs.{program_tree};
 ghost use Rattle.pv_mean.specs.Cells.{cells_of};
 ghost use Rattle.pv_mean.specs.Sources.{source_of};
@@ -19,9 +19,9 @@ use crate::read::{ReadStop, read};
 use crate::source::{SourceStop, project_in};
 use pv_bool::Program;
 use pv_edge::Files;
+use pv_first::{Block, Expr};
 use pv_mean::{first_cells, first_form, first_names};
 use pv_recheck::{Kind, RecheckFault, check_certificate};
-use pv_tree::{Block, Expr};
 use pv_types::MAX_LEAVES;
 use std::alloc::{AllocError, Global};
 use thiserror::Error;

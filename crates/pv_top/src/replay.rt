@@ -1,8 +1,8 @@
 //! The command `replay CASE TRACE`.
 ghost use Rattle.std.specs.Prelude.{◌≡◌, ◌≤◌, length, Some, IfOk, IfErr, MatchResult, string_bytes};
-ghost use Rattle.pv_tree.specs.Tree.{block_tree, expr_tree};
-ghost use Rattle.pv_tree.specs.Names.{HasNames};
-ghost use Rattle.pv_tree.specs.FirstForm.{IsFirstForm, IsFirstExpr};
+ghost use Rattle.pv_first.specs.Tree.{block_tree, expr_tree};
+ghost use Rattle.pv_first.specs.Names.{HasNames};
+ghost use Rattle.pv_first.specs.FirstForm.{IsFirstForm, IsFirstExpr};
 ghost use Rattle.pv_mean.specs.Cells.{cells_of};
 ghost use Rattle.pv_mean.specs.Sources.{source_of};
 ghost use Rattle.pv_top.specs.Inputs.{Counts};
@@ -17,8 +17,8 @@ use crate::outcome::{NO_MEMORY, READ_FAULT, Status, form_line, read_line};
 use crate::read::{ReadStop, read};
 use crate::source::{SourceStop, project_in};
 use pv_edge::Files;
+use pv_first::{Block, Expr};
 use pv_replay::{End, ReplayFault, replay_block};
-use pv_tree::{Block, Expr};
 use pv_types::MAX_LEAVES;
 use std::alloc::{AllocError, Global};
 use thiserror::Error;

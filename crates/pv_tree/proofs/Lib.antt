@@ -1,1 +1,20 @@
+mod KeptRules
+mod ToldCalls
 pub mod ForCallers
+pub mod Firsts
+pub mod Orders
+pub mod Levels
+pub mod Types
+mod PartTypes
+mod ToldThings
+mod NoneBroken
+mod Upwards
+mod KeptBlocks
+mod TypedBlocks
+mod TypedProjects
+mod TypedPatterns
+pub mod Outsides
+pub mod Deepest
+pub mod Faults
+mod Examples
+mod Sample

@@ -5,9 +5,10 @@ use Rattle.pv_types.specs.Tree.{VarTree, VarTrees, no_vars, _then_}
 use Rattle.pv_types.specs.View.{listed, fields_of}
 -- what a type, and a variable, of the code is as plain data, form by form
 pub use Rattle.pv_types.proofs.Trees.{tree-array, tree-structure, array_seen, structure_seen, var_seen}
--- leaves: how many there are, what they start with, and those of a named type
+-- leaves: how many there are, what they start with, that their paths differ, and those of a named type
 pub use Rattle.pv_types.proofs.Counting.{counted_leaves}
 pub use Rattle.pv_types.proofs.Starting.{leaves_start}
+pub use Rattle.pv_types.proofs.Differing.{paths_differ}
 pub use Rattle.pv_types.proofs.Grounded.{named_laid_out, ranked_nests}
 
 pub fields-of-listed : (vars : List VarTree) → fields_of (listed vars) ≡ vars

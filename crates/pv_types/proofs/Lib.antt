@@ -7,3 +7,6 @@ mod Elements
 pub mod Counting
 pub mod Starting
 pub mod Grounded
+mod Indexes
+pub mod Differing
+mod Searching

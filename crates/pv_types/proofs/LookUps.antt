@@ -1,5 +1,24 @@
 -- Named types in a map: what a look-up gives, and what a new type leaves.
-use Rattle.std.specs.Prelude.{◌≡◌, ℕ, true, false, List, [], ◌∷◌, ◌++◌, Option, Some, None, option_map, is_some, bytes_eq, cond, map, refl, if◌then◌else◌}
+use Rattle.std.specs.Prelude.{
+  ◌≡◌,
+  ℕ,
+  true,
+  false,
+  List,
+  [],
+  ◌∷◌,
+  ◌++◌,
+  Option,
+  Some,
+  None,
+  option_map,
+  is_some,
+  bytes_eq,
+  cond,
+  map,
+  refl,
+  if◌then◌else◌,
+}
 use Rattle.std.proofs.Common.{ap, sym, ◌∙◌, true≢false}
 use Rattle.std.specs.Map.{lookup}
 use Rattle.indexmap.specs.IndexMap.{insert_entry}
@@ -13,7 +32,8 @@ module _ {X : Type 0} (vars_of : X → List VarTree) where
   pub look_up-typed : (es : List (List ℕ × X)) (key : List ℕ) → look_up (map typed es) key ≡ option_map vars_of (lookup (bytes_eq key) es)
   look_up-typed [] key = refl
   look_up-typed (e ∷ es) key =
-      elim (bytes_eq key e.0) as (λ b. cond b (Some (vars_of e.1)) (look_up (map typed es) key) ≡ option_map vars_of (cond b (Some e.1) (lookup (bytes_eq key) es)))
+      elim (bytes_eq key e.0) as (λ b. cond b (Some (vars_of e.1)) (look_up (map typed es) key)
+      ≡ option_map vars_of (cond b (Some e.1) (lookup (bytes_eq key) es)))
       [ true ↦ refl | false ↦ look_up-typed es key ]
 
   is_some-option_map : (o : Option X) → is_some (option_map vars_of o) ≡ is_some o

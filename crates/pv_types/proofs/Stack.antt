@@ -16,20 +16,24 @@ module _ (types : List NamedType) where
   leaves_of_frame path f = leaves_of_rest types f.levels (take f.path_len path) f.rest
 
   -- the top's leaves come first
-  pub pending_push : (path : List ℕ) (fs : List Frame) (f : Frame) → pending types path (fs ++ f ∷ []) ≡ leaves_of_frame path f ++ pending types path fs
+  pub pending_push : (path : List ℕ) (fs : List Frame) (f : Frame)
+      → pending types path (fs ++ f ∷ []) ≡ leaves_of_frame path f ++ pending types path fs
   pending_push path [] f = sym (append-nil (leaves_of_frame path f))
   pending_push path (g ∷ gs) f =
-      ap (λ l. l ++ leaves_of_frame path g) (pending_push path gs f) ∙ append_assoc (leaves_of_frame path f) (pending types path gs) (leaves_of_frame path g)
+      ap (λ l. l ++ leaves_of_frame path g) (pending_push path gs f)
+      ∙ append_assoc (leaves_of_frame path f) (pending types path gs) (leaves_of_frame path g)
 
   pub work_push : (fs : List Frame) (f : Frame) → work_left types (fs ++ f ∷ []) ≡ work_left types fs + work_of_rest types f.levels f.rest
   work_push [] f = omega arith
   work_push (g ∷ gs) f = omega (arith, work_push gs f)
 
   -- the leaves of the stack depend on no more of the path than its frames have
-  pub pending_front : (path more : List ℕ) (fs : List Frame) → AreLow fs (length path) → pending types (path ++ more) fs ≡ pending types path fs
+  pub pending_front : (path more : List ℕ) (fs : List Frame) → AreLow fs (length path)
+      → pending types (path ++ more) fs ≡ pending types path fs
   pending_front path more [] low = refl
   pending_front path more (f ∷ fs) low =
-      ap (λ front. pending types (path ++ more) fs ++ leaves_of_rest types f.levels front f.rest) (take-append-le f.path_len path more low.0)
+      ap (λ front. pending types (path ++ more) fs ++ leaves_of_rest types f.levels front f.rest)
+      (take-append-le f.path_len path more low.0)
       ∙ ap (λ l. l ++ leaves_of_frame path f) (pending_front path more fs low.2)
 
 above_push : (m : ℕ) (fs : List Frame) (f : Frame) → AreAbove m fs → m ≤ f.path_len → AreAbove m (fs ++ f ∷ [])
@@ -66,12 +70,16 @@ pub framed : (types : List NamedType) (old new : Walk) (rest : Rest) (levels len
 framed types old new rest levels len sound e frames path leaves =
     let f : Frame = record { rest = rest; path_len = len; levels = levels } in
     let front : take len old.path.items ≡ old.path.items = ap (λ n. take n old.path.items) e ∙ take-all old.path.items in
-    let found : pending types new.path.items new.frames.items ≡ leaves_of_rest types levels old.path.items rest ++ pending types old.path.items old.frames.items =
-    ap (λ p. pending types p new.frames.items) path ∙ ap (pending types old.path.items) frames ∙ pending_push types old.path.items old.frames.items f
+    let found : pending types new.path.items new.frames.items ≡ leaves_of_rest types levels old.path.items rest
+    ++ pending types old.path.items old.frames.items =
+    ap (λ p. pending types p new.frames.items) path ∙ ap (pending types old.path.items) frames
+    ∙ pending_push types old.path.items old.frames.items f
     ∙ ap (λ p. leaves_of_rest types levels p rest ++ pending types old.path.items old.frames.items) front in
     record {
       sound = record {
-        low = subst (λ p. AreLow new.frames.items (length p)) (sym path) (subst (λ fs. AreLow fs (length old.path.items)) (sym frames) (low_push old.frames.items f (length old.path.items) sound.low e));
+        low = subst (λ p. AreLow new.frames.items (length p)) (sym path)
+            (subst (λ fs. AreLow fs (length old.path.items)) (sym frames)
+            (low_push old.frames.items f (length old.path.items) sound.low e));
         room = subst (λ ls. length ls ≤ MAX_LEAVES) (sym leaves) sound.room;
       };
       total = ap (λ l. l ++ pending types new.path.items new.frames.items) leaves ∙ ap (λ l. old.leaves.items ++ l) found;

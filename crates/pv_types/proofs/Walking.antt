@@ -1,5 +1,29 @@
 -- Steps of a walk: the first variable, or the first element, and what stays on the stack.
-use Rattle.std.specs.Prelude.{◌≡◌, ◌<◌, ◌≤◌, ℕ, ◌+◌, ◌-◌, ℤ, List, [], ◌∷◌, ◌++◌, Some, None, Result, Ok, Err, OnOk, length, take, drop, refl, true, false}
+use Rattle.std.specs.Prelude.{
+  ◌≡◌,
+  ◌<◌,
+  ◌≤◌,
+  ℕ,
+  ◌+◌,
+  ◌-◌,
+  ℤ,
+  List,
+  [],
+  ◌∷◌,
+  ◌++◌,
+  Some,
+  None,
+  Result,
+  Ok,
+  Err,
+  OnOk,
+  length,
+  take,
+  drop,
+  refl,
+  true,
+  false,
+}
 use Rattle.std.proofs.Common.{ap, subst, sym, ◌∙◌, append_assoc, arith, length-take-le, true≢false}
 use Rattle.std.specs.Fmt.{signed_decimal}
 use Rattle.std.proofs.lemmas.List.{append_cancel_left, length-append, take-append-drop}
@@ -16,7 +40,21 @@ use Rattle.pv_types.specs.Tree.{var, VarTrees, no_vars, _then_}
 use Rattle.pv_types.specs.View.{type_tree, var_trees, listed}
 use Rattle.pv_types.specs.Named.{NamedType}
 use Rattle.pv_types.specs.Leaves.{Around, section_within, field_path, start_value, leaves_where, leaves_of_type, leaves_of_vars}
-use Rattle.pv_types.specs.Walk.{AreLow, pending, work_left, work_of_type, work_of_vars, work_of_named, work_of_rest, leaves_of_rest, IsSound, Adds, Pops, Steps, all_leaves}
+use Rattle.pv_types.specs.Walk.{
+  AreLow,
+  pending,
+  work_left,
+  work_of_type,
+  work_of_vars,
+  work_of_named,
+  work_of_rest,
+  leaves_of_rest,
+  IsSound,
+  Adds,
+  Pops,
+  Steps,
+  all_leaves,
+}
 use Rattle.pv_types.proofs.Stack.{pending_front, pending_push, work_push, low_raise, low_pop}
 use Rattle.pv_types.proofs.Trees.{var_seen}
 
@@ -34,16 +72,19 @@ field_path_longer [] name = refl
 field_path_longer (c ∷ path) name = refl
 
 -- a walk whose path is longer is sound where the other is
-pub longer_sound : (mid new : Walk) (more : List ℕ) → IsSound mid → new.frames.items ≡ mid.frames.items → new.leaves.items ≡ mid.leaves.items
+pub longer_sound : (mid new : Walk) (more : List ℕ) → IsSound mid → new.frames.items ≡ mid.frames.items
+    → new.leaves.items ≡ mid.leaves.items
     → new.path.items ≡ mid.path.items ++ more → IsSound new
 longer_sound mid new more sound frames leaves path = record {
   low = subst (λ fs. AreLow fs (length new.path.items)) (sym frames)
-      (low_raise mid.frames.items (length mid.path.items) (length new.path.items) sound.low (omega (arith, ap length path, length-append mid.path.items more)));
+      (low_raise mid.frames.items (length mid.path.items) (length new.path.items) sound.low
+      (omega (arith, ap length path, length-append mid.path.items more)));
   room = subst (λ ls. length ls ≤ MAX_LEAVES) (sym leaves) sound.room;
 }
 
 -- what stays is put on the stack first, then what comes first is laid out beneath a longer path
-pub deeper : (types : List NamedType) (old mid inner new : Walk) (rest first : List Leaf) (behind : List ℕ) (m n : ℕ) → mid.leaves.items ≡ old.leaves.items
+pub deeper : (types : List NamedType) (old mid inner new : Walk) (rest first : List Leaf) (behind : List ℕ) (m n : ℕ)
+    → mid.leaves.items ≡ old.leaves.items
     → inner.frames.items ≡ mid.frames.items → inner.leaves.items ≡ mid.leaves.items → inner.path.items ≡ mid.path.items ++ behind
     → Adds types old mid rest m → Adds types inner new first n → Adds types old new (first ++ rest) (m + n)
 deeper types old mid inner new rest first behind m n kept frames leaves path below above =
@@ -60,7 +101,8 @@ deeper types old mid inner new rest first behind m n kept frames leaves path bel
       work_falls = omega (arith, below.work_falls, above.work_falls, ap (work_left types) frames);
     }
 
-pub re_adds : (types : List NamedType) (old new : Walk) (more now : List Leaf) (m n : ℕ) → more ≡ now → m ≤ n → Adds types old new more m → Adds types old new now n
+pub re_adds : (types : List NamedType) (old new : Walk) (more now : List Leaf) (m n : ℕ) → more ≡ now → m ≤ n → Adds types old new more m
+    → Adds types old new now n
 re_adds types old new more now m n same le a = record {
   sound = a.sound;
   total = a.total ∙ ap (λ l. old.leaves.items ++ (l ++ pending types old.path.items old.frames.items)) same;
@@ -68,20 +110,27 @@ re_adds types old new more now m n same le a = record {
 }
 
 -- the leaves of variables, by the first of them
-pub leaves_first : (expand : List ℕ → List ℕ → Section → List Leaf) (around : Around) (path : List ℕ) (v : Var) (vs all : List Var) (s : Section) → all ≡ v ∷ vs
+pub leaves_first : (expand : List ℕ → List ℕ → Section → List Leaf) (around : Around) (path : List ℕ) (v : Var) (vs all : List Var)
+    (s : Section) → all ≡ v ∷ vs
     → Some s ≡ section_within around v.section
-    → leaves_of_type expand (field_path path v.name) (start_value v.start) s (type_tree v.ty) ++ leaves_of_vars expand around path (listed (var_trees vs))
+    → leaves_of_type expand (field_path path v.name) (start_value v.start) s (type_tree v.ty)
+    ++ leaves_of_vars expand around path (listed (var_trees vs))
     ≡ leaves_of_vars expand around path (listed (var_trees all))
 leaves_first expand around path v vs all s are some =
-    ap (λ o. leaves_where o (λ s. leaves_of_type expand (field_path path v.name) (start_value v.start) s (type_tree v.ty)) ++ leaves_of_vars expand around path (listed (var_trees vs))) some
-    ∙ ap (λ x. leaves_of_vars expand around path (_then_ x (listed (var_trees vs)))) (sym (var_seen v)) ∙ ap (λ l. leaves_of_vars expand around path (listed (var_trees l))) (sym are)
+    ap (λ o. leaves_where o (λ s. leaves_of_type expand (field_path path v.name) (start_value v.start) s (type_tree v.ty))
+    ++ leaves_of_vars expand around path (listed (var_trees vs))) some
+    ∙ ap (λ x. leaves_of_vars expand around path (_then_ x (listed (var_trees vs)))) (sym (var_seen v))
+    ∙ ap (λ l. leaves_of_vars expand around path (listed (var_trees l))) (sym are)
 
-pub leaves_passed : (expand : List ℕ → List ℕ → Section → List Leaf) (around : Around) (path : List ℕ) (v : Var) (vs all : List Var) → all ≡ v ∷ vs
+pub leaves_passed : (expand : List ℕ → List ℕ → Section → List Leaf) (around : Around) (path : List ℕ) (v : Var) (vs all : List Var)
+    → all ≡ v ∷ vs
     → None ≡ section_within around v.section
     → leaves_of_vars expand around path (listed (var_trees vs)) ≡ leaves_of_vars expand around path (listed (var_trees all))
 leaves_passed expand around path v vs all are none =
-    ap (λ o. leaves_where o (λ s. leaves_of_type expand (field_path path v.name) (start_value v.start) s (type_tree v.ty)) ++ leaves_of_vars expand around path (listed (var_trees vs))) none
-    ∙ ap (λ x. leaves_of_vars expand around path (_then_ x (listed (var_trees vs)))) (sym (var_seen v)) ∙ ap (λ l. leaves_of_vars expand around path (listed (var_trees l))) (sym are)
+    ap (λ o. leaves_where o (λ s. leaves_of_type expand (field_path path v.name) (start_value v.start) s (type_tree v.ty))
+    ++ leaves_of_vars expand around path (listed (var_trees vs))) none
+    ∙ ap (λ x. leaves_of_vars expand around path (_then_ x (listed (var_trees vs)))) (sym (var_seen v))
+    ∙ ap (λ l. leaves_of_vars expand around path (listed (var_trees l))) (sym are)
 
 pub work_first : (work : List ℕ → ℕ) (v : Var) (vs all : List Var) → all ≡ v ∷ vs
     → work_of_vars work (listed (var_trees all)) ≡ 1 + work_of_type work (type_tree v.ty) + work_of_vars work (listed (var_trees vs))
@@ -93,15 +142,19 @@ abbrev pub element_behind : ℤ → List ℕ
 element_behind index = 91 ∷ (signed_decimal index ++ 93 ∷ [])
 
 -- a frame that was pushed last is taken off
-pub popped : (types : List NamedType) (old new : Walk) (fs : List Frame) (f : Frame) → IsSound old → old.frames.items ≡ fs ++ f ∷ [] → new.frames.items ≡ fs
+pub popped : (types : List NamedType) (old new : Walk) (fs : List Frame) (f : Frame) → IsSound old → old.frames.items ≡ fs ++ f ∷ []
+    → new.frames.items ≡ fs
     → new.path.items ≡ take f.path_len old.path.items → new.leaves.items ≡ old.leaves.items → Pops types old new f
 popped types old new fs f sound was now path leaves =
     let low = low_pop fs f (length old.path.items) (subst (λ l. AreLow l (length old.path.items)) was sound.low) in
     let len : length new.path.items ≡ f.path_len = ap length path ∙ length-take-le f.path_len old.path.items low.1 in
-    let whole : take f.path_len old.path.items ++ drop f.path_len old.path.items ≡ old.path.items = take-append-drop f.path_len old.path.items in
-    let short : AreLow fs (length (take f.path_len old.path.items)) = subst (λ n. AreLow fs n) (sym (length-take-le f.path_len old.path.items low.1)) low.0 in
+    let whole : take f.path_len old.path.items ++ drop f.path_len old.path.items ≡ old.path.items =
+    take-append-drop f.path_len old.path.items in
+    let short : AreLow fs (length (take f.path_len old.path.items)) =
+    subst (λ n. AreLow fs n) (sym (length-take-le f.path_len old.path.items low.1)) low.0 in
     let front : pending types old.path.items fs ≡ pending types new.path.items new.frames.items =
-    ap (λ p. pending types p fs) (sym whole) ∙ pending_front types (take f.path_len old.path.items) (drop f.path_len old.path.items) fs short
+    ap (λ p. pending types p fs) (sym whole)
+    ∙ pending_front types (take f.path_len old.path.items) (drop f.path_len old.path.items) fs short
     ∙ ap (λ p. pending types p fs) (sym path) ∙ ap (pending types new.path.items) (sym now) in
     record {
       sound = record {
@@ -124,10 +177,12 @@ rest_takes_steps types n (Vars vars around) = vars_take_steps (work_of_named typ
 rest_takes_steps types n (Elements of span section) = omega arith
 
 pub stepped : (types : List NamedType) (old mid new : Walk) (f : Frame) → Pops types old mid f
-    → Adds types mid new (leaves_of_rest types f.levels mid.path.items f.rest) (work_of_rest types f.levels f.rest - 1) → Steps types old new true
+    → Adds types mid new (leaves_of_rest types f.levels mid.path.items f.rest) (work_of_rest types f.levels f.rest - 1)
+    → Steps types old new true
 stepped types old mid new f p a = record {
   sound = a.sound;
-  total = a.total ∙ ap (λ l. l ++ (leaves_of_rest types f.levels mid.path.items f.rest ++ pending types mid.path.items mid.frames.items)) p.leaves
+  total = a.total ∙ ap (λ l. l ++ (leaves_of_rest types f.levels mid.path.items f.rest ++ pending types mid.path.items mid.frames.items))
+      p.leaves
       ∙ ap (λ l. old.leaves.items ++ l) (sym p.total);
   falls = λ going. let some = rest_takes_steps types f.levels f.rest in omega (arith, a.work_falls, p.work, some);
   ends = λ no. absurd (true≢false no);
@@ -135,13 +190,23 @@ stepped types old mid new f p a = record {
 
 -- leaves that don't fit any more are too many
 pub too_many : (types : List NamedType) (old mid : Walk) (f : Frame) → Pops types old mid f
-    → MAX_LEAVES < length mid.leaves.items + length (leaves_of_rest types f.levels mid.path.items f.rest) → MAX_LEAVES < length (all_leaves types old)
+    → MAX_LEAVES < length mid.leaves.items + length (leaves_of_rest types f.levels mid.path.items f.rest)
+    → MAX_LEAVES < length (all_leaves types old)
 too_many types old mid f p over =
     let first = leaves_of_rest types f.levels mid.path.items f.rest in
     let left = pending types mid.path.items mid.frames.items in
-    omega (arith, over, ap length p.leaves, ap length p.total, length-append first left, length-append old.leaves.items (pending types old.path.items old.frames.items))
+    omega (
+      arith,
+      over,
+      ap length p.leaves,
+      ap length p.total,
+      length-append first left,
+      length-append old.leaves.items
+          (pending types old.path.items old.frames.items),
+    )
 
-pub ended : (types : List NamedType) (old new : Walk) → IsSound old → old.frames.items ≡ [] → new.frames.items ≡ [] → new.leaves.items ≡ old.leaves.items
+pub ended : (types : List NamedType) (old new : Walk) → IsSound old → old.frames.items ≡ [] → new.frames.items ≡ []
+    → new.leaves.items ≡ old.leaves.items
     → new.path.items ≡ old.path.items → Steps types old new false
 ended types old new sound was now leaves path = record {
   sound = record {

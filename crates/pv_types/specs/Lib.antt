@@ -5,4 +5,6 @@ pub mod Named
 pub mod Leaves
 pub mod Sizes
 pub mod Starts
+pub mod Paths
 pub mod Walk
+pub mod Search

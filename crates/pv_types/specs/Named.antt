@@ -1,7 +1,39 @@
 -- Named types: the variables of function blocks and of named structures.
-use Rattle.std.specs.Prelude.{◌≡◌, ◌<◌, IsSome, ℕ, zero, suc, List, [], ◌∷◌, Option, Some, None, MatchOption, bytes_eq, if◌then◌else◌, ◌++◌, is_some, length, map}
+use Rattle.std.specs.Prelude.{
+  ◌≡◌,
+  ◌<◌,
+  IsSome,
+  ℕ,
+  zero,
+  suc,
+  List,
+  [],
+  ◌∷◌,
+  Option,
+  Some,
+  None,
+  MatchOption,
+  bytes_eq,
+  if◌then◌else◌,
+  ◌++◌,
+  is_some,
+  length,
+  map,
+}
 use Rattle.pv_types.specs.declared.named.Types.{Types}
-use Rattle.pv_types.specs.Tree.{TypeTree, plain, array, structure, named, unread, VarTree, var, VarTrees, no_vars, _then_}
+use Rattle.pv_types.specs.Tree.{
+  TypeTree,
+  plain,
+  array,
+  structure,
+  named,
+  unread,
+  VarTree,
+  var,
+  VarTrees,
+  no_vars,
+  _then_,
+}
 use Rattle.pv_types.specs.View.{listed, var_trees}
 
 -- a type's key, and its variables
@@ -35,13 +67,15 @@ abbrev mutual
   AllNamedIn P no_vars = Unit {0}
   AllNamedIn P (_then_ (var name section ty start place) xs) = AllNamed P ty × AllNamedIn P xs
 
--- the type of this key is there, and so is each type that it names, and each that these name, and at most n types
--- stand inside each other so
+-- the type of this key is there, and so is each type that it names, and each that these name, and
+-- at most n types stand inside each other so
 abbrev pub NestsWithin : List NamedType → ℕ → List ℕ → Type 0
 NestsWithin types zero key = ⊥
-NestsWithin types (suc n) key = MatchOption (look_up types key) ⊥ (λ vars. AllNamedIn (NestsWithin types n) (listed vars))
+NestsWithin types (suc n) key = MatchOption (look_up types key) ⊥
+    (λ vars. AllNamedIn (NestsWithin types n) (listed vars))
 
--- each type that is named is there, and none contains itself: no more types than there are stand inside each other
+-- each type that is named is there, and none contains itself: no more types than there are stand
+-- inside each other
 abbrev pub AreGrounded : List NamedType → List VarTree → Type 0
 AreGrounded types vars = AllNamedIn (NestsWithin types (length types)) (listed vars)
 

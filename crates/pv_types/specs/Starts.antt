@@ -4,7 +4,18 @@ use Rattle.std.specs.List.{AllByRecursion}
 use Rattle.pv_word.specs.Types.{InRange}
 use Rattle.pv_types.specs.declared.declaration.Literal.{Literal}
 use Rattle.pv_types.specs.declared.leaf.Leaf.{Leaf}
-use Rattle.pv_types.specs.Tree.{TypeTree, plain, array, structure, named, unread, var, VarTrees, no_vars, _then_}
+use Rattle.pv_types.specs.Tree.{
+  TypeTree,
+  plain,
+  array,
+  structure,
+  named,
+  unread,
+  var,
+  VarTrees,
+  no_vars,
+  _then_,
+}
 use Rattle.pv_types.specs.View.{listed}
 use Rattle.pv_types.specs.Named.{NamedType}
 use Rattle.pv_word.specs.declared.types.Ty.{Ty}

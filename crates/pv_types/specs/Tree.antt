@@ -1,4 +1,5 @@
--- Declarations as plain data: what a declaration says, with all its names, values and places, and nothing of where it lies in memory.
+-- Declarations as plain data: what a declaration says, with all its names, values and places, and
+-- nothing of where it lies in memory.
 use Rattle.std.specs.Prelude.{ℤ, Option}
 use Rattle.pv_word.specs.declared.types.Ty.{Ty}
 use Rattle.pv_machine.specs.declared.place.Place.{Place}

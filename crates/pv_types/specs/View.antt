@@ -7,7 +7,19 @@ use Rattle.pv_types.specs.declared.declaration.Literal.{Literal}
 use Rattle.pv_types.specs.declared.declaration.DeclType.{DeclType, fold-DeclType}
 use Rattle.pv_types.specs.declared.declaration.DeclType.TheOpen.{DeclType-F}
 use Rattle.pv_types.specs.declared.declaration.Var.{Var, Var-F, fold-Var}
-use Rattle.pv_types.specs.Tree.{TypeTree, plain, array, structure, named, unread, VarTree, var, VarTrees, no_vars, _then_}
+use Rattle.pv_types.specs.Tree.{
+  TypeTree,
+  plain,
+  array,
+  structure,
+  named,
+  unread,
+  VarTree,
+  var,
+  VarTrees,
+  no_vars,
+  _then_,
+}
 
 -- a list of variables as the fields of a structure
 abbrev pub listed : List VarTree → VarTrees

@@ -10,7 +10,8 @@ use pv_word::Ty;
 pub enum DeclType {
     /// A simple type.
     Plain(Ty),
-    /// An array of one dimension: its bounds, the type of its elements, and the place of the word ARRAY.
+    /// An array of one dimension: its bounds, the type of its elements, and the place of the word
+    /// ARRAY.
     Array {
         low: i128,
         high: i128,
@@ -30,7 +31,8 @@ pub enum DeclType {
 #[cycle(declaration)]
 pub struct Var {
     pub name: Name,
-    /// The section of the declaration; a structure's fields have that of the declaration around them.
+    /// The section of the declaration; a structure's fields have that of the declaration around
+    /// them.
     pub section: Section,
     pub ty: DeclType,
     pub start: Option<Literal>,
@@ -62,7 +64,8 @@ pub struct Literal {
     pub place: Place,
 }
 
-/// The variables of a block in the order of their declarations, and the type of the value that a function has.
+/// The variables of a block in the order of their declarations, and the type of the value that a
+/// function has.
 #[derive(Drop)]
 pub struct Interface {
     pub vars: Vec<Var>,

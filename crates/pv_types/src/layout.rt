@@ -1,4 +1,5 @@
-//! Declarations laid out: each variable of a simple type, with its path, its type, its start value and its section.
+//! Declarations laid out: each variable of a simple type, with its path, its type, its start value
+//! and its section.
 ghost use Rattle.std.specs.Prelude.{◌≡◌, ◌<◌, ◌≤◌, IfOk, IsErrOf, OnOk, length};
 ghost use Rattle.pv_types.specs.Named.{types_of};
 ghost use Rattle.pv_types.specs.Leaves.{leaves_of, leaves_beneath};
@@ -14,16 +15,19 @@ use std::alloc::Global;
 /// The greatest number of leaves that declarations may have.
 pub const MAX_LEAVES: usize = 20_000;
 
-/// The leaves of a block's variables in the order of their declarations, an array's elements from low to high,
-/// structures, named types and instances in place.
+/// The leaves of a block's variables in the order of their declarations, an array's elements from
+/// low to high, structures, named types and instances in place.
 ///
-/// Constants and variables of DATE_AND_TIME have no leaf, and a function block's temporary variables none in its
-/// instances. A leaf starts with the value of its own declaration, else with 0.
+/// Constants and variables of DATE_AND_TIME have no leaf, and a function block's temporary
+/// variables none in its instances. A leaf starts with the value of its own declaration, else with
+/// 0.
 ///
 /// `TooLarge` where there are more than [`MAX_LEAVES`].
 pub fn flatten(alloc: Global, vars: &[Var], named: &Types) -> Result<Leaves, FlattenFault>
-    ensures leaves { IfOk result (λ leaves. leaves ≡ leaves_of (types_of named.now) (var_trees vars.now)) }
-    ensures within { OnOk result (length (leaves_of (types_of named.now) (var_trees vars.now)) ≤ MAX_LEAVES) }
+    ensures leaves { IfOk result (λ leaves. leaves
+        ≡ leaves_of (types_of named.now) (var_trees vars.now)) }
+    ensures within { OnOk result (length (leaves_of (types_of named.now) (var_trees vars.now)) ≤
+        MAX_LEAVES) }
     ensures too_large { IsErrOf result FlattenFault.TooLarge
         → MAX_LEAVES < length (leaves_of (types_of named.now) (var_trees vars.now)) }
 {
@@ -37,8 +41,10 @@ pub fn flatten_beneath(
     vars: &[Var],
     named: &Types,
 ) -> Result<Leaves, FlattenFault>
-    ensures leaves { IfOk result (λ leaves. leaves ≡ leaves_beneath path.now (types_of named.now) (var_trees vars.now)) }
-    ensures within { OnOk result (length (leaves_beneath path.now (types_of named.now) (var_trees vars.now)) ≤ MAX_LEAVES) }
+    ensures leaves { IfOk result (λ leaves. leaves
+        ≡ leaves_beneath path.now (types_of named.now) (var_trees vars.now)) }
+    ensures within { OnOk result (length
+        (leaves_beneath path.now (types_of named.now) (var_trees vars.now)) ≤ MAX_LEAVES) }
     ensures too_large { IsErrOf result FlattenFault.TooLarge
         → MAX_LEAVES < length (leaves_beneath path.now (types_of named.now) (var_trees vars.now)) }
 {

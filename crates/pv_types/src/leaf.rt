@@ -6,7 +6,8 @@ use pv_edge::Text;
 use pv_word::Ty;
 use std::marker::Model;
 
-/// A variable of a simple type, or an element or a field of one, as it stands in declarations that are laid out.
+/// A variable of a simple type, or an element or a field of one, as it stands in declarations that
+/// are laid out.
 #[derive(Drop)]
 pub struct Leaf {
     /// The path as it is declared: `start`, `arr[3]`, `inst.q`, `s.a[-2].b`.

@@ -8,6 +8,7 @@ mod layout;
 mod leaf;
 mod name;
 mod named;
+mod search;
 mod walk;
 
 pub use declaration::{DeclType, Interface, Literal, Section, Var};

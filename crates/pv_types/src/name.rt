@@ -1,7 +1,7 @@
 //! Names of blocks and variables.
 //!
-//! Two names are the same where their keys are: letter case and quotes play no part, and neither do they in the order of
-//! names or in their hashes.
+//! Two names are the same where their keys are: letter case and quotes play no part, and neither do
+//! they in the order of names or in their hashes.
 ghost use Rattle.std.specs.Prelude.{◌≡◌, ◌↔◌, IfOk, IsTrue};
 ghost use Rattle.std.specs.Str.{str_to_ascii_lowercase};
 ghost use Rattle.pv_types.specs.Names.{between_quotes};
@@ -16,12 +16,14 @@ use std::hash::{Hash, Hasher};
 pub struct Name {
     /// The name's text with ASCII letters in lower case, and all other bytes as they stand.
     pub key: Text,
-    /// The name as it was written: a quoted one with its quotes, a numbered one without the blank in it.
+    /// The name as it was written: a quoted one with its quotes, a numbered one without the blank
+    /// in it.
     pub spelled: Text,
 }
 
 impl Name {
-    /// The name that is written as this text, which is a word, or a numbered name without a blank in it.
+    /// The name that is written as this text, which is a word, or a numbered name without a blank
+    /// in it.
     pub fn plain(alloc: Global, text: &[u8]) -> Result<Name, AllocError>
         ensures key { IfOk result (λ name. name.key ≡ str_to_ascii_lowercase text.now) }
         ensures spelled { IfOk result (λ name. name.spelled ≡ text.now) }
@@ -31,7 +33,8 @@ impl Name {
 
     /// The name that is written as this text, whose first and last byte are its quotes.
     pub fn quoted(alloc: Global, text: &[u8]) -> Result<Name, AllocError>
-        ensures key { IfOk result (λ name. name.key ≡ str_to_ascii_lowercase (between_quotes text.now)) }
+        ensures key { IfOk result (λ name. name.key
+            ≡ str_to_ascii_lowercase (between_quotes text.now)) }
         ensures spelled { IfOk result (λ name. name.spelled ≡ text.now) }
     {
         name_of(alloc, within_quotes(text), text)
@@ -143,7 +146,8 @@ impl Hash for Name {
 
     ghost hash_input = { λ name. fed.slice fed.u8 name.key };
 
-    ghost respects_eq = { λ x y same. ap (fed.slice fed.u8) ((bytes_eq-Decides x.key y.key).0 same) };
+    ghost respects_eq = { λ x y same. ap (fed.slice fed.u8)
+        ((bytes_eq-Decides x.key y.key).0 same) };
 
     fn hash<H: Hasher>(&self, state: &mut H) {
         self.key.hash(state);

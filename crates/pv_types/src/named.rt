@@ -48,7 +48,8 @@ impl<'p> Types<'p> {
 
     /// The variables of the type of this name.
     pub fn find(&self, name: &Name) -> Option<&'p [Var]>
-        ensures { option_map (λ vars. var_trees vars.now) result ≡ look_up (types_of self.now) name.now.key }
+        ensures { option_map (λ vars. var_trees vars.now) result
+            ≡ look_up (types_of self.now) name.now.key }
     {
         match self.types.get(&name.key) {
             Some(vars) => Some(*vars),

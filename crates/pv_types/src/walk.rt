@@ -1,10 +1,34 @@
 //! The walk over declarations that are laid out.
 //!
-//! What is still to be laid out lies on a stack of our own: variables, or elements of an array, each beneath a front of
-//! the one path that the walk keeps. A step takes the first of them off the top, so the leaves come in the order of the
-//! declarations, and the leaves so far followed by those of the stack, from its top down, are always those of the whole.
-//! So nothing recurses, however deep types stand inside each other, and each path is built in place.
-ghost use Rattle.std.specs.Prelude.{◌≡◌, IsTrue, false, ◌<ℤ◌, ◌≤ℤ◌, IfSome, IfNone, ◌+◌, ◌++◌, ◌<◌, ◌≤◌, [], ◌∷◌, IfOk, IsErrOf, OnOk, length, List, ◌-◌, ◌*◌, ◌+ℤ◌, pos};
+//! What is still to be laid out lies on a stack of our own: variables, or elements of an array,
+//! each beneath a front of the one path that the walk keeps. A step takes the first of them off the
+//! top, so the leaves come in the order of the declarations, and the leaves so far followed by
+//! those of the stack, from its top down, are always those of the whole. So nothing recurses,
+//! however deep types stand inside each other, and each path is built in place.
+ghost use Rattle.std.specs.Prelude.{
+  ◌≡◌,
+  IsTrue,
+  false,
+  ◌<ℤ◌,
+  ◌≤ℤ◌,
+  IfSome,
+  IfNone,
+  ◌+◌,
+  ◌++◌,
+  ◌<◌,
+  ◌≤◌,
+  [],
+  ◌∷◌,
+  IfOk,
+  IsErrOf,
+  OnOk,
+  length,
+  List,
+  ◌-◌,
+  ◌*◌,
+  ◌+ℤ◌,
+  pos,
+};
 ghost use Rattle.pv_types.specs.Leaves.{
   section_within,
   start_value,
@@ -42,6 +66,7 @@ use crate::layout::MAX_LEAVES;
 use crate::leaf::{Leaf, Leaves};
 use crate::name::Name;
 use crate::named::Types;
+use crate::search::has_leaf;
 use itoa::Buffer;
 use pv_edge::Text;
 use pv_word::Ty;
@@ -59,8 +84,9 @@ pub(crate) enum Around {
 }
 
 impl Around {
-    /// The section of the leaves of a variable that is declared in this one, or none where it has no leaves.
-    fn section_of(self, own: Section) -> Option<Section>
+    /// The section of the leaves of a variable that is declared in this one, or none where it has
+    /// no leaves.
+    pub(crate) fn section_of(self, own: Section) -> Option<Section>
         ensures { result ≡ section_within (around_view self) own }
     {
         match self {
@@ -145,7 +171,8 @@ impl Span {
 
     /// The elements behind the first one.
     fn behind_first(&self) -> Option<Span>
-        ensures some { IfSome result (λ span. span ≡ record { index = self.now.index +ℤ pos 1; high = self.now.high }) }
+        ensures some { IfSome result (λ span. span
+            ≡ record { index = self.now.index +ℤ pos 1; high = self.now.high }) }
         ensures none { IfNone result (self.now.high ≤ℤ self.now.index) }
     {
         if self.index >= self.high {
@@ -172,8 +199,8 @@ pub(crate) enum Rest<'p> {
     },
 }
 
-/// What is still to be laid out beneath the first `path_len` bytes of the path, where at most `levels` named types stand
-/// inside each other.
+/// What is still to be laid out beneath the first `path_len` bytes of the path, where at most
+/// `levels` named types stand inside each other.
 #[derive(Drop)]
 pub(crate) struct Frame<'p> {
     rest: Rest<'p>,
@@ -203,9 +230,16 @@ impl<'p> Walk<'p> {
         ensures frames { self.new.frames.items ≡ self.old.frames.items }
         ensures path { self.new.path.items ≡ self.old.path.items }
         ensures leaves { OnOk result (self.new.leaves.items ≡ self.old.leaves.items
-            ++ record { path = self.old.path.items; ty = ty; start = start_value start; section = section } ∷ []) }
+            ++ record {
+              path = self.old.path.items;
+              ty = ty;
+              start = start_value start;
+              section =
+                  section;
+            } ∷ []) }
         ensures within { OnOk result (length self.new.leaves.items ≤ MAX_LEAVES) }
-        ensures too_large { IsErrOf result FlattenFault.TooLarge → MAX_LEAVES ≤ length self.old.leaves.items }
+        ensures too_large { IsErrOf result FlattenFault.TooLarge
+            → MAX_LEAVES ≤ length self.old.leaves.items }
     {
         if self.leaves.len() >= MAX_LEAVES {
             return Err(FlattenFault::TooLarge);
@@ -225,7 +259,8 @@ impl<'p> Walk<'p> {
     fn add_frame(&mut self, rest: Rest<'p>, levels: usize) -> Result<(), FlattenFault>
         requires { IsSound self.old }
         ensures adds { (types : List NamedType) → OnOk result (Adds types self.old self.new
-            (leaves_of_rest types levels self.old.path.items rest.entry) (work_of_rest types levels rest.entry)) }
+            (leaves_of_rest types levels self.old.path.items rest.entry)
+            (work_of_rest types levels rest.entry)) }
         ensures path { self.new.path.items ≡ self.old.path.items }
         ensures leaves { self.new.leaves.items ≡ self.old.leaves.items }
         ensures memory { IsErrOf result FlattenFault.TooLarge → ⊥ }
@@ -239,8 +274,9 @@ impl<'p> Walk<'p> {
         Ok(())
     }
 
-    /// Lays out a type beneath the path: its one leaf, or what it has inside, which goes on the stack.
-    fn lay_out(
+    /// Lays out a type beneath the path: its one leaf, or what it has inside, which goes on the
+    /// stack.
+    fn lay_out_type(
         &mut self,
         alloc: Global,
         ty: &'p DeclType,
@@ -252,11 +288,13 @@ impl<'p> Walk<'p> {
         requires { IsSound self.old }
         ensures adds { let types = types_of named.now in
             OnOk result (Adds types self.old self.new
-            (leaves_of_type (leaves_of_named types levels) self.old.path.items (start_value start) section (type_tree ty.now))
+            (leaves_of_type (leaves_of_named types levels) self.old.path.items (start_value start)
+            section (type_tree ty.now))
             (work_of_type (work_of_named types levels) (type_tree ty.now))) }
         ensures too_large { let types = types_of named.now in
             IsErrOf result FlattenFault.TooLarge → MAX_LEAVES < length self.old.leaves.items
-            + length (leaves_of_type (leaves_of_named types levels) self.old.path.items (start_value start) section (type_tree ty.now)) }
+            + length (leaves_of_type (leaves_of_named types levels) self.old.path.items
+            (start_value start) section (type_tree ty.now)) }
     {
         match ty {
             DeclType::Plain(ty) => self.add_leaf(alloc, *ty, start, section),
@@ -302,6 +340,33 @@ impl<'p> Walk<'p> {
         self.add_frame(Rest::Vars { vars, around }, below)
     }
 
+    /// Lays out a type beneath the path, unless it has no leaf, however many elements it may have.
+    fn lay_out(
+        &mut self,
+        alloc: Global,
+        ty: &'p DeclType,
+        start: Option<Literal>,
+        section: Section,
+        levels: usize,
+        named: &Types<'p>,
+    ) -> Result<(), FlattenFault>
+        requires { IsSound self.old }
+        ensures adds { let types = types_of named.now in
+            OnOk result (Adds types self.old self.new
+            (leaves_of_type (leaves_of_named types levels) self.old.path.items (start_value start)
+            section (type_tree ty.now))
+            (work_of_type (work_of_named types levels) (type_tree ty.now))) }
+        ensures too_large { let types = types_of named.now in
+            IsErrOf result FlattenFault.TooLarge → MAX_LEAVES < length self.old.leaves.items
+            + length (leaves_of_type (leaves_of_named types levels) self.old.path.items
+            (start_value start) section (type_tree ty.now)) }
+    {
+        if !has_leaf(alloc, ty, named)? {
+            return Ok(());
+        }
+        self.lay_out_type(alloc, ty, start, section, levels, named)
+    }
+
     /// Lays out the first of the variables, and puts the others on the stack.
     fn lay_out_vars(
         &mut self,
@@ -314,11 +379,13 @@ impl<'p> Walk<'p> {
         requires { IsSound self.old }
         ensures adds { let types = types_of named.now in
             OnOk result (Adds types self.old self.new
-            (leaves_of_vars (leaves_of_named types levels) (around_view around) self.old.path.items (listed (var_trees vars.now)))
+            (leaves_of_vars (leaves_of_named types levels) (around_view around)
+            self.old.path.items (listed (var_trees vars.now)))
             (work_of_vars (work_of_named types levels) (listed (var_trees vars.now)) - 1)) }
         ensures too_large { let types = types_of named.now in
             IsErrOf result FlattenFault.TooLarge → MAX_LEAVES < length self.old.leaves.items
-            + length (leaves_of_vars (leaves_of_named types levels) (around_view around) self.old.path.items (listed (var_trees vars.now))) }
+            + length (leaves_of_vars (leaves_of_named types levels) (around_view around)
+            self.old.path.items (listed (var_trees vars.now))) }
     {
         let Some((var, vars)) = vars.split_first() else {
             return Ok(());
@@ -342,10 +409,12 @@ impl<'p> Walk<'p> {
         levels: usize,
     ) -> Result<(), FlattenFault>
         requires { IsSound self.old }
-        ensures adds { (types : List NamedType) → let count = count_between (span.now.index +ℤ pos 1) span.now.high in
+        ensures adds { (types : List NamedType)
+            → let count = count_between (span.now.index +ℤ pos 1) span.now.high in
             OnOk result (Adds types self.old self.new
             (leaves_of_elements
-            (λ i. leaves_of_type (leaves_of_named types levels) (element_path self.old.path.items i) (pos 0) section (type_tree of.now))
+            (λ i. leaves_of_type (leaves_of_named types levels)
+            (element_path self.old.path.items i) (pos 0) section (type_tree of.now))
             (span.now.index +ℤ pos 1) count)
             (1 + count * (1 + work_of_type (work_of_named types levels) (type_tree of.now)))) }
         ensures path { self.new.path.items ≡ self.old.path.items }
@@ -371,11 +440,13 @@ impl<'p> Walk<'p> {
         requires { IsSound self.old }
         ensures adds { let types = types_of named.now in
             OnOk result (Adds types self.old self.new
-            (leaves_of_rest types levels self.old.path.items (Rest.Elements of.entry span.now section))
+            (leaves_of_rest types levels self.old.path.items
+            (Rest.Elements of.entry span.now section))
             (work_of_rest types levels (Rest.Elements of.entry span.now section) - 1)) }
         ensures too_large { let types = types_of named.now in
             IsErrOf result FlattenFault.TooLarge → MAX_LEAVES < length self.old.leaves.items
-            + length (leaves_of_rest types levels self.old.path.items (Rest.Elements of.entry span.now section)) }
+            + length (leaves_of_rest types levels self.old.path.items
+            (Rest.Elements of.entry span.now section)) }
     {
         if span.is_empty() {
             return Ok(());
@@ -395,7 +466,8 @@ impl<'p> Walk<'p> {
     ) -> Result<(), FlattenFault>
         requires { IsSound self.old }
         ensures adds { let types = types_of named.now in
-            OnOk result (Adds types self.old self.new (leaves_of_rest types levels self.old.path.items rest.entry)
+            OnOk result (Adds types self.old self.new
+            (leaves_of_rest types levels self.old.path.items rest.entry)
             (work_of_rest types levels rest.entry - 1)) }
         ensures too_large { let types = types_of named.now in
             IsErrOf result FlattenFault.TooLarge → MAX_LEAVES < length self.old.leaves.items
@@ -412,7 +484,8 @@ impl<'p> Walk<'p> {
     /// Takes the top off the stack, and leaves the front of the path beneath which it stands.
     fn pop_frame(&mut self) -> Option<Frame<'p>>
         requires { IsSound self.old }
-        ensures pops { IfSome result (λ frame. (types : List NamedType) → Pops types self.old self.new frame) }
+        ensures pops { IfSome result (λ frame. (types : List NamedType)
+            → Pops types self.old self.new frame) }
         ensures none { IfNone result (self.old.frames.items ≡ []) }
         ensures unchanged { IfNone result (self.new.frames.items ≡ []) }
         ensures leaves { self.new.leaves.items ≡ self.old.leaves.items }
@@ -427,7 +500,8 @@ impl<'p> Walk<'p> {
     fn step(&mut self, alloc: Global, named: &Types<'p>) -> Result<bool, FlattenFault>
         requires { IsSound self.old }
         ensures steps { IfOk result (λ going. Steps (types_of named.now) self.old self.new going) }
-        ensures too_large { IsErrOf result FlattenFault.TooLarge → MAX_LEAVES < length (all_leaves (types_of named.now) self.old) }
+        ensures too_large { IsErrOf result FlattenFault.TooLarge
+            → MAX_LEAVES < length (all_leaves (types_of named.now) self.old) }
     {
         let Some(frame) = self.pop_frame() else {
             return Ok(false);
@@ -447,7 +521,8 @@ impl<'p> Walk<'p> {
     ) -> Result<Walk<'p>, FlattenFault>
         ensures sound { IfOk result (λ walk. IsSound walk) }
         ensures all { (types : List NamedType) → IfOk result (λ walk. all_leaves types walk
-            ≡ leaves_of_vars (leaves_of_named types levels) block path.now (listed (var_trees vars.now))) }
+            ≡ leaves_of_vars (leaves_of_named types levels) block path.now
+            (listed (var_trees vars.now))) }
         ensures memory { IsErrOf result FlattenFault.TooLarge → ⊥ }
     {
         let mut walk = Walk {
@@ -463,9 +538,12 @@ impl<'p> Walk<'p> {
     /// Takes all steps, and gives the leaves.
     pub(crate) fn run(self, alloc: Global, named: &Types<'p>) -> Result<Leaves, FlattenFault>
         requires { IsSound self }
-        ensures leaves { IfOk result (λ leaves. leaves ≡ all_leaves (types_of named.now) self.entry) }
-        ensures within { OnOk result (length (all_leaves (types_of named.now) self.entry) ≤ MAX_LEAVES) }
-        ensures too_large { IsErrOf result FlattenFault.TooLarge → MAX_LEAVES < length (all_leaves (types_of named.now) self.entry) }
+        ensures leaves { IfOk result (λ leaves. leaves
+            ≡ all_leaves (types_of named.now) self.entry) }
+        ensures within { OnOk result (length (all_leaves (types_of named.now) self.entry) ≤
+            MAX_LEAVES) }
+        ensures too_large { IsErrOf result FlattenFault.TooLarge
+            → MAX_LEAVES < length (all_leaves (types_of named.now) self.entry) }
     {
         let mut walk = self;
         while walk.step(alloc, named)? {}

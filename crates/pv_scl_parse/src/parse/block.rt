@@ -1,6 +1,6 @@
 //! Function blocks.
 ghost use Rattle.std.specs.Prelude.{◌≡◌, ◌≤◌, IfOk, vec_len};
-ghost use Rattle.pv_tree.specs.Tree.{block_tree};
+ghost use Rattle.pv_first.specs.Tree.{block_tree};
 ghost use Rattle.pv_scl_parse.specs.Readers.{Gives, is_opening, behind_begin, behind_closing, found_block, block_in};
 
 use super::MAX_VARS;
@@ -11,7 +11,7 @@ use super::statements::statements;
 use crate::fault::ReadFault;
 use crate::lex::{Kind, Token};
 use crate::words::Word;
-use pv_tree::{Block, BlockKind, Body};
+use pv_first::{Block, BlockKind, Body};
 use pv_types::Interface;
 use std::alloc::Global;
 

@@ -4,7 +4,7 @@
 ghost use Rattle.std.specs.Prelude.{◌≡◌, ◌+◌, ◌-◌, ◌^◌, ◌<◌, ◌≤◌, List, Some, IfOk, IfSome, IfNone};
 ghost use Rattle.pv_word.specs.declared.types.Ty.TheVariants.{Bool as BoolType};
 ghost use Rattle.pv_scl_parse.specs.declared.lex.Token.{Token};
-ghost use Rattle.pv_tree.specs.Tree.{operand_tree, expr_tree, lit, read};
+ghost use Rattle.pv_first.specs.Tree.{operand_tree, expr_tree, lit, read};
 ghost use Rattle.pv_scl_parse.specs.Expressions.{word_operand};
 ghost use Rattle.pv_scl_parse.specs.Readers.{Gives, found_expr, readers, operand_in, chain, joined, enclosed, negated, Stops, IsSignBefore, is_sign, start_of};
 
@@ -12,8 +12,8 @@ use super::front::{next, word_name};
 use crate::fault::ReadFault;
 use crate::lex::{Kind, Token};
 use crate::words::Word;
+use pv_first::{BinaryOp, Expr, Operand, Root, UnaryOp};
 use pv_machine::Place;
-use pv_tree::{BinaryOp, Expr, Operand, Root, UnaryOp};
 use pv_word::Ty;
 use std::alloc::{AllocError, Global};
 

@@ -1,7 +1,7 @@
 //! Statements.
 ghost use Rattle.std.specs.Prelude.{◌≡◌, length, map};
 ghost use Rattle.std.specs.Option.{option_map};
-ghost use Rattle.pv_tree.specs.Tree.{stmt_tree};
+ghost use Rattle.pv_first.specs.Tree.{stmt_tree};
 ghost use Rattle.pv_scl_parse.specs.Readers.{Gives, is_word, is_assign, behind_semicolon, target, target_in, begins_statement, found_stmt, found_stmts, assignment_in, statements_in};
 
 use super::MAX_NESTING;
@@ -10,8 +10,8 @@ use super::front::next;
 use crate::fault::ReadFault;
 use crate::lex::{Kind, Token};
 use crate::words::Word;
+use pv_first::Stmt;
 use pv_machine::Place;
-use pv_tree::Stmt;
 use std::alloc::Global;
 
 /// Reads the statements, as many as there are, and gives the tokens behind them.

@@ -1,8 +1,9 @@
 //! A table of declarations with their leaves.
 //!
-//! A declaration is written behind its type: `int s:x=5` is a variable x of VAR that starts with 5. `[1..3]` makes an array
-//! of the type before it, `{` and `}` stand around a structure's fields, `@T` is a type T. A row has the types first, each
-//! with its name, and the block's variables last, behind the name `-`; then its leaves.
+//! A declaration is written behind its type: `int s:x=5` is a variable x of VAR that starts with 5.
+//! `[1..3]` makes an array of the type before it, `{` and `}` stand around a structure's fields,
+//! `@T` is a type T. A row has the types first, each with its name, and the block's variables last,
+//! behind the name `-`; then its leaves.
 use crate::{DeclType, FlattenFault, Literal, Name, Section, Types, Var, flatten};
 use pv_machine::Place;
 use pv_word::Ty;
@@ -41,6 +42,8 @@ F int t:a { int s:b } t:c ; - @F s:f bool o:q > q:Bool:0:Output
 - int s:z int s:a > z:Int:0:Static a:Int:0:Static
 - int [1..20000] s:a > many
 - int [1..10001] s:a int [1..10000] s:b > TooLarge
+- { } [0..9223372036854775807] s:a int s:b > b:Int:0:Static
+F int t:x ; - { @F [1..9] s:i } [0..9223372036854775807] s:a int s:b > b:Int:0:Static
 - { { int [1..10000] s:a } [1..10000] s:b } [1..10000] s:c > TooLarge
 - > ";
 

@@ -42,7 +42,8 @@ fn one_field(
     ty: Ty,
     place: Place,
 ) -> Result<DeclType, AllocError>
-    ensures { IfOk result (λ made. type_tree made ≡ structure (_then_ (var name section (plain ty) None place) no_vars)) }
+    ensures { IfOk result (λ made. type_tree made
+        ≡ structure (_then_ (var name section (plain ty) None place) no_vars)) }
 {
     let mut vars = Vec::new(alloc);
     vars.push(plain_var(name, section, ty, None, place))?;

@@ -1,5 +1,5 @@
 use Rattle.std.proofs.Common.{map}
-use Rattle.pv_tree.specs.Tree.{block_tree, expr_tree}
+use Rattle.pv_first.specs.Tree.{block_tree, expr_tree}
 use Rattle.pv_bool.specs.Tree.{term_tree, assignment_tree}
 use Rattle.pv_mean.proofs.FirstNumbers.{same_count, program-made, program-own}
 use Rattle.pv_mean.proofs.first.make_program.Goals as goal

@@ -1,7 +1,7 @@
 use Rattle.std.proofs.Common.{List, subst, sym}
 use Rattle.std.specs.Prelude.{All}
-use Rattle.pv_tree.specs.Tree.{StmtTree, stmt_tree}
-use Rattle.pv_tree.specs.FirstForm.{IsFirstStmt}
+use Rattle.pv_first.specs.Tree.{StmtTree, stmt_tree}
+use Rattle.pv_first.specs.FirstForm.{IsFirstStmt}
 use Rattle.pv_mean.proofs.Lists.{each-mapped}
 use Rattle.pv_mean.proofs.form.is_first_body.Goals as goal
 

@@ -2,7 +2,7 @@ use Rattle.std.proofs.Common.{List, map, subst, sym}
 use Rattle.std.specs.Prelude.{All}
 use Rattle.pv_types.specs.declared.declaration.Var.{Var}
 use Rattle.pv_types.specs.View.{var_tree}
-use Rattle.pv_tree.specs.FirstForm.{IsFirstVar}
+use Rattle.pv_first.specs.FirstForm.{IsFirstVar}
 use Rattle.pv_mean.proofs.Lists.{each-mapped}
 use Rattle.pv_mean.proofs.form.is_first_interface.Goals as goal
 

@@ -1,4 +1,4 @@
-use Rattle.pv_mean.proofs.Frames.{length-begin, length-image_of, length-start_image}
+use Rattle.pv_mean.proofs.Frames.{length-begin, length-image_after, length-start_image}
 use Rattle.pv_mean.proofs.Statements.{length-done}
 use Rattle.pv_mean.proofs.laws.images_keep_their_length.Goals as goal
 
@@ -9,7 +9,7 @@ pub returns-clause-end : goal.returns-clause-end
 returns-clause-end c = length-done
 
 pub returns-clause-next : goal.returns-clause-next
-returns-clause-next c = λ source frame. length-image_of source.cells frame
+returns-clause-next c = λ source beginning frame. length-image_after source.cells beginning frame
 
 pub returns-clause-start : goal.returns-clause-start
 returns-clause-start c = λ source params. length-start_image source.cells params

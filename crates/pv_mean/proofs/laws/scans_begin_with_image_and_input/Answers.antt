@@ -14,4 +14,4 @@ pub returns-clause-image : goal.returns-clause-image
 returns-clause-image c = image_of-begin
 
 pub returns-clause-carried : goal.returns-clause-carried
-returns-clause-carried c = λ source frame input. image_of-carried source.cells frame input
+returns-clause-carried c = λ source beginning frame input. image_of-carried source.cells beginning frame input

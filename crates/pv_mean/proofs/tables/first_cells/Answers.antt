@@ -1,4 +1,4 @@
-use Rattle.pv_tree.specs.Tree.{block_tree}
+use Rattle.pv_first.specs.Tree.{block_tree}
 use Rattle.pv_mean.proofs.ForCallers.{first_is_grounded}
 use Rattle.pv_mean.proofs.tables.first_cells.Goals as goal
 

@@ -1,5 +1,5 @@
 use Rattle.std.proofs.Common.{◌≡◌, ℕ, List, ℤ, length, map, arith, ap, sym, subst, ◌∙◌}
-use Rattle.pv_tree.specs.Tree.{block_tree, expr_tree}
+use Rattle.pv_first.specs.Tree.{block_tree, expr_tree}
 use Rattle.pv_mean.specs.declared.cell.Cell.{Cell}
 use Rattle.pv_mean.specs.Frames.{input_len}
 use Rattle.pv_mean.specs.Cells.{cells_of}

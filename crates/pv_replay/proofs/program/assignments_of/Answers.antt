@@ -1,6 +1,6 @@
 use Rattle.std.proofs.Common.{arith}
-use Rattle.pv_tree.specs.Names.{IsDeclaredIn}
-use Rattle.pv_tree.specs.FirstForm.{IsFirstStmt}
+use Rattle.pv_first.specs.Names.{IsDeclaredIn}
+use Rattle.pv_first.specs.FirstForm.{IsFirstStmt}
 use Rattle.pv_replay.proofs.ProgramLemmas.{program_step, each_tree}
 use Rattle.pv_replay.proofs.program.assignments_of.Goals as goal
 

@@ -1,5 +1,5 @@
 use Rattle.std.proofs.Common.{map, take}
-use Rattle.pv_tree.specs.Tree.{stmt_tree}
+use Rattle.pv_first.specs.Tree.{stmt_tree}
 use Rattle.pv_replay.specs.Programs.{IsProgramOf}
 use Rattle.pv_replay.proofs.program.assignments_of.Given as goal
 

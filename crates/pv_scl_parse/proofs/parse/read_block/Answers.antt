@@ -1,7 +1,7 @@
 use Rattle.std.proofs.Common.{sym, subst, refl, arith}
 use Rattle.std.proofs.lemmas.Bool.{false≢true}
 use Rattle.pv_scl_parse.specs.Tokens.{AreTokens}
-use Rattle.pv_tree.specs.Tree.{block_tree}
+use Rattle.pv_first.specs.Tree.{block_tree}
 use Rattle.pv_scl_parse.specs.Reading.{ReadsBlock}
 use Rattle.pv_scl_parse.proofs.Exits.{found_by, refused_by}
 use Rattle.pv_scl_parse.proofs.Readings.{block_reads, block_is_read, no_block}

@@ -1,6 +1,6 @@
 use Rattle.std.proofs.Common.{sym, subst, arith}
 use Rattle.pv_scl_parse.specs.Tokens.{AreTokens}
-use Rattle.pv_tree.specs.Tree.{expr_tree}
+use Rattle.pv_first.specs.Tree.{expr_tree}
 use Rattle.pv_scl_parse.specs.Reading.{ReadsExpression}
 use Rattle.pv_scl_parse.proofs.Exits.{found_by, refused_by}
 use Rattle.pv_scl_parse.proofs.Readings.{expression_reads, expression_is_read}

@@ -1,10 +1,10 @@
-use Rattle.std.proofs.Common.{◌≡◌, take}
-use Rattle.pv_step.specs.Circuits.{given_count, begin_nodes, begin_literals}
+use Rattle.std.proofs.Common.{◌≡◌}
+use Rattle.pv_step.specs.Circuits.{begin_nodes, input_literals}
 use Rattle.pv_step.proofs.step.inputs.Given as goal
 
--- the nodes and the literals of the bits so far
-abbrev pub invariant-loop-bit : goal.invariant-loop-bit
-invariant-loop-bit l = record {
-  gates : l.gates ≡ record l.fn.gates { nodes = begin_nodes (given_count (take l.bit-index l.bits)) };
-  literals : l.literals.items ≡ begin_literals (take l.bit-index l.bits);
+-- the nodes and the literals of the inputs so far
+abbrev pub invariant-loop-taken : goal.invariant-loop-taken
+invariant-loop-taken l = record {
+  gates : l.gates ≡ record l.fn.gates { nodes = begin_nodes l.taken };
+  literals : l.literals.items ≡ input_literals 0 l.taken;
 }

@@ -1,5 +1,5 @@
 use Rattle.std.proofs.Common.{rules, arith, ap, ◌∙◌, Vec, Global, ℤ}
-use Rattle.pv_machine.specs.Roles.{is_input}
+use Rattle.pv_bool.specs.Roles.{is_input}
 use Rattle.pv_step.proofs.Beginning.{pushed}
 use Rattle.pv_step.proofs.Picks.{picked_on, passed_over}
 use Rattle.pv_step.proofs.step.taken.Goals.{else-is_input-via-then-is_input+else-is_err, else-is_input-via-else-is_input}

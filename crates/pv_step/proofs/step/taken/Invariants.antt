@@ -1,5 +1,5 @@
 use Rattle.std.proofs.Common.{◌≡◌, ◌++◌, drop}
-use Rattle.pv_machine.specs.Roles.{is_input}
+use Rattle.pv_bool.specs.Roles.{is_input}
 use Rattle.pv_step.specs.Circuits.{picked}
 use Rattle.pv_step.proofs.step.taken.Given as goal
 

@@ -3,7 +3,7 @@ use Rattle.pv_bool.specs.Programs.{program_tree}
 use Rattle.pv_bool.specs.Tree.{IsProgram}
 use Rattle.pv_mean.specs.Sources.{source_of}
 use Rattle.pv_mean.specs.FirstForm.{program_of}
-use Rattle.pv_tree.specs.Tree.{block_tree, expr_tree}
+use Rattle.pv_first.specs.Tree.{block_tree, expr_tree}
 use Rattle.pv_recheck.specs.declared.check.TheConstants.{MAX_STEP_GATES}
 use Rattle.pv_recheck.specs.declared.fault.RecheckFault.{RecheckFault}
 use Rattle.pv_recheck.specs.declared.fault.RecheckFault.TheVariants.{Fault}

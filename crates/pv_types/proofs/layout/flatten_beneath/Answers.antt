@@ -9,7 +9,8 @@ use Rattle.pv_types.specs.View.{var_trees, listed}
 use Rattle.pv_types.specs.Leaves.{block, leaves_of_named, leaves_of_vars}
 use Rattle.pv_types.proofs.layout.flatten_beneath.Goals as goal
 
-same : (types : List NamedType) (walk : Walk) (path : List ℕ) (vars : VarTrees) (n : ℕ) → ((ts : List NamedType) → all_leaves ts walk ≡ leaves_of_vars (leaves_of_named ts n) block path vars)
+same : (types : List NamedType) (walk : Walk) (path : List ℕ) (vars : VarTrees) (n : ℕ)
+    → ((ts : List NamedType) → all_leaves ts walk ≡ leaves_of_vars (leaves_of_named ts n) block path vars)
     → n ≡ length types → all_leaves types walk ≡ leaves_of_vars (leaves_of_named types (length types)) block path vars
 same types walk path vars n all is = all types ∙ ap (λ m. leaves_of_vars (leaves_of_named types m) block path vars) is
 

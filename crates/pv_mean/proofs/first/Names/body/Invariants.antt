@@ -1,5 +1,5 @@
 use Rattle.std.proofs.Common.{◌≡◌, map, take}
-use Rattle.pv_tree.specs.Tree.{stmt_tree}
+use Rattle.pv_first.specs.Tree.{stmt_tree}
 use Rattle.pv_bool.specs.Tree.{assignment_tree}
 use Rattle.pv_mean.specs.FirstForm.{assignment_by}
 use Rattle.pv_mean.specs.Numbering.{place_among}

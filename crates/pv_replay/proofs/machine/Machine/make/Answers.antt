@@ -1,4 +1,4 @@
-use Rattle.pv_tree.specs.Tree.{block_tree, expr_tree}
+use Rattle.pv_first.specs.Tree.{block_tree, expr_tree}
 use Rattle.pv_replay.proofs.MachineLemmas.{resolved, machine_is}
 use Rattle.pv_replay.proofs.machine.Machine.make.Goals as goal
 

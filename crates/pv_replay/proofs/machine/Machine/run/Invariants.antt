@@ -1,5 +1,5 @@
 use Rattle.std.proofs.Common.{◌≡◌, ◌+◌, ◌≤◌, List, ℤ, length}
-use Rattle.pv_tree.specs.Tree.{ExprTree}
+use Rattle.pv_first.specs.Tree.{ExprTree}
 use Rattle.pv_mean.specs.Sources.{Source}
 use Rattle.pv_mean.specs.Frames.{image_of}
 use Rattle.pv_cert.specs.Traces.{AreScans, scans_text}

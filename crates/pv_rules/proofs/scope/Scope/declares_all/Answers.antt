@@ -1,7 +1,7 @@
 use Rattle.std.proofs.Common.{rules, ◌↔◌, IsTrue, All}
 use Rattle.std.proofs.lemmas.List.Elements.{All-map}
-use Rattle.pv_tree.specs.Tree.{stmt_tree}
-use Rattle.pv_tree.specs.Names.{IsDeclaredIn}
+use Rattle.pv_first.specs.Tree.{stmt_tree}
+use Rattle.pv_first.specs.Names.{IsDeclaredIn}
 use Rattle.pv_rules.proofs.Each.{of_trees}
 use Rattle.pv_rules.proofs.scope.Scope.declares_all.Goals as goal
 

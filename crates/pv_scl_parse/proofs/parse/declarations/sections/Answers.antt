@@ -2,6 +2,7 @@ use Rattle.std.proofs.Common.{◌≡◌, ◌<◌, ◌∷◌, [], ◌++◌, lengt
 use Rattle.std.proofs.lemmas.List.{map_push, length-map}
 use Rattle.pv_types.specs.View.{var_tree}
 use Rattle.pv_scl_parse.proofs.Declarations.{stands_first, stands_to, stands_wrong, stands_full, stands_behind, stands_more, stands_empty}
+use Rattle.pv_scl_parse.specs.declared.parse.TheConstants.{MAX_VARS}
 use Rattle.pv_scl_parse.proofs.parse.declarations.sections.Goals as goal
 
 pub loop-token-init : goal.loop-token-init
@@ -38,7 +39,7 @@ loop-token-preserved c =
     let v = c.in_ok-declared-in-Declare.field-0 in
     let e : map var_tree c.push.new.self.items ≡ map var_tree c.loop-token.vars.items ++ var_tree v ∷ [] = rw
     c.in_ok-push-in-Declare.ensures.items (map_push _ c.loop-token.vars.items v) in
-    let few : vec_len c.loop-token.vars < 20000 = omega (arith, c.len.ensures, c.loop-token.invariant.0, c.if-len-eq-MAX_VARS.false) in
+    let few : vec_len c.loop-token.vars < MAX_VARS = omega (arith, c.len.ensures, c.loop-token.invariant.0, c.if-len-eq-MAX_VARS.false) in
     let less : length (map var_tree c.loop-token.vars.items) < 20000 = omega
     (arith, length-map c.loop-token.vars.items var_tree, c.loop-token.vars.ok.0) in (
       omega (arith, c.in_ok-push-in-Declare.ensures.len),

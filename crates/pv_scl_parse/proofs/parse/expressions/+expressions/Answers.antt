@@ -1,8 +1,8 @@
 use Rattle.std.proofs.Common.{◌-◌, Option, Some, sym, ap, ◌∙◌, arith}
 use Rattle.std.specs.Option.{option_map, option_and_then}
 use Rattle.pv_scl_parse.specs.declared.parse.expressions.Start.TheVariants as start
-use Rattle.pv_tree.specs.declared.tree.BinaryOp.TheVariants.{And, Or}
-use Rattle.pv_tree.specs.Tree.{expr_tree}
+use Rattle.pv_first.specs.declared.tree.BinaryOp.TheVariants.{And, Or}
+use Rattle.pv_first.specs.Tree.{expr_tree}
 use Rattle.pv_scl_parse.specs.Readers.{FoundExpr, found_expr, readers, operand_in, chain, negated, enclosed}
 use Rattle.pv_scl_parse.proofs.Chains.{conjunction-by, disjunction-by, joins_start, joins_ends, joins_no_operand, joins_too_deep, joins_more, factor-none, factor-empty, factor-starts, found_as}
 use Rattle.pv_scl_parse.proofs.Exits.{fails_so, exit, gives_by}

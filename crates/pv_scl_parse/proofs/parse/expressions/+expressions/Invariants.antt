@@ -1,5 +1,5 @@
 use Rattle.std.proofs.Common.{◌+◌, ◌-◌, ◌*◌}
-use Rattle.pv_tree.specs.Tree.{expr_tree}
+use Rattle.pv_first.specs.Tree.{expr_tree}
 use Rattle.pv_scl_parse.proofs.Chains.{Joins}
 use Rattle.pv_scl_parse.proofs.parse.expressions.+expressions.Given as goal
 

@@ -1,6 +1,6 @@
 use Rattle.std.proofs.Common.{◌≡◌, ◌∷◌, [], ◌++◌, map, sym}
 use Rattle.std.proofs.lemmas.List.{map_push}
-use Rattle.pv_tree.specs.Tree.{stmt_tree}
+use Rattle.pv_first.specs.Tree.{stmt_tree}
 use Rattle.pv_scl_parse.proofs.Statements.{stands_next, stands_shorter, stands_last, stands_failed}
 use Rattle.pv_scl_parse.proofs.Exits.{exit, fails_so}
 use Rattle.pv_scl_parse.proofs.parse.statements.statements.Goals as goal

@@ -1,5 +1,5 @@
 use Rattle.std.proofs.Common.{length, map}
-use Rattle.pv_tree.specs.Tree.{stmt_tree}
+use Rattle.pv_first.specs.Tree.{stmt_tree}
 use Rattle.pv_scl_parse.proofs.Statements.{Stands}
 use Rattle.pv_scl_parse.proofs.parse.statements.statements.Given as goal
 

@@ -7,9 +7,13 @@ use Rattle.pv_types.proofs.named.Types.push.Goals as goal
 
 pub returns-then-contains_key-clause-pushed : goal.returns-then-contains_key-clause-pushed
 returns-then-contains_key-clause-pushed c =
-    with_known (λ v. var_trees v.now) c.args.self.now.types.entries c.args.name.now.key c.args.vars (sym c.contains_key.ensures ∙ c.if-contains_key.true)
+    with_known (λ v. var_trees v.now) c.args.self.now.types.entries c.args.name.now.key c.args.vars
+    (sym c.contains_key.ensures ∙ c.if-contains_key.true)
 
 pub returns-clause-pushed : goal.returns-clause-pushed
 returns-clause-pushed c =
-    ap (map (typed (λ v. var_trees v.now))) (c.in_ok-insert.ensures.entries ∙ ap (λ k. insert_entry bytes_eq c.args.self.now.types.entries k c.args.vars) c.in_ok-key.ensures.cases)
-    ∙ with_new (λ v. var_trees v.now) c.args.self.now.types.entries c.args.name.now.key c.args.vars (sym c.contains_key.ensures ∙ c.if-contains_key.false)
+    ap (map (typed (λ v. var_trees v.now)))
+    (c.in_ok-insert.ensures.entries
+    ∙ ap (λ k. insert_entry bytes_eq c.args.self.now.types.entries k c.args.vars) c.in_ok-key.ensures.cases)
+    ∙ with_new (λ v. var_trees v.now) c.args.self.now.types.entries c.args.name.now.key c.args.vars
+    (sym c.contains_key.ensures ∙ c.if-contains_key.false)

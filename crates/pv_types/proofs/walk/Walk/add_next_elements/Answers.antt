@@ -7,5 +7,6 @@ use Rattle.pv_types.proofs.walk.Walk.add_next_elements.Goals as goal
 pub returns-in-Some-clause-adds : goal.returns-in-Some-clause-adds
 returns-in-Some-clause-adds c = λ types.
     subst (λ (s : Span). OnOk c.add_frame.result (Adds types c.args.self.now c.add_frame.new.self
-    (leaves_of_rest types c.args.levels c.args.self.now.path.items (Elements c.args.of s c.args.section)) (work_of_rest types c.args.levels (Elements c.args.of s c.args.section))))
+    (leaves_of_rest types c.args.levels c.args.self.now.path.items (Elements c.args.of s c.args.section))
+    (work_of_rest types c.args.levels (Elements c.args.of s c.args.section))))
     c.in-Some.ensures.some (c.add_frame.ensures.adds types)

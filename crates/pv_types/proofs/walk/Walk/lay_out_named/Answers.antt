@@ -15,5 +15,6 @@ returns-clause-adds c =
     c.in-Some.ensures.0 c.in-Some.ensures.1 c.in-Some-find.ensures in
     subst (λ (w : ℕ). OnOk c.add_frame.result (Adds types c.args.self.now c.add_frame.new.self
     (leaves_of_named types c.args.levels c.args.name.now.key c.args.self.now.path.items c.args.section) w)) same.1
-    (subst (λ (ls : List Leaf). OnOk c.add_frame.result (Adds types c.args.self.now c.add_frame.new.self ls (work_of_vars (work_of_named types c.in-Some.below) (listed vars)))) same.0
+    (subst (λ (ls : List Leaf). OnOk c.add_frame.result
+    (Adds types c.args.self.now c.add_frame.new.self ls (work_of_vars (work_of_named types c.in-Some.below) (listed vars)))) same.0
     (c.add_frame.ensures.adds types))

@@ -1,0 +1,11 @@
+pub mod Lefts
+pub mod Ends
+pub mod Places
+pub mod Paths
+pub mod Visits
+pub mod Wholes
+pub mod Lines
+pub mod Backs
+pub mod Saying
+pub mod Steps
+pub mod Endings

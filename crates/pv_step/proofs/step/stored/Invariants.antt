@@ -1,9 +1,0 @@
-use Rattle.std.proofs.Common.{◌≡◌, ◌++◌, drop}
-use Rattle.pv_machine.specs.Roles.{is_stored}
-use Rattle.pv_step.specs.Circuits.{picked}
-use Rattle.pv_step.proofs.step.stored.Given as goal
-
--- those that were found, and those of the bits from here on, are all
-abbrev pub invariant-loop-number : goal.invariant-loop-number
-invariant-loop-number l = picked is_stored l.bits l.literals ≡ l.found.items ++ picked is_stored (drop l.number l.bits)
-    (drop l.number l.literals)

@@ -1,0 +1,5 @@
+use Rattle.pv_tree.proofs.KeptRules.{grounded}
+use Rattle.pv_tree.proofs.rule_laws.named_types_are_grounded.Goals as goal
+
+pub returns : goal.returns
+returns c = grounded
