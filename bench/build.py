@@ -27,8 +27,17 @@ def below(names, lines):
     return found
 
 
+def copy_proofs(text, crate):
+    """Copies what a program's proof takes: each file F/Invariants.txt of the folder proofs/ beside its text, as proofs/F/Invariants.antt."""
+    folder = pathlib.Path(text).parent / "proofs"
+    for file in folder.rglob("*.txt"):
+        copy = crate / "proofs" / file.relative_to(folder).with_suffix(".antt")
+        copy.parent.mkdir(parents=True, exist_ok=True)
+        shutil.copy(file, copy)
+
+
 def built(place, name, text, libraries):
-    """The program of this name whose main.rt is the text, over these libraries and anyhow."""
+    """The program of this name whose main.rt is the text, over these libraries and anyhow, with what lies in proofs/ beside it."""
     place = pathlib.Path(place)
     lines = library_lines()
     copied = below(libraries, lines)
@@ -41,6 +50,7 @@ def built(place, name, text, libraries):
     crate = place / "crates" / name
     (crate / "src").mkdir(parents=True)
     shutil.copy(text, crate / "src" / "main.rt")
+    copy_proofs(text, crate)
     run = subprocess.run(["rt", "run"], cwd=crate, capture_output=True, text=True)
     program = crate / "out" / name
     if not program.exists():

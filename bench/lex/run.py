@@ -4,7 +4,11 @@
 Usage: run.py [n] (2,097,152, the half of what a source may have). Builds the programs in a temporary copy of the crates, and needs
 `rt`, and for the comparison `flex` and a C compiler. Prints, for each text, the processor time of one cut (that of many less that of
 none, the least of five), the ratio of these, the least and the greatest ratio of five pairs, and the memory of a token (the peak less
-that of a run which cuts nothing). Where `valgrind` is there also the ratio of instructions at n/16 and n/8, which no load changes."""
+that of a run which cuts nothing). Where `valgrind` is there also the ratio of instructions at n/16 and n/8, which no load changes.
+
+Each cut takes its memory anew from the system, as a process that cuts one text does. Left to itself the C library would hand a list
+below 32 MiB the memory of the cut before, and one above it new pages each time, and so a text just beyond that would look slower."""
+import os
 import pathlib
 import shutil
 import subprocess
@@ -132,6 +136,7 @@ def compare_with_c(program, place, size):
 def main():
     n = int(sys.argv[1]) if len(sys.argv) > 1 else 2097152
     machine()
+    os.environ["MALLOC_MMAP_THRESHOLD_"] = "65536"
     with tempfile.TemporaryDirectory() as folder:
         place = pathlib.Path(folder)
         program = built(place, "lex_bench", HERE / "main.rt.txt", ["pv_lex"])

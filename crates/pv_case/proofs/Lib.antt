@@ -1,3 +1,4 @@
-mod CaseLemmas
-mod Unique
-pub mod ForCallers
+mod Each
+mod Looking
+mod OverMaps
+mod LeastStrays

@@ -1,88 +1,175 @@
--- A case: one JSON object that names the source, the entry block, the invariant and the limits. Of a key that stands twice in
--- a text the last value counts, so an object has each key once; texts are lists of UTF-8 bytes.
-use Rattle.std.specs.Prelude.{◌≡◌, ◌≤◌, ◌⊎◌, ℕ, List, length, Some, codes, string_bytes, IsUtf8}
-use Rattle.std.specs.List.{All}
-use Rattle.std.specs.Char.{IsAsciiAlphanumeric}
-use Rattle.serde_json.specs.Data.{Data, object, array, string, number, unsigned, item, no_items, Members}
-use Rattle.serde_json.specs.Events.{members_len}
-use Rattle.serde_json.specs.Find.{get}
+-- A case: what a JSON value says where it keeps all rules of cases, and which rule it breaks first where it doesn't.
+use Rattle.std.specs.Prelude.{◌≡◌, ℕ, ℤ, pos, List, [], ◌∷◌, map, filter_map, codes, bytes_eq, string_bytes, IsUtf8, Bool, true, false, if◌then◌else◌, IsTrue, Option, Some, None, unwrap_or, option_map}
+use Rattle.std.specs.List.{list_any}
+use Rattle.pv_word.specs.declared.types.Ty.{Ty}
+use Rattle.pv_types.specs.declared.name.Name.{Name}
+use Rattle.pv_lex.specs.declared.token.Language.{Language}
+use Rattle.pv_lex.specs.declared.token.Language.TheVariants.{Scl, Stl}
+use Rattle.pv_tree.specs.Tree.{OperandTree}
+use Rattle.pv_tree.specs.View.{operand_tree}
+use Rattle.serde_json.specs.Data.{Data}
+use Rattle.serde_json.specs.Find.{get, as_bool}
 use Rattle.serde_json.specs.Read.{read}
 use Rattle.pv_case.specs.declared.case.Case.{Case}
-use Rattle.pv_case.specs.declared.case.Limits.{Limits}
-use Rattle.pv_case.specs.declared.case.TheConstants.{MAX_TEXT, MAX_NAME, MAX_LOOP_BOUND, MAX_DEPTH, MAX_LEMMAS, MIN_REGION_WORDS, MAX_REGION_WORDS}
+use Rattle.pv_case.specs.declared.case.Source.{Source}
+use Rattle.pv_case.specs.declared.case.Bound.{Bound}
+use Rattle.pv_case.specs.declared.case.Symbol.{Symbol}
+use Rattle.pv_case.specs.declared.case.PatternKind.{PatternKind}
+use Rattle.pv_case.specs.declared.case.Reductions.{Reductions}
+use Rattle.pv_case.specs.declared.fault.Kind.{Kind}
+use Rattle.pv_case.specs.Members.{items_at, pairs_at, text_at, text_in, integer_of, integer_at, is_object}
+use Rattle.pv_case.specs.Patterns.{kind_named}
+use Rattle.pv_case.specs.Symbols.{symbol_key, ReadsAs}
+use Rattle.pv_case.specs.Fields.{text_of, expression_names, case_checks}
 
--- what a case says
+-- ---- what a case says, as plain data
+
+pub record SourceData : Type 0 where
+  pub file : List ℕ
+  pub language : Language
+
+pub record SymbolData : Type 0 where
+  pub name : Name
+  pub at : OperandTree
+  pub ty : Ty
+
 pub record CaseData : Type 0 where
   pub name : List ℕ
-  pub file : List ℕ
+  pub sources : List SourceData
   pub entry : List ℕ
-  pub invariant : List ℕ
-  pub limits : Limits
+  pub params : List (List ℕ)
+  pub bind : List (List ℕ × ℤ)
+  pub symbols : List SymbolData
+  pub kind : PatternKind
+  pub expressions : List (List ℕ)
+  pub loop_bound : ℤ
+  pub depth : ℤ
+  pub lemmas : ℤ
+  pub region_words : ℤ
+  pub reductions : Reductions
+  pub certificate : Option (List ℕ)
+
+-- ---- what the members say
+
+abbrev pub language_of : List ℕ → Language
+language_of text = if bytes_eq text (codes "stl") then Stl else Scl
+
+abbrev pub source_of : Data → SourceData
+source_of s = record { file = text_in s (codes "file"); language = language_of (text_in s (codes "language")) }
+
+-- TRUE is 1, and FALSE is 0
+abbrev pub truth_of : Option Bool → ℤ
+truth_of None = pos 0
+truth_of (Some false) = pos 0
+truth_of (Some true) = pos 1
+
+abbrev pub value_of : Data → ℤ
+value_of d = unwrap_or (integer_of d) (truth_of (as_bool d))
+
+abbrev pub bound_of : List ℕ × Data → List ℕ × ℤ
+bound_of p = (p.0, value_of p.1)
+
+-- a symbol's name, as a plain name
+abbrev pub IsNamed : List ℕ → Name → Type 0
+IsNamed text name = (name.key ≡ symbol_key text) × (name.spelled ≡ text)
+
+pub record IsSymbolOf (p : List ℕ × Data) (symbol : SymbolData) : Type 0 where
+  pub name : IsNamed p.0 symbol.name
+  pub reads : ReadsAs (text_in p.1 (codes "at")) (text_in p.1 (codes "type")) symbol.at symbol.ty
+
+abbrev pub AreSymbols : List (List ℕ × Data) → List SymbolData → Type 0
+AreSymbols [] [] = Unit {0}
+AreSymbols [] (s ∷ symbols) = ⊥
+AreSymbols (p ∷ pairs) [] = ⊥
+AreSymbols (p ∷ pairs) (s ∷ symbols) = IsSymbolOf p s × AreSymbols pairs symbols
+
+-- the pattern's texts in the order of a, b and c
+abbrev pub expressions_in : Data → List (List ℕ)
+expressions_in v = filter_map (text_at v) expression_names
+
+-- all three reductions where the case doesn't say, else those that it names
+abbrev pub names_reduction : Option (List Data) → List ℕ → Bool
+names_reduction None name = true
+names_reduction (Some items) name = list_any (λ i. bytes_eq (text_of i) name) items
+
+abbrev pub reductions_in : Data → Reductions
+reductions_in d =
+    record {
+      constants = names_reduction (items_at d (codes "reduce")) (codes "constants");
+      abstraction = names_reduction (items_at d (codes "reduce")) (codes "abstract");
+      cone = names_reduction (items_at d (codes "reduce")) (codes "cone");
+    }
+
+abbrev pub number_in : Data → List ℕ → ℤ
+number_in d key = unwrap_or (integer_at d key) (pos 0)
+
+-- what the value says, where it keeps all rules
+pub record Says (d : Data) (case : CaseData) : Type 0 where
+  pub name : case.name ≡ text_in d (codes "name")
+  pub sources : case.sources ≡ map source_of (unwrap_or (items_at d (codes "sources")) [])
+  pub entry : case.entry ≡ text_in d (codes "entry")
+  pub params : case.params ≡ map text_of (unwrap_or (items_at d (codes "params")) [])
+  pub bind : case.bind ≡ map bound_of (unwrap_or (pairs_at d (codes "bind")) [])
+  pub symbols : AreSymbols (unwrap_or (pairs_at d (codes "symbols")) []) case.symbols
+  pub pattern : (v : Data) × (get (codes "pattern") d ≡ Some v)
+      × (kind_named (text_in v (codes "kind")) ≡ Some case.kind) × (case.expressions ≡ expressions_in v)
+  pub loop_bound : case.loop_bound ≡ number_in d (codes "loopBound")
+  pub depth : case.depth ≡ number_in d (codes "depth")
+  pub lemmas : case.lemmas ≡ number_in d (codes "lemmas")
+  pub region_words : case.region_words ≡ number_in d (codes "regionWords")
+  pub reductions : case.reductions ≡ reductions_in d
+  pub certificate : case.certificate ≡ text_at d (codes "certificate")
+
+-- ---- what bytes are
+
+-- the bytes are a JSON text in UTF-8 of this object
+pub record IsObjectText (bytes : List ℕ) (d : Data) : Type 0 where
+  pub utf8 : IsUtf8 bytes
+  pub reads : read bytes ≡ Some d
+  pub object : IsTrue (is_object d)
+
+-- they are the text of this case
+pub record IsCaseText (bytes : List ℕ) (case : CaseData) : Type 0 where
+  pub value : Data
+  pub text : IsObjectText bytes value
+  pub keeps : (case_checks value).keeps
+  pub says : Says value case
+
+-- they are the text of an object that breaks this rule first, by this member
+pub record BreaksFirst (bytes : List ℕ) (kind : Kind) (field : List ℕ) : Type 0 where
+  pub value : Data
+  pub text : IsObjectText bytes value
+  pub breaks : (case_checks value).breaks kind field
+
+abbrev pub IsNoObject : List ℕ → Type 0
+IsNoObject bytes = (d : Data) → IsObjectText bytes d → ⊥
+
+-- ---- the code's cases
+
+abbrev pub source_data : Source → SourceData
+source_data s = record { file = string_bytes s.file; language = s.language }
+
+abbrev pub bound_data : Bound → List ℕ × ℤ
+bound_data b = (string_bytes b.path, b.value)
+
+abbrev pub symbol_data : Symbol → SymbolData
+symbol_data s = record { name = s.name; at = operand_tree s.at; ty = s.ty }
 
 abbrev pub data_of : Case → CaseData
-data_of case = record {
-  name = string_bytes case.name;
-  file = string_bytes case.file;
-  entry = string_bytes case.entry;
-  invariant = string_bytes case.invariant;
-  limits = case.limits;
-}
-
--- an object of so many members
-abbrev pub HasMembers : Data → ℕ → Type 0
-HasMembers d count = (members : Members) × (d ≡ object members) × (members_len members ≡ count)
-
--- a text within the limit
-abbrev pub HasText : Data → List ℕ → List ℕ → Type 0
-HasText d key text = (get key d ≡ Some (string text)) × (length text ≤ MAX_TEXT)
-
--- an integer from least to most; one with a point or an exponent is none
-abbrev pub HasNumber : Data → List ℕ → ℕ → ℕ → ℕ → Type 0
-HasNumber d key least most n = (get key d ≡ Some (number (unsigned n))) × (least ≤ n) × (n ≤ most)
-
--- a letter, a digit, `_` or `-`
-abbrev pub IsNameByte : ℕ → Type 0
-IsNameByte byte = IsAsciiAlphanumeric byte ⊎ ((byte ≡ 95) ⊎ (byte ≡ 45))
-
-pub record IsCaseName (name : List ℕ) : Type 0 where
-  pub least : 1 ≤ length name
-  pub most : length name ≤ MAX_NAME
-  pub bytes : All IsNameByte name
-
--- one source: a file in SCL
-pub record IsSource (d : Data) (file : List ℕ) : Type 0 where
-  pub members : HasMembers d 2
-  pub language : get (codes "language") d ≡ Some (string (codes "scl"))
-  pub text : HasText d (codes "file") file
-  pub named : 1 ≤ length file
-
--- the pattern `invariant` with the text of its expression
-pub record IsInvariant (d : Data) (expression : List ℕ) : Type 0 where
-  pub members : HasMembers d 2
-  pub kind : get (codes "kind") d ≡ Some (string (codes "invariant"))
-  pub text : HasText d (codes "a") expression
-
-pub record HasLimits (d : Data) (limits : Limits) : Type 0 where
-  pub loop_bound : HasNumber d (codes "loopBound") 1 MAX_LOOP_BOUND limits.loop_bound
-  pub depth : HasNumber d (codes "depth") 0 MAX_DEPTH limits.depth
-  pub lemmas : HasNumber d (codes "lemmas") 1 MAX_LEMMAS limits.lemmas
-  pub region_words : HasNumber d (codes "regionWords") MIN_REGION_WORDS MAX_REGION_WORDS limits.region_words
-
--- the ten members that the fields name, and no others: the object has ten, and each of these keys is there
-pub record IsCase (d : Data) (case : CaseData) : Type 0 where
-  pub members : HasMembers d 10
-  pub version : get (codes "version") d ≡ Some (number (unsigned 1))
-  pub name : HasText d (codes "name") case.name
-  pub plain : IsCaseName case.name
-  pub sources : (source : Data) × (get (codes "sources") d ≡ Some (array (item source no_items))) × IsSource source case.file
-  pub entry : HasText d (codes "entry") case.entry
-  pub pattern : (pattern : Data) × (get (codes "pattern") d ≡ Some pattern) × IsInvariant pattern case.invariant
-  pub limits : HasLimits d case.limits
-  pub reduce : get (codes "reduce") d ≡ Some (array no_items)
-
--- the bytes are a JSON text in UTF-8 that is the case
-pub record IsCaseText (bytes : List ℕ) (case : CaseData) : Type 0 where
-  pub utf8 : IsUtf8 bytes
-  pub value : Data
-  pub reads : read bytes ≡ Some value
-  pub is_case : IsCase value case
+data_of case =
+    record {
+      name = string_bytes case.name;
+      sources = map source_data case.sources.items;
+      entry = string_bytes case.entry;
+      params = map string_bytes case.params.items;
+      bind = map bound_data case.bind.items;
+      symbols = map symbol_data case.symbols.items;
+      kind = case.pattern.kind;
+      expressions = map string_bytes case.pattern.expressions.items;
+      loop_bound = pos case.limits.loop_bound;
+      depth = pos case.limits.depth;
+      lemmas = pos case.limits.lemmas;
+      region_words = pos case.limits.region_words;
+      reductions = case.reductions;
+      certificate = option_map string_bytes case.certificate;
+    }

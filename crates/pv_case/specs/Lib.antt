@@ -1,1 +1,9 @@
+-- what public clauses cite
+pub mod Checks
+pub mod Members
+pub mod Patterns
+pub mod Symbols
+pub mod Fields
+pub mod Viewed
+pub mod Least
 pub mod Cases

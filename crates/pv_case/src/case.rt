@@ -1,30 +1,76 @@
-//! The case file: one JSON object that names the sources, the entry block, the requirement and the
-//! limits.
+//! What a case says.
+use pv_lex::Language;
+use pv_tree::Operand;
+use pv_types::Name;
+use pv_word::Ty;
 
-ghost use Rattle.std.specs.Prelude.{◌≡◌, ◌≤◌, ◌↔◌, ℕ, List, Some, IfSome, IfNone, IfOk, IfErr, IsTrue};
-ghost use Rattle.std.specs.List.{All};
-ghost use Rattle.serde_json.specs.Data.{Data, array, item, no_items, string};
-ghost use Rattle.serde_json.specs.Find.{get};
-ghost use Rattle.serde_json.specs.View.{view};
-ghost use Rattle.pv_case.specs.declared.fault.CaseFault.TheVariants.{NotOfForm};
-ghost use Rattle.pv_case.specs.Cases.{CaseData, data_of, HasMembers, HasText, HasNumber, HasLimits, IsNameByte, IsCaseName, IsSource, IsInvariant, IsCase, IsCaseText};
-
-use crate::fault::CaseFault;
-use serde_json::Value;
-use std::alloc::Global;
-
-/// A case of the form that is built today: one SCL source, an invariant, no parameters.
-#[derive(Debug, Drop)]
+/// A case: what is to be checked, how, and within which limits.
+#[derive(Drop)]
 pub struct Case {
     /// 1 to 64 letters, digits, `_` or `-`.
     pub name: String,
-    /// The source's file name, not empty.
-    pub file: String,
+    /// 1 to 64 sources, in the order in which the case names them.
+    pub sources: Vec<Source>,
     /// The text that names the entry block.
     pub entry: String,
-    /// The text of the invariant, an SCL expression.
-    pub invariant: String,
+    /// The paths of the inputs that are parameters.
+    pub params: Vec<String>,
+    /// The paths of the inputs that have one value each, in the order of their bytes.
+    pub bind: Vec<Bound>,
+    /// In the order of their names' bytes.
+    pub symbols: Vec<Symbol>,
+    pub pattern: Pattern,
     pub limits: Limits,
+    pub reductions: Reductions,
+    /// The certificate's file name, not empty, where the case has one.
+    pub certificate: Option<String>,
+}
+
+/// A source: its file's name, not empty, and its language.
+#[derive(Drop)]
+pub struct Source {
+    pub file: String,
+    pub language: Language,
+}
+
+/// An input's path with its one value; TRUE is 1 and FALSE is 0.
+#[derive(Drop)]
+pub struct Bound {
+    pub path: String,
+    pub value: i128,
+}
+
+/// A name for an address, with the type that the address is read as: BOOL for a bit, BYTE for a byte, WORD or INT for a word,
+/// and DWORD, DINT or TIME for a double word. The operand's place is that of its token in the symbol's own text, as file 0.
+#[derive(Drop)]
+pub struct Symbol {
+    pub name: Name,
+    pub at: Operand,
+    pub ty: Ty,
+}
+
+/// The requirement: its kind, and as many texts of expressions as the kind has.
+#[derive(Drop)]
+pub struct Pattern {
+    pub kind: PatternKind,
+    pub expressions: Vec<String>,
+}
+
+/// What a requirement says of a scan, with its expressions a, b and c.
+#[derive(Clone, Copy, PartialEq, Eq, Debug)]
+pub enum PatternKind {
+    /// a holds at the end.
+    Invariant,
+    /// a doesn't hold at the end.
+    Forbidden,
+    /// Where a holds at the end, so does b.
+    Implication,
+    /// Where a holds at the beginning, b holds at the end.
+    Within,
+    /// Where a held at the end of the scan before and b holds at the end, so does c.
+    Between,
+    /// a holds at the end of some scan: what is to be reached.
+    Reach,
 }
 
 /// The four limits of a case.
@@ -40,11 +86,22 @@ pub struct Limits {
     pub region_words: u64,
 }
 
+/// Which reductions a check may use; all where the case doesn't say.
+#[derive(Clone, Copy, Debug, PartialEq, Eq)]
+pub struct Reductions {
+    pub constants: bool,
+    pub abstraction: bool,
+    pub cone: bool,
+}
+
 /// The longest text value of a case, in bytes.
 pub const MAX_TEXT: usize = 4_194_304;
 
 /// The longest name of a case, in bytes.
 pub const MAX_NAME: usize = 64;
+
+/// The most sources of a case.
+pub const MAX_SOURCES: usize = 64;
 
 /// The most turns that a case lets a loop take.
 pub const MAX_LOOP_BOUND: u64 = 256;
@@ -59,205 +116,3 @@ pub const MAX_LEMMAS: u64 = 10_000_000;
 pub const MIN_REGION_WORDS: u64 = 16;
 
 pub const MAX_REGION_WORDS: u64 = 250_000_000;
-
-/// Reads a case. It is NotOfForm where the bytes are no JSON object with exactly the members of the
-/// form, each obeying its rule; of a member that stands twice the last one counts.
-pub fn read(alloc: Global, bytes: &[u8]) -> Result<Case, CaseFault>
-    ensures found { IfOk result (λ case. IsCaseText bytes.now (data_of case)) }
-    ensures only { IfOk result (λ case. (other : CaseData) → IsCaseText bytes.now other → other ≡ data_of case) }
-    ensures refused { IfErr result (λ fault. fault ≡ NotOfForm → (case : CaseData) → IsCaseText bytes.now case → ⊥) }
-{
-    match Value::from_slice(alloc, bytes) {
-        Ok(value) => case_of(alloc, &value),
-        Err(error) if error.is_memory() => Err(CaseFault::NoMemory),
-        Err(_) => Err(CaseFault::NotOfForm),
-    }
-}
-
-/// The case that the value is.
-fn case_of(alloc: Global, value: &Value) -> Result<Case, CaseFault>
-    ensures found { IfOk result (λ case. IsCase (view value.now) (data_of case)) }
-    ensures refused { IfErr result (λ fault. fault ≡ NotOfForm → (case : CaseData) → IsCase (view value.now) case → ⊥) }
-{
-    let Some(parts) = parts_of(value) else {
-        return Err(CaseFault::NotOfForm);
-    };
-    Ok(Case {
-        name: String::from_str(alloc, parts.name)?,
-        file: String::from_str(alloc, parts.file)?,
-        entry: String::from_str(alloc, parts.entry)?,
-        invariant: String::from_str(alloc, parts.invariant)?,
-        limits: parts.limits,
-    })
-}
-
-/// What a case says, lent by its JSON value.
-#[derive(Clone, Copy)]
-struct Parts<'a> {
-    name: &'a str,
-    file: &'a str,
-    entry: &'a str,
-    invariant: &'a str,
-    limits: Limits,
-}
-
-/// What the value says, where it is a case.
-fn parts_of(value: &Value) -> Option<Parts<'_>>
-    ensures found { IfSome result (λ parts. IsCase (view value.now) (record {
-      name = parts.name.now;
-      file = parts.file.now;
-      entry = parts.entry.now;
-      invariant = parts.invariant.now;
-      limits = parts.limits;
-    })) }
-    ensures none { IfNone result ((case : CaseData) → IsCase (view value.now) case → ⊥) }
-{
-    let _version = integer(value, "version", 1, 1)?;
-    let name = text(value, "name")?;
-    let file = source_of(value.get("sources")?)?;
-    let entry = text(value, "entry")?;
-    let invariant = invariant_of(value.get("pattern")?)?;
-    let limits = limits_of(value)?;
-    let reduce = value.get("reduce")?;
-    if has_members(value, 10) && is_case_name(name) && is_empty_list(reduce) {
-        Some(Parts {
-            name,
-            file,
-            entry,
-            invariant,
-            limits,
-        })
-    } else {
-        None
-    }
-}
-
-fn limits_of(value: &Value) -> Option<Limits>
-    ensures found { IfSome result (λ limits. HasLimits (view value.now) limits) }
-    ensures none { IfNone result ((limits : Limits) → HasLimits (view value.now) limits → ⊥) }
-{
-    let loop_bound = integer(value, "loopBound", 1, MAX_LOOP_BOUND)?;
-    let depth = integer(value, "depth", 0, MAX_DEPTH)?;
-    let lemmas = integer(value, "lemmas", 1, MAX_LEMMAS)?;
-    let region_words = integer(value, "regionWords", MIN_REGION_WORDS, MAX_REGION_WORDS)?;
-    Some(Limits {
-        loop_bound,
-        depth,
-        lemmas,
-        region_words,
-    })
-}
-
-/// The file of the one source, where the list has exactly one, in SCL.
-fn source_of(sources: &Value) -> Option<&str>
-    ensures found { IfSome result (λ file. (source : Data)
-        × (view sources.now ≡ array (item source no_items)) × IsSource source file.now) }
-    ensures none { IfNone result ((source : Data) (file : List ℕ)
-        → view sources.now ≡ array (item source no_items) → IsSource source file → ⊥) }
-{
-    let source = only_item(sources)?;
-    let file = text(source, "file")?;
-    if has_members(source, 2) && says(source, "language", "scl") && !file.is_empty() {
-        Some(file)
-    } else {
-        None
-    }
-}
-
-/// The expression of the pattern, where it is an invariant.
-fn invariant_of(pattern: &Value) -> Option<&str>
-    ensures found { IfSome result (λ expression. IsInvariant (view pattern.now) expression.now) }
-    ensures none { IfNone result ((expression : List ℕ) → IsInvariant (view pattern.now) expression → ⊥) }
-{
-    let expression = text(pattern, "a")?;
-    if has_members(pattern, 2) && says(pattern, "kind", "invariant") {
-        Some(expression)
-    } else {
-        None
-    }
-}
-
-fn has_members(value: &Value, count: usize) -> bool
-    ensures { IsTrue result ↔ HasMembers (view value.now) count }
-{
-    match value.as_object() {
-        Some(members) => members.len() == count,
-        None => false,
-    }
-}
-
-/// The item of a list that has exactly one.
-fn only_item(list: &Value) -> Option<&Value>
-    ensures found { IfSome result (λ only. view list.now ≡ array (item (view only.now) no_items)) }
-    ensures none { IfNone result ((only : Data) → view list.now ≡ array (item only no_items) → ⊥) }
-{
-    let items = list.as_array()?;
-    if items.len() == 1 {
-        Some(&items[0])
-    } else {
-        None
-    }
-}
-
-fn is_empty_list(value: &Value) -> bool
-    ensures { IsTrue result ↔ (view value.now ≡ array no_items) }
-{
-    match value.as_array() {
-        Some(items) => items.is_empty(),
-        None => false,
-    }
-}
-
-/// The member's text, where it is one within the limit.
-fn text<'a>(value: &'a Value, key: &str) -> Option<&'a str>
-    ensures found { IfSome result (λ text. HasText (view value.now) key.now text.now) }
-    ensures none { IfNone result ((text : List ℕ) → HasText (view value.now) key.now text → ⊥) }
-{
-    let text = value.get(key)?.as_str()?;
-    if text.len() <= MAX_TEXT {
-        Some(text)
-    } else {
-        None
-    }
-}
-
-/// Whether the member is this text.
-fn says(value: &Value, key: &str, word: &str) -> bool
-    ensures { IsTrue result ↔ (get key.now (view value.now) ≡ Some (string word.now)) }
-{
-    match value.get(key).and_then(Value::as_str) {
-        Some(text) => text == word,
-        None => false,
-    }
-}
-
-/// The member's number, where it is an integer from `least` to `most`.
-fn integer(value: &Value, key: &str, least: u64, most: u64) -> Option<u64>
-    ensures found { IfSome result (λ n. HasNumber (view value.now) key.now least most n) }
-    ensures none { IfNone result ((n : ℕ) → HasNumber (view value.now) key.now least most n → ⊥) }
-{
-    let number = value.get(key)?.as_u64()?;
-    if least <= number && number <= most {
-        Some(number)
-    } else {
-        None
-    }
-}
-
-fn is_case_name(name: &str) -> bool
-    ensures { IsTrue result ↔ IsCaseName name.now }
-{
-    !name.is_empty() && name.len() <= MAX_NAME && are_name_bytes(name.as_bytes())
-}
-
-fn are_name_bytes(bytes: &[u8]) -> bool
-    ensures { IsTrue result ↔ All IsNameByte bytes.now }
-{
-    bytes.iter().all(|&byte| is_name_byte(byte))
-}
-
-fn is_name_byte(byte: u8) -> bool
-    ensures { IsTrue result ↔ IsNameByte byte }
-{
-    byte.is_ascii_alphanumeric() || byte == b'_' || byte == b'-'
-}

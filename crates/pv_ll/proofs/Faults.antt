@@ -18,7 +18,7 @@ use Rattle.pv_ll.specs.Reading.{IsText, Stands, StandsFor, IsStuck, IsRefused, T
 use Rattle.pv_ll.proofs.Words.{Shift, inv_token, live_word}
 use Rattle.pv_ll.proofs.Stack.{shifted, stuck_token}
 
-only_end : (k set : ℕ) → bit_at set k ≡ 1 → IsSubset (2 ^ k) set
+pub only_end : (k set : ℕ) → bit_at set k ≡ 1 → IsSubset (2 ^ k) set
 only_end k set h t i = elim (cases_eq t k) [
   | inl e ↦ ap (λ (x : ℕ). bit_at set x) e ∙ h
   | inr ne ↦ absurd (omega (arith, bit_at-pow_other k t ne, i))

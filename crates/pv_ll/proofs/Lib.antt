@@ -6,5 +6,11 @@ pub mod Stack
 pub mod Faults
 pub mod Tested
 pub mod Walking
-pub mod Nesting
 pub mod Traces
+pub mod OneTrace
+pub mod Makings
+pub mod Runs
+pub mod Meanings
+pub mod Shaped
+pub mod Witnesses
+pub mod ForCallers

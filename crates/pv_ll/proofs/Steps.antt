@@ -13,7 +13,7 @@ use Rattle.pv_ll.specs.declared.table.Language.{Language}
 use Rattle.pv_ll.specs.Grammar.{Production, ◌⟶◌, Derives, IsProduction}
 use Rattle.pv_ll.specs.Grammar.Derives.{nothing, token, name}
 use Rattle.pv_ll.specs.Table.{grammar_of, production_of, body_of, rule, vanish, next, front}
-use Rattle.pv_ll.specs.Facts.{IsLL1, Serves, Selects, IsSubset, Followed, Lives}
+use Rattle.pv_ll.specs.Facts.{IsLL1, Serves, Selects, IsSubset, Followed, Lives, IsWithin}
 use Rattle.pv_ll.specs.Reading.{look}
 use Rattle.pv_ll.proofs.Words.{Expansion, inv_name, join}
 use Rattle.pv_ll.proofs.Sets.{in_first, in_both, subset_or}
@@ -29,6 +29,7 @@ pub record ServesAs (l : Language) (k n : ℕ) (body : List Symbol) : Type 0 whe
   pub followed : Followed l (rule l n).follow body
   pub falls : front l body < (rule l n).weight
   pub lives : Lives (grammar_of l) body
+  pub within : IsWithin l.kinds body
 
 -- the alternative behind a production
 pub record Source (l : Language) (alts : List Alternative) (k : ℕ) (p : Production) : Type 0 where
@@ -58,6 +59,7 @@ as_production l k n body a s e f h = record {
   falls = subst (λ (b : List Symbol). front l b < (rule l n).weight) f
       (subst (λ (m : ℕ). front l (body_of l a) < (rule l m).weight) e h.falls);
   lives = subst (λ (b : List Symbol). Lives (grammar_of l) b) f h.lives;
+  within = subst (λ (b : List Symbol). IsWithin l.kinds b) f h.within;
 }
 
 pub served : {l : Language} → IsLL1 l → {k n : ℕ} {body : List Symbol} → IsProduction (grammar_of l) k n body → ServesAs l k n body

@@ -23,7 +23,7 @@ use Rattle.pv_ll.specs.Grammar.{IsSentence, IsProduction}
 use Rattle.pv_ll.specs.Grammar.Derives.{nothing, name}
 use Rattle.pv_ll.specs.Table.{part, body_of, grammar_of, rule, no_rule, vanish, next, front}
 use Rattle.pv_ll.specs.Check.{is_subset, is_among, one_round, rounds, live_names, are_followed, serves, is_apart, are_apart, are_placed, own_their_parts, is_ll1}
-use Rattle.pv_ll.specs.Facts.{IsLL1, Serves, Selects, IsSubset, Followed, Lives}
+use Rattle.pv_ll.specs.Facts.{IsLL1, Serves, Selects, IsSubset, Followed, Lives, IsWithin}
 use Rattle.pv_ll.proofs.Sets.{subset_from, disjoint}
 use Rattle.pv_ll.proofs.Words.{Word, live_word}
 use Rattle.pv_ll.proofs.Steps.{production_at}
@@ -47,6 +47,14 @@ live_body l names s (Token t ∷ ss) h = live_body l names s ss (and_parts (nat_
 live_body l names s (Name n ∷ ss) h =
     let p = and_parts (bit_at names n == 1) (list_all (is_among l.kinds names) ss) h in
     (s n (eqb-true (bit_at names n) 1 p.0), live_body l names s ss p.1)
+
+within_body : (kinds names : ℕ) (ss : List Symbol) → list_all (is_among kinds names) ss ≡ true → IsWithin kinds ss
+within_body kinds names [] h = tt
+within_body kinds names (Token t ∷ ss) h =
+    let p = and_parts (nat_lt t kinds) (list_all (is_among kinds names) ss) h in
+    (ltb-true t kinds p.0, within_body kinds names ss p.1)
+within_body kinds names (Name n ∷ ss) h =
+    within_body kinds names ss (and_parts (bit_at names n == 1) (list_all (is_among kinds names) ss) h).1
 
 add_name : (l : Language) (names n k : ℕ) (body : List Symbol) → IsProduction (grammar_of l) k n body → Sound l names → (b : Bool)
     → (b ≡ true → Lives (grammar_of l) body) → Sound l (cond b (bit_or names (2 ^ n)) names)
@@ -106,6 +114,7 @@ serves_from l live a sound h =
       followed = followed_from l r.follow body p3.1;
       falls = ltb-true (front l body) r.weight p4.1;
       lives = live_body l live sound body p5.1;
+      within = within_body l.kinds live body p5.1;
     }
 
 apart_later : (xs : List Alternative) → are_apart xs ≡ true → (j k : ℕ) (a b : Alternative) → slice_get xs j ≡ Some a → slice_get xs k ≡ Some b

@@ -19,37 +19,37 @@ derived (passed d) = token (derived d)
 derived (put {body = body} k p d) = replaced k body p (derived d)
 
 -- what a token in front does
-record Passing (g : Grammar) (trace : List ℕ) (t : ℕ) (ss : List Symbol) (w : List ℕ) : Type 0 where
-  rest : List ℕ
-  others : Leftmost g trace ss rest
-  whole : w ≡ t ∷ rest
+pub record Passing (g : Grammar) (trace : List ℕ) (t : ℕ) (ss : List Symbol) (w : List ℕ) : Type 0 where
+  pub rest : List ℕ
+  pub others : Leftmost g trace ss rest
+  pub whole : w ≡ t ∷ rest
 
-inv_passed : {g : Grammar} {trace : List ℕ} {t : ℕ} {ss : List Symbol} {w : List ℕ} → Leftmost g trace (Token t ∷ ss) w → Passing g trace t ss w
+pub inv_passed : {g : Grammar} {trace : List ℕ} {t : ℕ} {ss : List Symbol} {w : List ℕ} → Leftmost g trace (Token t ∷ ss) w → Passing g trace t ss w
 inv_passed (passed {w = w} d) = record { rest = w; others = d; whole = refl }
 
-inv_done : {g : Grammar} {trace : List ℕ} {w : List ℕ} → Leftmost g trace [] w → w ≡ []
+pub inv_done : {g : Grammar} {trace : List ℕ} {w : List ℕ} → Leftmost g trace [] w → w ≡ []
 inv_done done = refl
 
 -- what a name in front does
-record Putting (g : Grammar) (trace : List ℕ) (n : ℕ) (ss : List Symbol) (w : List ℕ) : Type 0 where
-  k : ℕ
-  later : List ℕ
-  body : List Symbol
-  production : IsProduction g k n body
-  derives : Leftmost g later (body ++ ss) w
-  trace_is : trace ≡ k ∷ later
+pub record Putting (g : Grammar) (trace : List ℕ) (n : ℕ) (ss : List Symbol) (w : List ℕ) : Type 0 where
+  pub k : ℕ
+  pub later : List ℕ
+  pub body : List Symbol
+  pub production : IsProduction g k n body
+  pub derives : Leftmost g later (body ++ ss) w
+  pub trace_is : trace ≡ k ∷ later
 
-inv_put : {g : Grammar} {trace : List ℕ} {n : ℕ} {ss : List Symbol} {w : List ℕ} → Leftmost g trace (Name n ∷ ss) w → Putting g trace n ss w
+pub inv_put : {g : Grammar} {trace : List ℕ} {n : ℕ} {ss : List Symbol} {w : List ℕ} → Leftmost g trace (Name n ∷ ss) w → Putting g trace n ss w
 inv_put (put {trace = later} {body = body} k p d) =
     record { k = k; later = later; body = body; production = p; derives = d; trace_is = refl }
 
-same_body : (g : Grammar) (n k j : ℕ) (a b : List Symbol) → k ≡ j → IsProduction g k n a → IsProduction g j n b → a ≡ b
+pub same_body : (g : Grammar) (n k j : ℕ) (a b : List Symbol) → k ≡ j → IsProduction g k n a → IsProduction g j n b → a ≡ b
 same_body g n k j a b e p q =
     let r : slice_get g k ≡ Some (n ⟶ b) = subst (λ (i : ℕ). slice_get g i ≡ Some (n ⟶ b)) (sym e) q in
     ap (λ (o : Option Production). option_map_or (λ (x : Production). x.body) o a) (sym p ∙ r)
 
 -- the same production was put
-same_put : {g : Grammar} {trace : List ℕ} {ss : List Symbol} {w : List ℕ} (n k : ℕ) (body : List Symbol) → IsProduction g k n body
+pub same_put : {g : Grammar} {trace : List ℕ} {ss : List Symbol} {w : List ℕ} (n k : ℕ) (body : List Symbol) → IsProduction g k n body
     → Leftmost g (k ∷ trace) (Name n ∷ ss) w → Leftmost g trace (body ++ ss) w
 same_put {g} {trace} {ss} {w} n k body p e =
     let x : Putting g (k ∷ trace) n ss w = inv_put e in
@@ -70,37 +70,37 @@ record Same (own other rest more : List ℕ) (xs ys : List Step) : Type 0 where
   steps : xs ≡ ys
 
 -- what a name in front does in a walk
-record Passage (g : Grammar) (trace : List ℕ) (n : ℕ) (ss : List Symbol) (steps : List Step) : Type 0 where
-  k : ℕ
-  own : List ℕ
-  rest : List ℕ
-  body : List Symbol
-  inner : List Step
-  others : List Step
-  production : IsProduction g k n body
-  walks : Walks g own body inner
-  goes : Walks g rest ss others
-  trace_is : trace ≡ k ∷ (own ++ rest)
-  steps_are : steps ≡ Enter k ∷ (inner ++ Leave k ∷ others)
+pub record Passage (g : Grammar) (trace : List ℕ) (n : ℕ) (ss : List Symbol) (steps : List Step) : Type 0 where
+  pub k : ℕ
+  pub own : List ℕ
+  pub rest : List ℕ
+  pub body : List Symbol
+  pub inner : List Step
+  pub others : List Step
+  pub production : IsProduction g k n body
+  pub walks : Walks g own body inner
+  pub goes : Walks g rest ss others
+  pub trace_is : trace ≡ k ∷ (own ++ rest)
+  pub steps_are : steps ≡ Enter k ∷ (inner ++ Leave k ∷ others)
 
-inv_through : {g : Grammar} {trace : List ℕ} {n : ℕ} {ss : List Symbol} {steps : List Step} → Walks g trace (Name n ∷ ss) steps → Passage g trace n ss steps
+pub inv_through : {g : Grammar} {trace : List ℕ} {n : ℕ} {ss : List Symbol} {steps : List Step} → Walks g trace (Name n ∷ ss) steps → Passage g trace n ss steps
 inv_through (through {own = o} {rest = r} {body = b} {inner = i} {others = x} k p d f t s) =
     record { k = k; own = o; rest = r; body = b; inner = i; others = x; production = p; walks = d; goes = f; trace_is = t; steps_are = s }
 
 -- what a token in front does in a walk
-record Onward (g : Grammar) (trace : List ℕ) (t : ℕ) (ss : List Symbol) (steps : List Step) : Type 0 where
-  others : List Step
-  goes : Walks g trace ss others
-  steps_are : steps ≡ Pass t ∷ others
+pub record Onward (g : Grammar) (trace : List ℕ) (t : ℕ) (ss : List Symbol) (steps : List Step) : Type 0 where
+  pub others : List Step
+  pub goes : Walks g trace ss others
+  pub steps_are : steps ≡ Pass t ∷ others
 
-inv_on : {g : Grammar} {trace : List ℕ} {t : ℕ} {ss : List Symbol} {steps : List Step} → Walks g trace (Token t ∷ ss) steps → Onward g trace t ss steps
+pub inv_on : {g : Grammar} {trace : List ℕ} {t : ℕ} {ss : List Symbol} {steps : List Step} → Walks g trace (Token t ∷ ss) steps → Onward g trace t ss steps
 inv_on (on {steps = x} d) = record { others = x; goes = d; steps_are = refl }
 
-record Over (trace : List ℕ) (steps : List Step) : Type 0 where
-  trace_is : trace ≡ []
-  steps_are : steps ≡ []
+pub record Over (trace : List ℕ) (steps : List Step) : Type 0 where
+  pub trace_is : trace ≡ []
+  pub steps_are : steps ≡ []
 
-inv_over : {g : Grammar} {trace : List ℕ} {steps : List Step} → Walks g trace [] steps → Over trace steps
+pub inv_over : {g : Grammar} {trace : List ℕ} {steps : List Step} → Walks g trace [] steps → Over trace steps
 inv_over over = record { trace_is = refl; steps_are = refl }
 
 same_walk : {g : Grammar} {own : List ℕ} {ss : List Symbol} {steps : List Step} → Walks g own ss steps

@@ -79,7 +79,7 @@ split (put {n = m} {ss = ss} {body = body} k p d) (Name n ∷ a) b e =
     let rest : ss ≡ a ++ b = cc in
     name_first m n k same p (split d (body ++ a) b (ap (λ (z : List Symbol). body ++ z) rest ∙ sym (append_assoc body a b)))
 
-tokens_append : (a b : List Step) → tokens_of (a ++ b) ≡ tokens_of a ++ tokens_of b
+pub tokens_append : (a b : List Step) → tokens_of (a ++ b) ≡ tokens_of a ++ tokens_of b
 tokens_append [] b = refl
 tokens_append (Enter k ∷ a) b = tokens_append a b
 tokens_append (Pass t ∷ a) b = ap (λ (z : List ℕ). t ∷ z) (tokens_append a b)

@@ -28,6 +28,12 @@ Lives g [] = Unit {0}
 Lives g (Token t ∷ ss) = Lives g ss
 Lives g (Name n ∷ ss) = ((w : List ℕ) × IsSentence g n w) × Lives g ss
 
+-- each token of a list is one of that many kinds
+abbrev pub IsWithin : ℕ → List Symbol → Type 0
+IsWithin kinds [] = Unit {0}
+IsWithin kinds (Token t ∷ ss) = (t < kinds) × IsWithin kinds ss
+IsWithin kinds (Name n ∷ ss) = IsWithin kinds ss
+
 -- what holds of each alternative
 pub record Serves (l : Language) (a : Alternative) : Type 0 where
   pub predicted : IsSubset (next l (rule l a.name).follow (body_of l a)) a.when
@@ -36,6 +42,7 @@ pub record Serves (l : Language) (a : Alternative) : Type 0 where
   pub followed : Followed l (rule l a.name).follow (body_of l a)
   pub falls : front l (body_of l a) < (rule l a.name).weight
   pub lives : Lives (grammar_of l) (body_of l a)
+  pub within : IsWithin l.kinds (body_of l a)
 
 -- what holds of a table that passes the test
 pub record IsLL1 (l : Language) : Type 0 where

@@ -5,3 +5,7 @@ pub mod Facts
 pub mod Reading
 pub mod Sample
 pub mod Walk
+pub mod Making
+pub mod Meaning
+pub mod Shapes
+pub mod Texts

@@ -1,7 +1,6 @@
 //! A table-driven LL(1) recognizer with exact faults.
 #![tactic(auto)]
 
-mod depth;
 mod laws;
 mod machine;
 mod sample;
@@ -10,8 +9,10 @@ mod table;
 mod tests;
 mod visit;
 
-pub use depth::first_deeper;
-pub use laws::{traces_have_one_walk, traces_tell_one_text};
+pub use laws::{
+    makings_follow_along_walks, texts_have_one_trace, traces_have_one_walk, traces_tell_one_text,
+    walks_do_what_texts_do, walks_pass_what_they_derive,
+};
 pub use machine::{Trace, recognize};
 pub use sample::recognize_sample;
 pub use table::{Alternative, Language, Rule, Symbol};

@@ -3,7 +3,8 @@ ghost use Rattle.pv_ll.specs.Check.{is_ll1};
 
 use crate::sample::sample;
 use crate::{
-    Alternative, Language, Rule, Step, Symbol, Walk, first_deeper, recognize, recognize_sample,
+    Alternative, Language, Rule, Step, Symbol, Walk, makings_follow_along_walks, recognize_sample,
+    walks_do_what_texts_do,
 };
 use std::test::Fail;
 
@@ -113,24 +114,6 @@ fn the_walk_is_in_order(rt: HostRuntime) -> Result<(), Fail> {
     Ok(())
 }
 
-/// `a := ((b));` has three expressions in one another, the innermost before token 4.
-#[test]
-fn the_depth_is_counted(rt: HostRuntime) -> Result<(), Fail> {
-    let language = sample();
-    let kinds = [0, 1, 3, 3, 0, 4, 4, 2];
-    let counts = [false, false, true];
-    match recognize(rt.alloc(), &language, &kinds)? {
-        Err(i) => assert_eq!(rt; i, kinds.len(), "a fault"),
-        Ok(trace) => {
-            let two = first_deeper(rt.alloc(), &language, &kinds, trace.as_slice(), &counts, 2)?;
-            assert_eq!(rt; two, Some(4));
-            let three = first_deeper(rt.alloc(), &language, &kinds, trace.as_slice(), &counts, 3)?;
-            assert_eq!(rt; three, None);
-        }
-    }
-    Ok(())
-}
-
 const CONFLICT_RULES: [Rule; 1] = [Rule {
     nullable: false,
     first: 1,
@@ -172,4 +155,11 @@ fn conflicting() -> Language
 fn a_conflict_is_refused(rt: HostRuntime) {
     let language = conflicting();
     assert_eq!(rt; language.alternatives.len(), 2);
+}
+
+#[test]
+fn laws_stand_at_concrete_types(rt: HostRuntime) {
+    walks_do_what_texts_do::<u8, bool>();
+    makings_follow_along_walks::<u8, bool, u16>();
+    assert_eq!(rt; sample().kinds, 7);
 }

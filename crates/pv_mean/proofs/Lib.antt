@@ -1,11 +1,16 @@
-pub mod Lists
-pub mod Frames
-pub mod Statements
+mod Samples
+mod Examples
+mod MoreExamples
+pub mod Holding
+pub mod VisibleCells
+pub mod Images
 pub mod Runs
-pub mod Bits
-pub mod FirstCells
-pub mod FirstScans
-pub mod FirstNames
-pub mod FirstNumbers
-pub mod FirstLaws
-pub mod ForCallers
+pub mod Passing
+pub mod Fuel
+pub mod Steps
+pub mod Divisions
+pub mod Copies
+pub mod CalledBlocks
+pub mod Tables
+pub mod Changes
+pub mod VisibleParts

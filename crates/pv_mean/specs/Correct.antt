@@ -1,23 +1,63 @@
--- What the laws say of blocks of the first form.
-use Rattle.std.specs.Prelude.{◌≡◌}
-use Rattle.pv_first.specs.Tree.{ExprTree}
-use Rattle.pv_bool.specs.Scans.{scan_end, next_state, keeps}
-use Rattle.pv_bool.specs.Machine.{numbers_of, bits_of, number_of as number_of_bit}
-use Rattle.pv_mean.specs.Frames.{Image, Input, Frame}
+-- What the laws say of cells, spots and loops.
+use Rattle.std.specs.Prelude.{◌≡◌, ◌≢◌, ◌⊎◌, ◌<◌, ◌≤◌, ℕ, zero, suc, ◌+◌, ℤ, ◌+ℤ◌, true, false, ⊤}
+use Rattle.pv_machine.specs.Ranges.{range_of, IsWithin}
+use Rattle.pv_tree.specs.Tree.{OperandTree}
+use Rattle.pv_tree.specs.Callees.{CallSite}
+use Rattle.pv_mean.specs.declared.cell.Cell.{Cell}
 use Rattle.pv_mean.specs.Sources.{Source}
-use Rattle.pv_mean.specs.Values.{number, value}
-use Rattle.pv_mean.specs.Scans.{done, scan, next_image}
-use Rattle.pv_mean.specs.FirstForm.{program_of}
+use Rattle.pv_mean.specs.Frames.{Frame, visible_value, range_of_cell}
+use Rattle.pv_mean.specs.Endings.{got, Ending, normal}
+use Rattle.pv_mean.specs.Spots.{Spot, visible, brief, bit, bytes, fixed, nowhere, read_spot, write_spot}
+use Rattle.pv_mean.specs.Activations.{Activation}
+use Rattle.pv_mean.specs.Values.{locate}
+use Rattle.pv_mean.specs.Statements.{Calls, Counting, is_on_the_way}
+use Rattle.pv_mean.specs.Doings.{HoldsOf}
 
--- the frame at the end of the scan of the source's Boolean program
-abbrev pub program_end : Source → ExprTree → Image → Input → Frame
-program_end source a image input = numbers_of (scan_end (program_of source a) (bits_of image) (bits_of input))
+-- a value of the cell's range is one of its type: a parameter is bound to none other
+abbrev pub BindsInRange : Cell → Type 0
+BindsInRange c = (v : ℤ) → IsWithin (range_of_cell c) v → IsWithin (range_of c.ty) v
 
--- the source's scan is that of its Boolean program: it is done, with the program's frame, with the program's state as the image
--- that it leaves, and with the value that the program's requirement has as that of the expression
-pub record IsScanOfProgram (source : Source) (a : ExprTree) (image : Image) (input : Input) : Type 0 where
-  pub ends : (scan source image input).end ≡ done (program_end source a image input)
-  pub next : next_image source (scan source image input).beginning (program_end source a image input)
-      ≡ numbers_of (next_state (program_of source a) (bits_of image) (bits_of input))
-  pub holds : value source (program_end source a image input) a
-      ≡ number (number_of_bit (keeps (program_of source a) (bits_of image) (bits_of input)))
+-- ---- spots apart from a cell
+
+-- a write to the spot leaves this visible cell
+abbrev pub Misses : ℕ → Spot → Type 0
+Misses n (visible m) = n ≢ m
+Misses n (brief ty m) = ⊤
+Misses n (bit m b) = n ≢ m
+Misses n (bytes ty m count) = (n < m) ⊎ (m + count ≤ n)
+Misses n (fixed v) = ⊤
+Misses n nowhere = ⊤
+
+-- wherever the operand's indexes lead it names such a spot
+abbrev pub IsApart : Source → Activation → ℕ → OperandTree → Type 0
+IsApart source act n target = (frame : Frame) (spot : Spot)
+    → locate source act frame target ≡ got spot → Misses n spot
+
+-- the call leaves the cell
+abbrev pub CallLeaves : Calls → Activation → ℕ → CallSite → Type 0
+CallLeaves calls act n site = (frame : Frame) (v : ℤ) → visible_value frame n ≡ v
+    → HoldsOf (λ back. visible_value back.frame n ≡ v) (calls act site frame)
+
+-- ---- turns of a FOR
+
+-- from this count on there are exactly so many turns
+abbrev pub Takes : Counting → ℤ → ℕ → Type 0
+Takes loop count zero = is_on_the_way loop.by count loop.last ≡ false
+Takes loop count (suc n) =
+    (is_on_the_way loop.by count loop.last ≡ true) × Takes loop (count +ℤ loop.by) n
+
+-- the frame behind so many turns, by what one turn's statements do
+abbrev pub behind_turns : Source → Counting → (Frame → Frame) → ℤ → ℕ → Frame → Frame
+behind_turns source loop turn count zero frame = frame
+behind_turns source loop turn count (suc n) frame = behind_turns source loop turn
+    (count +ℤ loop.by) n (write_spot source (turn frame) loop.variable (count +ℤ loop.by))
+
+-- a body that ends normally, and leaves the loop's variable, which holds each count that is on the way
+pub record LeavesVariable (source : Source) (loop : Counting) (body : Frame → Ending)
+    (turn : Frame → Frame) : Type 0 where
+  pub ends : (frame : Frame) → body frame ≡ normal (turn frame)
+  pub leaves : (frame : Frame) (v : ℤ)
+      → read_spot frame loop.variable_place loop.variable ≡ got v
+      → read_spot (turn frame) loop.variable_place loop.variable ≡ got v
+  pub holds : (frame : Frame) (v : ℤ) → is_on_the_way loop.by v loop.last ≡ true
+      → read_spot (write_spot source frame loop.variable v) loop.variable_place loop.variable ≡ got v

@@ -1,12 +1,18 @@
--- cited by public contracts
+-- what public clauses cite
+pub mod Layout
+pub mod AreaBytes
 pub mod Cells
 pub mod Sources
 pub mod Frames
+pub mod Endings
+pub mod Spots
+pub mod Activations
 pub mod Values
 pub mod Statements
+pub mod Calls
 pub mod Scans
 pub mod Runs
-pub mod FirstForm
+pub mod Doings
+pub mod Chains
 pub mod Correct
--- cited by private contracts alone
-pub mod Numbering
+pub mod Paths

@@ -1,17 +1,18 @@
 -- A run of a source: the scans over a list of inputs, up to the first that isn't done (the scan cycle, as PLCverif models it).
 use Rattle.std.specs.Prelude.{List, [], ◌∷◌, Option, Some, None}
-use Rattle.pv_mean.specs.Frames.{Frame, Image, Input, Params, start_image}
 use Rattle.pv_mean.specs.Sources.{Source}
-use Rattle.pv_mean.specs.Scans.{Scan, ScanEnd, done, trap, over, scan, next_image}
+use Rattle.pv_mean.specs.Frames.{Image, Input, Params, start_image}
+use Rattle.pv_mean.specs.Endings.{ended, trapped, over}
+use Rattle.pv_mean.specs.Scans.{Visible, Scan, ScanEnd, scan, next_image}
 
 -- the image before the first scan of a run with these parameters
 abbrev pub start : Source → Params → Image
 start source params = start_image source.cells params
 
 -- the scans that follow one with this beginning that is done
-abbrev pub after : Source → Frame → ScanEnd → (Image → List Scan) → List Scan
-after source beginning (done frame) more = more (next_image source beginning frame)
-after source beginning (trap kind place) more = []
+abbrev pub after : Source → Visible → ScanEnd → (Image → List Scan) → List Scan
+after source beginning (ended values) more = more (next_image source beginning values)
+after source beginning (trapped kind place) more = []
 after source beginning (over place) more = []
 
 -- the scans from an image on
@@ -26,9 +27,9 @@ abbrev pub run : Source → Params → List Input → List Scan
 run source params inputs = run_from source (start source params) inputs
 
 -- goes on with the image that a scan leaves where it is done; none where it isn't
-abbrev pub with_image : Source → Frame → ScanEnd → (Image → Option Image) → Option Image
-with_image source beginning (done frame) next = next (next_image source beginning frame)
-with_image source beginning (trap kind place) next = None
+abbrev pub with_image : Source → Visible → ScanEnd → (Image → Option Image) → Option Image
+with_image source beginning (ended values) next = next (next_image source beginning values)
+with_image source beginning (trapped kind place) next = None
 with_image source beginning (over place) next = None
 
 -- the image that a run from an image leaves, where all its scans are done

@@ -1,15 +1,14 @@
-//! What a block means: its cells and their images, and what a scan and a run of scans do to them.
+//! What a project means: cells, frames, values, statements, calls, scans and runs.
 //!
-//! The definitions stand in `specs/`, one module a subject, over plain trees alone. The code here
-//! makes the table of cells, and of a block of the first form its Boolean program.
+//! The definitions stand in `specs/`, one module a subject, over plain trees alone.
 #![tactic(auto)]
 
 mod cell;
-mod first;
-mod form;
 pub mod laws;
-mod tables;
+mod lookup;
+pub mod step_laws;
+mod view;
 
-pub use cell::{Cell, CellFault, cells};
-pub use first::first_form;
-pub use tables::{first_cells, first_names};
+pub use cell::Cell;
+pub use lookup::find;
+pub use view::{CaseView, set_params};

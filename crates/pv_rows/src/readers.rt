@@ -1,7 +1,7 @@
 //! Sources and expressions whose trees were worked out by hand from the rules of the language.
 use pv_first::{BlockKind, Body, Expr, Root, Stmt};
-use pv_rules::scope_of;
-use pv_scl_parse::{ReadFault, read_block, read_expression, read_name};
+use pv_first_parse::{ReadFault, read_block, read_expression, read_name};
+use pv_first_rules::scope_of;
 use pv_types::Section;
 use std::alloc::{AllocError, Global};
 use std::process::Abort;

@@ -1,125 +1,282 @@
-//! The names that a block declares.
-ghost use Rattle.std.specs.Prelude.{◌≡◌, ◌↔◌, ◌<◌, Some, IfOk, IfSome, IsErrOf, IsSome, IsTrue, OnOk, All, Contains, length, map, position, slice_get, bytes_eq};
-ghost use Rattle.pv_types.specs.View.{var_trees};
-ghost use Rattle.pv_first.specs.Tree.{operand_tree, expr_tree, stmt_tree, body_trees, block_tree};
-ghost use Rattle.pv_first.specs.Names.{keys_of, key_of, AreApart, IsDeclared, IsDeclaredIn, KeepsNames};
+//! A block of a project, in which names are looked up.
+ghost use Rattle.std.specs.Prelude.{◌≡◌, option_map};
+ghost use Rattle.pv_types.specs.View.{var_tree};
+ghost use Rattle.pv_tree.specs.View.{block_tree, body_tree, step_tree, operand_tree, expr_tree};
+ghost use Rattle.pv_tree.specs.Scopes as scopes;
+ghost use Rattle.pv_tree.specs.Things as things;
+ghost use Rattle.pv_rules.specs.Entries.{block_of};
+ghost use Rattle.pv_rules.specs.Tables.{project_of};
+ghost use Rattle.pv_rules.specs.Views.{held_tree, thing_tree};
+ghost use Rattle.pv_rules.specs.InScope.{scope_of, first_where};
 
-use crate::fault::NameFault;
-use indexmap::IndexSet;
-use pv_edge::Text;
-use pv_first::{Block, Body, Expr, Operand, Root, Stmt};
+use crate::entry::Entry;
+use crate::tables::Tables;
+use crate::thing::{
+    Held, Thing, dated, is_address, is_of_instance, level_of, thing_of_var, type_of_bits,
+};
+use pv_machine::Place;
+use pv_tree::{Block, BlockKind, Body, Root};
 use pv_types::{Name, Var};
-use std::alloc::Global;
-use std::marker::Model;
+use pv_word::Ty;
 
-/// The names that a block declares, in the order of their declarations, which contracts see as the list of their keys.
-#[derive(Drop)]
-pub struct Scope {
-    keys: IndexSet<Text>,
+/// A block of a project, in which names are looked up.
+#[derive(Clone, Copy)]
+pub struct Scope<'p> {
+    pub tables: &'p Tables<'p>,
+    pub entry: &'p Entry<'p>,
 }
 
-impl Model for Scope {
-    ghost use Rattle.std.specs.Prelude.{List, ℕ};
-
-    ghost Value = { List (List ℕ) };
-
-    ghost view = { λ s. s.keys.keys };
-}
-
-/// The names that the block declares.
-///
-/// `DoubledName` where it declares a name twice, and else `UndeclaredName` where its body has a name that it doesn't
-/// declare.
-pub fn scope_of(alloc: Global, block: &Block) -> Result<Scope, NameFault>
-    ensures keys { IfOk result (λ s. s ≡ keys_of (block_tree block.now).vars) }
-    ensures kept { OnOk result (KeepsNames (block_tree block.now)) }
-    ensures doubled { IsErrOf result NameFault.DoubledName
-        → AreApart (keys_of (block_tree block.now).vars) → ⊥ }
-    ensures undeclared { IsErrOf result NameFault.UndeclaredName
-        → All (IsDeclaredIn (keys_of (block_tree block.now).vars)) (block_tree block.now).body → ⊥ }
-    ensures first { IsErrOf result NameFault.UndeclaredName
-        → AreApart (keys_of (block_tree block.now).vars) }
+/// Whether a body is one of STL.
+fn is_stl(body: &Body) -> bool
+    ensures { result ≡ scopes.is_stl (body_tree body.now) }
 {
-    let scope = declared(alloc, block.interface.vars.as_slice())?;
-    if scope.declares_all(statements_of(&block.body)) {
-        Ok(scope)
-    } else {
-        Err(NameFault::UndeclaredName)
+    match body {
+        Body::Stl(_) => true,
+        Body::Scl(_) | Body::Starts(_) => false,
     }
 }
 
-/// The statements of a body.
-fn statements_of(body: &Body) -> &[Stmt]
-    ensures { body_trees body.now ≡ map stmt_tree result.now }
+/// Whether a block is a type.
+fn is_type(kind: &BlockKind) -> bool
+    ensures { result ≡ scopes.is_type kind.now }
 {
-    let Body::Scl(statements) = body;
-    statements.as_slice()
+    match kind {
+        BlockKind::Fb | BlockKind::Udt => true,
+        BlockKind::Fc | BlockKind::Ob | BlockKind::Db { .. } => false,
+    }
 }
 
-/// The names of the variables.
-///
-/// `DoubledName` where two of them are the same.
-fn declared(alloc: Global, vars: &[Var]) -> Result<Scope, NameFault>
-    ensures keys { IfOk result (λ s. s ≡ keys_of (var_trees vars.now)) }
-    ensures apart { OnOk result (AreApart (keys_of (var_trees vars.now))) }
-    ensures doubled { IsErrOf result NameFault.DoubledName
-        → AreApart (keys_of (var_trees vars.now)) → ⊥ }
-    ensures others { IsErrOf result NameFault.UndeclaredName → ⊥ }
+/// The type of the value that a name means in a function.
+fn own_value(block: &Block, name: &Name, hash: bool) -> Option<Ty>
+    ensures { result ≡ scopes.own_value (block_tree block.now) name.now.key hash }
 {
-    let mut keys = IndexSet::new(alloc);
+    if is_stl(&block.body) {
+        if name.key.bytes() == b"ret_val".as_slice() {
+            return block.interface.value;
+        }
+        return None;
+    }
+    if hash {
+        return None;
+    }
+    if name.key == block.name.key {
+        return block.interface.value;
+    }
+    None
+}
+
+/// The first of the variables of this name; those that an instance lacks count only where all do.
+fn first_among<'p>(vars: &'p [Var], name: &Name, all: bool) -> Option<&'p Var>
+    ensures { option_map (λ v. var_tree v.now) result ≡ first_where all name.now.key vars.now }
+{
     for var in vars {
-        let key = var.name.key.clone()?;
-        if !keys.insert(key)? {
-            return Err(NameFault::DoubledName);
+        if (all || is_of_instance(var.section)) && name.key == var.name.key {
+            return Some(var);
         }
     }
-    Ok(Scope { keys })
+    None
 }
 
-impl Scope {
-    /// The number of the variable of this name: its place among the block's variables, from 0.
-    pub fn find(&self, name: &Name) -> Option<usize>
-        ensures number { result ≡ position (bytes_eq name.now.key) self.now }
-        ensures within { IfSome result (λ n. n < length self.now) }
-        ensures found { IfSome result (λ n. slice_get self.now n ≡ Some name.now.key) }
-        ensures is_there { IsSome result ↔ Contains self.now name.now.key }
+impl<'p> Scope<'p> {
+    /// What a word means, without and behind `#`.
+    pub fn word(&self, name: &Name, hash: bool, place: Place) -> Thing<'p>
+        ensures { thing_tree result
+            ≡ things.thing_of_word (scope_of self.now) name.now.key hash place }
     {
-        self.keys.get_index_of(&name.key)
-    }
-
-    /// Whether each name in the expression is declared.
-    pub fn declares(&self, e: &Expr) -> bool
-        ensures { IsTrue result ↔ IsDeclared self.now (expr_tree e.now) }
-    {
-        match e {
-            Expr::Lit { .. } => true,
-            Expr::Read(operand) => self.declares_operand(operand),
-            Expr::Unary { arg, .. } => self.declares(arg),
-            Expr::Binary { left, right, .. } => self.declares(left) && self.declares(right),
-            Expr::Paren(_, inner) => self.declares(inner),
+        if let Some(var) = self.entry.find(name) {
+            return thing_of_var(var);
+        }
+        if let Some(ty) = own_value(self.entry.block, name, hash) {
+            return Thing::Part(Held::Plain(ty));
+        }
+        if hash {
+            return Thing::NoName(place);
+        }
+        match self.tables.find_block(name) {
+            Some(entry) => Thing::Block(entry),
+            None => Thing::NoName(place),
         }
     }
 
-    /// Whether the operand's name is declared.
-    fn declares_operand(&self, operand: &Operand) -> bool
-        ensures { IsTrue result ↔ Contains self.now (key_of (operand_tree operand.now)) }
+    /// What a symbol stands for.
+    fn symbol(&self, name: &Name, place: Place) -> Thing<'p>
+        ensures { thing_tree result
+            ≡ things.thing_of_symbol (scope_of self.now) name.now.key place }
     {
-        let Root::Local { name, .. } = &operand.root;
-        self.find(name).is_some()
+        match self.tables.find_symbol(name) {
+            Some(symbol) => Thing::Part(Held::Plain(symbol.2)),
+            None => Thing::NoName(place),
+        }
     }
 
-    /// Whether each name in the statement is declared.
-    fn declares_in(&self, statement: &Stmt) -> bool
-        ensures { IsTrue result ↔ IsDeclaredIn self.now (stmt_tree statement.now) }
+    /// The type of the value that a quoted or numbered name means in a function.
+    fn quoted_value(&self, name: &Name) -> Option<Ty>
+        ensures { result ≡ things.quoted_value (block_of self.now.entry.now) name.now.key }
     {
-        let Stmt::Assign { target, value, .. } = statement;
-        self.declares_operand(target) && self.declares(value)
+        if is_stl(&self.entry.block.body) {
+            return None;
+        }
+        own_value(self.entry.block, name, false)
     }
 
-    /// Whether each name in the statements is declared.
-    fn declares_all(&self, statements: &[Stmt]) -> bool
-        ensures { IsTrue result ↔ All (IsDeclaredIn self.now) (map stmt_tree statements.now) }
+    /// What a quoted or numbered name means.
+    fn name(&self, name: &Name, place: Place) -> Thing<'p>
+        ensures { thing_tree result
+            ≡ things.thing_of_name (scope_of self.now) name.now.key place }
     {
-        statements.iter().all(|s| self.declares_in(s))
+        if let Some(ty) = self.quoted_value(name) {
+            return Thing::Part(Held::Plain(ty));
+        }
+        match self.tables.find_block(name) {
+            Some(entry) => Thing::Block(entry),
+            None => self.symbol(name, place),
+        }
+    }
+
+    /// What an operand begins with.
+    pub fn root(&self, root: &Root, first: Place) -> Thing<'p>
+        ensures { thing_tree result ≡ things.thing_of_root (scope_of self.now) root.now first }
+    {
+        match root {
+            Root::Local { name, hash, place } => self.word(name, *hash, *place),
+            Root::Named(name) => self.name(name, first),
+            Root::Area {
+                bits,
+                byte,
+                bit,
+                ..
+            } => {
+                if is_address(*bits, *byte, *bit) {
+                    Thing::Part(Held::Plain(type_of_bits(*bits)))
+                } else {
+                    Thing::Untold
+                }
+            }
+        }
+    }
+
+    /// The block that is the type of this name.
+    pub fn find_type(&self, name: &Name) -> Option<&'p Entry<'p>>
+        ensures { option_map (λ e. block_of e.now) result
+            ≡ scopes.type_named (project_of self.now.tables.now) name.now.key }
+    {
+        match self.tables.find_block(name) {
+            Some(entry) => {
+                if is_type(&entry.block.kind) {
+                    Some(entry)
+                } else {
+                    None
+                }
+            }
+            None => None,
+        }
+    }
+
+    /// The field of this name in the type of that name.
+    fn field_of_named(&self, type_name: &Name, name: &Name, place: Place) -> Thing<'p>
+        ensures { thing_tree result ≡ things.field_of_named (scope_of self.now) type_name.now.key
+            name.now.key place }
+    {
+        match self.find_type(type_name) {
+            Some(entry) => match field_of_instance(entry, name) {
+                Some(var) => Thing::Part(level_of(&var.ty)),
+                None => Thing::NoName(place),
+            },
+            None => Thing::Untold,
+        }
+    }
+
+    /// The field of this name in a type.
+    fn field_of_type(&self, ty: Held<'p>, name: &Name, place: Place) -> Thing<'p>
+        ensures { thing_tree result ≡ things.field_of_type (scope_of self.now) (held_tree ty.entry)
+            name.now.key place }
+    {
+        match ty {
+            Held::Struct(vars) => match first_among(vars, name, true) {
+                Some(var) => Thing::Part(level_of(&var.ty)),
+                None => Thing::NoName(place),
+            },
+            Held::Named(type_name, _) => self.field_of_named(type_name, name, place),
+            Held::Plain(_) | Held::Array { .. } | Held::Unread => Thing::NoName(place),
+        }
+    }
+
+    /// The field of this name in a block: a data block has the fields of its type, or its own.
+    fn field_of_block(&self, entry: &Entry<'p>, name: &Name, place: Place) -> Thing<'p>
+        ensures { thing_tree result ≡ things.field_of_kind (scope_of self.now)
+            (block_of entry.now).kind (block_of entry.now).vars name.now.key place }
+    {
+        match &entry.block.kind {
+            BlockKind::Db { of: None } => match entry.find(name) {
+                Some(var) => Thing::Part(level_of(&var.ty)),
+                None => Thing::NoName(place),
+            },
+            BlockKind::Db {
+                of: Some((type_name, _)),
+            } => self.field_of_named(type_name, name, place),
+            BlockKind::Fb | BlockKind::Fc | BlockKind::Ob | BlockKind::Udt => Thing::NoName(place),
+        }
+    }
+
+    /// The field of this name in a thing.
+    pub fn field(&self, thing: Thing<'p>, name: &Name, place: Place) -> Thing<'p>
+        ensures { thing_tree result ≡ things.field_of_thing (scope_of self.now)
+            (thing_tree thing.entry) name.now.key place }
+    {
+        match thing {
+            Thing::Part(ty) => self.field_of_type(ty, name, place),
+            Thing::Constant(_) => Thing::NoName(place),
+            Thing::Block(entry) => self.field_of_block(entry, name, place),
+            Thing::NoName(at) => Thing::NoName(at),
+            Thing::NoArray(at) => Thing::NoArray(at),
+            Thing::ADate(at) => Thing::ADate(at),
+            Thing::Untold => Thing::Untold,
+        }
+    }
+
+    /// An element of a type; the place is that of the index's first token.
+    fn element_of_type(&self, ty: Held<'p>, place: Place) -> Thing<'p>
+        ensures { thing_tree result ≡ things.element_of_type (scope_of self.now)
+            (held_tree ty.entry) place }
+    {
+        match ty {
+            Held::Array { of, .. } => Thing::Part(level_of(of)),
+            Held::Named(name, _) => match self.find_type(name) {
+                Some(_) => Thing::NoArray(place),
+                None => Thing::Untold,
+            },
+            Held::Plain(_) | Held::Struct(_) | Held::Unread => Thing::NoArray(place),
+        }
+    }
+
+    /// An element of a thing; the place is that of the index's first token.
+    pub fn element(&self, thing: Thing<'p>, place: Place) -> Thing<'p>
+        ensures { thing_tree result ≡ things.element_of_thing (scope_of self.now)
+            (thing_tree thing.entry) place }
+    {
+        match thing {
+            Thing::Part(ty) => self.element_of_type(ty, place),
+            Thing::Constant(_) | Thing::Block(_) => Thing::NoArray(place),
+            Thing::NoName(at) => Thing::NoName(at),
+            Thing::NoArray(at) => Thing::NoArray(at),
+            Thing::ADate(at) => Thing::ADate(at),
+            Thing::Untold => Thing::Untold,
+        }
+    }
+}
+
+/// The first variable of this name that an instance of the block has.
+fn field_of_instance<'p>(entry: &Entry<'p>, name: &Name) -> Option<&'p Var>
+    ensures { option_map (λ v. var_tree v.now) result
+        ≡ scopes.first_var (things.fields_of_type (block_of entry.now)) name.now.key }
+{
+    match entry.find(name) {
+        Some(var) => {
+            if is_of_instance(var.section) {
+                return Some(var);
+            }
+            first_among(entry.block.interface.vars.as_slice(), name, false)
+        }
+        None => None,
     }
 }

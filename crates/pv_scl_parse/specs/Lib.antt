@@ -1,8 +1,6 @@
-pub mod Expressions
-pub mod Statements
-pub mod Declarations
-pub mod Reading
-pub mod Readers
-pub mod Tokens
-pub mod Stretches
-pub mod Words
+-- what public clauses cite
+pub mod OwnNames
+pub mod SclGrammar
+pub mod Answers
+-- what private ones cite
+pub mod OwnBodies

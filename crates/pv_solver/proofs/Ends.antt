@@ -12,7 +12,8 @@ use Rattle.pv_log.specs.Newness.{subsumes, is_subsumed}
 use Rattle.pv_solver.specs.Search.{AllSet}
 use Rattle.pv_solver.proofs.Lefts.{Within, false-append, left-in, left-out, left-within, falsified-nil, unit-is, quiet-one, quiet-not-nil, first-of}
 
-pub named-quiet : (F : List ℕ) (clauses : List (List ℕ)) (h : ℕ) (clause : List ℕ) → AreQuiet F clauses → named clauses h ≡ Some clause → IsQuiet F clause
+pub named-quiet : (F : List ℕ) (clauses : List (List ℕ)) (h : ℕ) (clause : List ℕ) → AreQuiet F clauses
+    → named clauses h ≡ Some clause → IsQuiet F clause
 named-quiet F clauses zero clause q e = absurd cc
 named-quiet F clauses (suc n) clause q e = slice_get-all (IsQuiet F) clauses n clause q e
 
@@ -29,7 +30,8 @@ within-push A F x w there = record {
   ];
 }
 
-pub none-leads : (F : List ℕ) (clauses : List (List ℕ)) → AreQuiet F clauses → (hints A : List ℕ) → Within A F → LeadsToFalse clauses A hints → ⊥
+pub none-leads : (F : List ℕ) (clauses : List (List ℕ)) → AreQuiet F clauses → (hints A : List ℕ)
+    → Within A F → LeadsToFalse clauses A hints → ⊥
 none-leads F clauses q [] A w l = l
 none-leads F clauses q (h ∷ []) A w (clause, at, is) =
     quiet-not-nil F clause (named-quiet F clauses h clause q at) (left-within A F clause w ∙ ap (left_of F) (falsified-nil A clause is))
@@ -66,7 +68,8 @@ sole-member : (u x : ℕ) → is_false (u ∷ []) x ≡ true → x ≡ u
 sole-member u x e = elim (or_cases (eqb x u) false e) [ inl same ↦ eqb-true x u same | inr none ↦ absurd (both_ways false refl none) ]
 
 -- of a clause among the literals only `u` is left, and at most once
-only : (F C D : List ℕ) (u : ℕ) → left_of F C ≡ u ∷ [] → subsumes D C ≡ true → has_double D ≡ false → (left_of F D ≡ []) ⊎ (left_of F D ≡ u ∷ [])
+only : (F C D : List ℕ) (u : ℕ) → left_of F C ≡ u ∷ [] → subsumes D C ≡ true → has_double D ≡ false
+    → (left_of F D ≡ []) ⊎ (left_of F D ≡ u ∷ [])
 only F C [] u left sub d = inl refl
 only F C (x ∷ xs) u left sub d =
     let parts = and_parts (is_false C x) (subsumes xs C) sub in
@@ -77,11 +80,13 @@ only F C (x ∷ xs) u left sub d =
       | inr absent ↦ (let same : x ≡ u = sole-member u x (sym (ap (λ (ys : List ℕ). is_false ys x) left) ∙ left-has F C x parts.0 absent) in
           elim rest [
             | inl e ↦ inr (left-out F x xs absent ∙ ap (λ (ys : List ℕ). x ∷ ys) e ∙ ap (λ (y : ℕ). y ∷ []) same)
-            | inr e ↦ absurd (both_ways (has_variable (variable_of x) xs) apart.0 (subst (λ (y : ℕ). has_variable (variable_of y) xs ≡ true) (sym same) (first-of 0 F xs u [] e).variable))
+            | inr e ↦ absurd (both_ways (has_variable (variable_of x) xs) apart.0 (subst (λ (y : ℕ). has_variable (variable_of y) xs ≡ true)
+                (sym same) (first-of 0 F xs u [] e).variable))
           ])
     ]
 
-apart-one : (F C D : List ℕ) (u : ℕ) → IsQuiet F D → has_double D ≡ false → left_of F C ≡ u ∷ [] → is_false F (complement u) ≡ false → subsumes D C ≡ false
+apart-one : (F C D : List ℕ) (u : ℕ) → IsQuiet F D → has_double D ≡ false → left_of F C ≡ u ∷ []
+    → is_false F (complement u) ≡ false → subsumes D C ≡ false
 apart-one F C D u q d left absent =
     elim (cases_Bool (subsumes D C)) [
       | inr isnt ↦ isnt
@@ -91,7 +96,8 @@ apart-one F C D u q d left absent =
       ]
     ]
 
-pub fresh : (F C : List ℕ) (u v : ℕ) (clauses : List (List ℕ)) → AreQuiet F clauses → AreClauses v clauses → unit_of F C ≡ Some u → is_subsumed clauses C ≡ false
+pub fresh : (F C : List ℕ) (u v : ℕ) (clauses : List (List ℕ)) → AreQuiet F clauses → AreClauses v clauses
+    → unit_of F C ≡ Some u → is_subsumed clauses C ≡ false
 fresh F C u v [] q a e = refl
 fresh F C u v (D ∷ clauses) q a e =
     let one = unit-is F C u e in
@@ -100,7 +106,8 @@ fresh F C u v (D ∷ clauses) q a e =
 -- ---- where each variable has a value the clauses hold
 
 -- a literal that isn't false is true
-lit-true : (v : ℕ) (F : List ℕ) (truth : ℕ → Bool) (lit : ℕ) → AllSet v F → is_outside v lit ≡ false → is_false F lit ≡ false → ((x : ℕ) → x ≤ v → truth x ≡ is_false F (2 * x + 1)) → literal_value truth lit ≡ true
+lit-true : (v : ℕ) (F : List ℕ) (truth : ℕ → Bool) (lit : ℕ) → AllSet v F → is_outside v lit ≡ false → is_false F lit ≡ false
+    → ((x : ℕ) → x ≤ v → truth x ≡ is_false F (2 * x + 1)) → literal_value truth lit ≡ true
 lit-true v F truth lit set inside absent t =
     let b = inside-bounds v lit inside in
     let x = lit / 2 in
@@ -112,7 +119,13 @@ lit-true v F truth lit set inside absent t =
           ap (λ (c : Bool). cond c (not (truth (lit / 2))) (truth (lit / 2))) (ne_eqb (lit % 2) 1 even)
           ∙ t (lit / 2) b.1 ∙ (elim (cases_Bool (is_false F (2 * (lit / 2) + 1))) [
             | inl there ↦ there
-            | inr free ↦ absurd (set (lit / 2) (record { from_one = b.0; to_last = b.1; not_false = ap (is_false F) is ∙ absent; not_true = free }))
+            | inr free ↦ absurd (set (lit / 2) (record {
+              from_one = b.0;
+              to_last = b.1;
+              not_false =
+                  ap (is_false F) is ∙ absent;
+              not_true = free;
+            }))
           ]))
     ]
 
@@ -120,7 +133,8 @@ shape : (xs : List ℕ) → (xs ≡ []) ⊎ ((x : ℕ) × (ys : List ℕ) × (xs
 shape [] = inl refl
 shape (x ∷ ys) = inr (x, ys, refl)
 
-pub clause-true : (v : ℕ) (F : List ℕ) (truth : ℕ → Bool) (clause : List ℕ) → AllSet v F → IsQuiet F clause → IsClause v clause → ((x : ℕ) → x ≤ v → truth x ≡ is_false F (2 * x + 1)) → clause_value truth clause ≡ true
+pub clause-true : (v : ℕ) (F : List ℕ) (truth : ℕ → Bool) (clause : List ℕ) → AllSet v F → IsQuiet F clause → IsClause v clause
+    → ((x : ℕ) → x ≤ v → truth x ≡ is_false F (2 * x + 1)) → clause_value truth clause ≡ true
 clause-true v F truth clause set q c t =
     elim (shape (left_of F clause)) [
       | inl e ↦ absurd (quiet-not-nil F clause q e)
@@ -128,12 +142,15 @@ clause-true v F truth clause set q c t =
           f.any (literal_value truth) (lit-true v F truth lit set (f.inside c.inside) f.not_false t))
     ]
 
-pub all-true : (v : ℕ) (F : List ℕ) (truth : ℕ → Bool) (clauses : List (List ℕ)) → AllSet v F → AreQuiet F clauses → AreClauses v clauses → ((x : ℕ) → x ≤ v → truth x ≡ is_false F (2 * x + 1)) → list_all (clause_value truth) clauses ≡ true
+pub all-true : (v : ℕ) (F : List ℕ) (truth : ℕ → Bool) (clauses : List (List ℕ)) → AllSet v F → AreQuiet F clauses → AreClauses v clauses
+    → ((x : ℕ) → x ≤ v → truth x ≡ is_false F (2 * x + 1)) → list_all (clause_value truth) clauses ≡ true
 all-true v F truth [] set q c t = refl
 all-true v F truth (x ∷ xs) set q c t =
-    and_from (clause_value truth x) (list_all (clause_value truth) xs) (clause-true v F truth x set q.0 c.0 t) (all-true v F truth xs set q.1 c.1 t)
+    and_from (clause_value truth x) (list_all (clause_value truth) xs) (clause-true v F truth x set q.0 c.0 t)
+    (all-true v F truth xs set q.1 c.1 t)
 
-pub all-front : (truth : ℕ → Bool) (xs ys : List (List ℕ)) → list_all (clause_value truth) (xs ++ ys) ≡ true → list_all (clause_value truth) xs ≡ true
+pub all-front : (truth : ℕ → Bool) (xs ys : List (List ℕ)) → list_all (clause_value truth) (xs ++ ys) ≡ true
+    → list_all (clause_value truth) xs ≡ true
 all-front truth [] ys h = refl
 all-front truth (x ∷ xs) ys h =
     let parts = and_parts (clause_value truth x) (list_all (clause_value truth) (xs ++ ys)) h in

@@ -31,7 +31,8 @@ left-within A B [] w = refl
 left-within A B (x ∷ xs) w =
     elim (cases_Bool (is_false A x)) [
       | inl there ↦ left-in B x xs (w.at x there) ∙ left-within A B xs w ∙ sym (ap (left_of B) (left-in A x xs there))
-      | inr absent ↦ ap (λ (ys : List ℕ). cond (not (is_false B x)) (x ∷ ys) ys) (left-within A B xs w) ∙ sym (ap (left_of B) (left-out A x xs absent))
+      | inr absent ↦ ap (λ (ys : List ℕ). cond (not (is_false B x)) (x ∷ ys) ys) (left-within A B xs w)
+          ∙ sym (ap (left_of B) (left-out A x xs absent))
     ]
 
 nil-of : (xs : List ℕ) → (elim xs as (λ _. Bool) [ [] ↦ true | _ ∷ _ ↦ false ]) ≡ true → xs ≡ []
@@ -62,10 +63,12 @@ sole-is F (x ∷ []) lit e =
     (ap (λ (y : ℕ). y ∷ []) s.0, subst (λ (y : ℕ). is_false F (complement y) ≡ false) s.0 s.1)
 sole-is F (x ∷ y ∷ xs) lit e = absurd cc
 
-pub unit-is : (F clause : List ℕ) (lit : ℕ) → unit_of F clause ≡ Some lit → (left_of F clause ≡ lit ∷ []) × (is_false F (complement lit) ≡ false)
+pub unit-is : (F clause : List ℕ) (lit : ℕ) → unit_of F clause ≡ Some lit → (left_of F clause ≡ lit ∷ [])
+    × (is_false F (complement lit) ≡ false)
 unit-is F clause lit e = sole-is F (left_of F clause) lit e
 
-pub unit-when : (F clause : List ℕ) (lit : ℕ) → left_of F clause ≡ lit ∷ [] → is_false F (complement lit) ≡ false → unit_of F clause ≡ Some lit
+pub unit-when : (F clause : List ℕ) (lit : ℕ) → left_of F clause ≡ lit ∷ []
+    → is_false F (complement lit) ≡ false → unit_of F clause ≡ Some lit
 unit-when F clause lit e absent = ap (sole_unset F) e ∙ ap (λ (b : Bool). cond b None (Some lit)) absent
 
 -- a quiet clause with one literal that isn't false has a true one
@@ -89,19 +92,26 @@ two-quiet F clause x y xs e = record {
   gives_none = ap (sole_unset F) e;
 }
 
-pub left-more : (F clause : List ℕ) (i : ℕ) → i < length clause → left_of F (take (i + 1) clause) ≡ left_of F (take i clause) ++ cond (not (is_false F (get_or clause i 0))) (get_or clause i 0 ∷ []) []
+pub left-more : (F clause : List ℕ) (i : ℕ) → i < length clause → left_of F (take (i + 1) clause) ≡ left_of F (take i clause) ++ cond
+    (not (is_false F (get_or clause i 0))) (get_or clause i 0 ∷ []) []
 left-more F clause i lt = filter_more (λ (lit : ℕ). not (is_false F lit)) clause i 0 lt
 
-pub left-more-in : (F clause : List ℕ) (i : ℕ) → i < length clause → is_false F (get_or clause i 0) ≡ true → left_of F (take (i + 1) clause) ≡ left_of F (take i clause)
-left-more-in F clause i lt e = left-more F clause i lt ∙ ap (λ (b : Bool). left_of F (take i clause) ++ cond (not b) (get_or clause i 0 ∷ []) []) e ∙ append-nil (left_of F (take i clause))
+pub left-more-in : (F clause : List ℕ) (i : ℕ) → i < length clause → is_false F (get_or clause i 0) ≡ true
+    → left_of F (take (i + 1) clause) ≡ left_of F (take i clause)
+left-more-in F clause i lt e = left-more F clause i lt
+    ∙ ap (λ (b : Bool). left_of F (take i clause) ++ cond (not b) (get_or clause i 0 ∷ []) []) e ∙ append-nil (left_of F (take i clause))
 
-pub left-more-out : (F clause : List ℕ) (i : ℕ) → i < length clause → is_false F (get_or clause i 0) ≡ false → left_of F (take (i + 1) clause) ≡ left_of F (take i clause) ++ get_or clause i 0 ∷ []
-left-more-out F clause i lt e = left-more F clause i lt ∙ ap (λ (b : Bool). left_of F (take i clause) ++ cond (not b) (get_or clause i 0 ∷ []) []) e
+pub left-more-out : (F clause : List ℕ) (i : ℕ) → i < length clause → is_false F (get_or clause i 0) ≡ false
+    → left_of F (take (i + 1) clause) ≡ left_of F (take i clause) ++ get_or clause i 0 ∷ []
+left-more-out F clause i lt e = left-more F clause i lt
+    ∙ ap (λ (b : Bool). left_of F (take i clause) ++ cond (not b) (get_or clause i 0 ∷ []) []) e
 
 -- the second literal that isn't false
-pub second-quiet : (F clause : List ℕ) (i x : ℕ) → i < length clause → is_false F (get_or clause i 0) ≡ false → left_of F (take i clause) ≡ x ∷ [] → IsQuiet F clause
+pub second-quiet : (F clause : List ℕ) (i x : ℕ) → i < length clause → is_false F (get_or clause i 0) ≡ false
+    → left_of F (take i clause) ≡ x ∷ [] → IsQuiet F clause
 second-quiet F clause i x lt e front =
-    let parts : clause ≡ take i clause ++ get_or clause i 0 ∷ drop (i + 1) clause = sym (take-append-drop i clause) ∙ ap (λ (xs : List ℕ). take i clause ++ xs) (drop_more clause i 0 lt) in
+    let parts : clause ≡ take i clause ++ get_or clause i 0 ∷ drop (i + 1) clause = sym (take-append-drop i clause)
+    ∙ ap (λ (xs : List ℕ). take i clause ++ xs) (drop_more clause i 0 lt) in
     let whole : left_of F clause ≡ x ∷ get_or clause i 0 ∷ left_of F (drop (i + 1) clause) =
     ap (left_of F) parts ∙ filter-append (λ (lit : ℕ). not (is_false F lit)) (take i clause) (get_or clause i 0 ∷ drop (i + 1) clause)
     ∙ ap (λ (ys : List ℕ). left_of F (take i clause) ++ ys) (left-out F (get_or clause i 0) (drop (i + 1) clause) e)
@@ -137,7 +147,8 @@ first-of v F (x ∷ xs) lit rest e =
       })
       | inr absent ↦ (let same : x ≡ lit = head-of x (left_of F xs) lit rest (sym (left-out F x xs absent) ∙ e) in record {
         not_false = subst (λ (y : ℕ). is_false F y ≡ false) same absent;
-        variable = or_left (eqb (variable_of lit) (variable_of x)) (has_variable (variable_of lit) xs) (eq-eqb (variable_of lit) (variable_of x) (ap variable_of (sym same)));
+        variable = or_left (eqb (variable_of lit) (variable_of x)) (has_variable (variable_of lit) xs)
+            (eq-eqb (variable_of lit) (variable_of x) (ap variable_of (sym same)));
         inside = λ h. subst (λ (y : ℕ). is_outside v y ≡ false) same (head-inside v x xs h);
         any = λ test t. or_left (test x) (list_any test xs) (subst (λ (y : ℕ). test y ≡ true) (sym same) t);
       })

@@ -12,11 +12,17 @@ use Rattle.pv_log.specs.Newness.{FollowsNew, NoneEmpty}
 use Rattle.pv_solver.specs.Lemmas.{IsLemma, AreLemmas}
 
 -- one more line
-each-push : (R : List (List ℕ) → Line → Type 0) (clauses : List (List ℕ)) (lines : List Line) (line : Line) → EachFollows R clauses lines → R (with_lines clauses lines) line → EachFollows R clauses (lines ++ line ∷ [])
+each-push : (R : List (List ℕ) → Line → Type 0) (clauses : List (List ℕ)) (lines : List Line) (line : Line) → EachFollows R clauses lines
+    → R (with_lines clauses lines) line → EachFollows R clauses (lines ++ line ∷ [])
 each-push R clauses [] line e r = (subst (λ (cs : List (List ℕ)). R cs line) (append-nil clauses) r, tt)
-each-push R clauses (l ∷ lines) line e r = (e.0, each-push R (clauses ++ l.lits ∷ []) lines line e.1 (subst (λ (cs : List (List ℕ)). R cs line) (sym (append_assoc clauses (l.lits ∷ []) (map (λ (x : Line). x.lits) lines))) r))
+each-push R clauses (l ∷ lines) line e r = (
+  e.0,
+  each-push R (clauses ++ l.lits ∷ []) lines line e.1 (subst (λ (cs : List (List ℕ)). R cs line)
+      (sym (append_assoc clauses (l.lits ∷ []) (map (λ (x : Line). x.lits) lines))) r),
+)
 
-each-weaker : (v : ℕ) (clauses : List (List ℕ)) (lines : List Line) → EachFollows (FollowsNew v) clauses lines → EachFollows (FollowsLog v) clauses lines
+each-weaker : (v : ℕ) (clauses : List (List ℕ)) (lines : List Line) → EachFollows (FollowsNew v) clauses lines
+    → EachFollows (FollowsLog v) clauses lines
 each-weaker v clauses [] e = tt
 each-weaker v clauses (l ∷ lines) e = (e.0.follows, each-weaker v (clauses ++ l.lits ∷ []) lines e.1)
 
@@ -24,16 +30,20 @@ none-push : (lines : List Line) (line : Line) → NoneEmpty lines → 0 < length
 none-push [] line n lt = (lt, tt)
 none-push (l ∷ lines) line n lt = (n.0, none-push lines line n.1 lt)
 
-pub lemmas-push : (v : ℕ) (clauses : List (List ℕ)) (lines : List Line) (line : Line) → AreLemmas v clauses lines → IsLemma v (with_lines clauses lines) line → AreLemmas v clauses (lines ++ line ∷ [])
+pub lemmas-push : (v : ℕ) (clauses : List (List ℕ)) (lines : List Line) (line : Line) → AreLemmas v clauses lines
+    → IsLemma v (with_lines clauses lines) line → AreLemmas v clauses (lines ++ line ∷ [])
 lemmas-push v clauses lines line a l = record {
   each = each-push (FollowsNew v) clauses lines line a.each l.new;
   none_empty = none-push lines line a.none_empty l.nonempty;
 }
 
-pub with-push : (clauses : List (List ℕ)) (lines : List Line) (line : Line) → with_lines clauses (lines ++ line ∷ []) ≡ with_lines clauses lines ++ line.lits ∷ []
-with-push clauses lines line = ap (λ (cs : List (List ℕ)). clauses ++ cs) (map_push (λ (x : Line). x.lits) lines line) ∙ sym (append_assoc clauses (map (λ (x : Line). x.lits) lines) (line.lits ∷ []))
+pub with-push : (clauses : List (List ℕ)) (lines : List Line) (line : Line)
+    → with_lines clauses (lines ++ line ∷ []) ≡ with_lines clauses lines ++ line.lits ∷ []
+with-push clauses lines line = ap (λ (cs : List (List ℕ)). clauses ++ cs) (map_push (λ (x : Line). x.lits) lines line)
+    ∙ sym (append_assoc clauses (map (λ (x : Line). x.lits) lines) (line.lits ∷ []))
 
-pub words-push : (v : ℕ) (clauses : List (List ℕ)) (lines : List Line) (line : Line) → words_with v clauses (lines ++ line ∷ []) ≡ words_with v clauses lines + line_cost line
+pub words-push : (v : ℕ) (clauses : List (List ℕ)) (lines : List Line) (line : Line)
+    → words_with v clauses (lines ++ line ∷ []) ≡ words_with v clauses lines + line_cost line
 words-push v clauses lines line = omega (arith, sum_by_push line_cost lines line)
 
 -- ---- the empty line
@@ -43,7 +53,8 @@ ends-last [] line e = eq-eqb (length line.lits) 0 (ap (λ (ls : List ℕ). lengt
 ends-last (l ∷ []) line e = eq-eqb (length line.lits) 0 (ap (λ (ls : List ℕ). length ls) e)
 ends-last (l ∷ m ∷ lines) line e = ends-last (m ∷ lines) line e
 
-pub accepted-last : (v : ℕ) (clauses : List (List ℕ)) (lines : List Line) (line : Line) → AreLemmas v clauses lines → FollowsLog v (with_lines clauses lines) line → line.lits ≡ [] → IsAccepted (FollowsLog v) clauses (lines ++ line ∷ [])
+pub accepted-last : (v : ℕ) (clauses : List (List ℕ)) (lines : List Line) (line : Line) → AreLemmas v clauses lines
+    → FollowsLog v (with_lines clauses lines) line → line.lits ≡ [] → IsAccepted (FollowsLog v) clauses (lines ++ line ∷ [])
 accepted-last v clauses lines line a f e = record {
   each = each-push (FollowsLog v) clauses lines line (each-weaker v clauses lines a.each) f;
   ends = ends-last lines line e;
@@ -60,7 +71,13 @@ few-lines [] = omega arith
 few-lines (l ∷ lines) = omega (arith, few-lines lines, sum_by-cons line_cost l lines)
 
 pub few : (v : ℕ) (clauses : List (List ℕ)) (lines : List Line) → 3 * length (with_lines clauses lines) ≤ words_with v clauses lines
-few v clauses lines = omega (arith, few-clauses clauses, few-lines lines, length-append clauses (map (λ (x : Line). x.lits) lines), length-map lines (λ (x : Line). x.lits))
+few v clauses lines = omega (
+  arith,
+  few-clauses clauses,
+  few-lines lines,
+  length-append clauses (map (λ (x : Line). x.lits) lines),
+  length-map lines (λ (x : Line). x.lits),
+)
 
 pub few-lines-fit : (v : ℕ) (clauses : List (List ℕ)) (lines : List Line) → 3 * length lines ≤ words_with v clauses lines
 few-lines-fit v clauses lines = omega (arith, few-lines lines)

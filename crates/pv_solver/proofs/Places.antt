@@ -16,32 +16,39 @@ place-from none k j [] lit le le_none = le_none
 place-from none k j (x ∷ xs) lit le le_none =
     elim (cases_Bool (eqb lit x)) [
       | inl here ↦ subst (λ (b : Bool). j ≤ cond b k (place_from none (k + 1) xs lit)) (sym here) le
-      | inr not_here ↦ subst (λ (b : Bool). j ≤ cond b k (place_from none (k + 1) xs lit)) (sym not_here) (place-from none (k + 1) j xs lit (omega arith) le_none)
+      | inr not_here ↦ subst (λ (b : Bool). j ≤ cond b k (place_from none (k + 1) xs lit)) (sym not_here)
+          (place-from none (k + 1) j xs lit (omega arith) le_none)
     ]
 
-pub place-below : (none k : ℕ) (xs : List ℕ) (lit s : ℕ) → k + length xs ≤ none → s ≤ length xs → ltb (place_from none k xs lit) (k + s) ≡ is_false (take s xs) lit
+pub place-below : (none k : ℕ) (xs : List ℕ) (lit s : ℕ) → k + length xs ≤ none → s ≤ length xs
+    → ltb (place_from none k xs lit) (k + s) ≡ is_false (take s xs) lit
 place-below none k [] lit zero fits le = le-ltb none (k + 0) (omega arith)
 place-below none k [] lit (suc s) fits le = absurd (omega arith)
-place-below none k (x ∷ xs) lit zero fits le = le-ltb (place_from none k (x ∷ xs) lit) (k + 0) (omega (arith, place-from none k k (x ∷ xs) lit (omega arith) (omega arith)))
+place-below none k (x ∷ xs) lit zero fits le = le-ltb (place_from none k (x ∷ xs) lit) (k + 0)
+    (omega (arith, place-from none k k (x ∷ xs) lit (omega arith) (omega arith)))
 place-below none k (x ∷ xs) lit (suc s) fits le =
     elim (cases_Bool (eqb lit x)) [
-      | inl here ↦ ap (λ (b : Bool). ltb (cond b k (place_from none (k + 1) xs lit)) (k + suc s)) here ∙ lt-ltb k (k + suc s) (omega arith) ∙ sym (or_left (eqb lit x) (is_false (take s xs) lit) here)
+      | inl here ↦ ap (λ (b : Bool). ltb (cond b k (place_from none (k + 1) xs lit)) (k + suc s)) here ∙ lt-ltb k (k + suc s) (omega arith)
+          ∙ sym (or_left (eqb lit x) (is_false (take s xs) lit) here)
       | inr not_here ↦ ap (λ (b : Bool). ltb (cond b k (place_from none (k + 1) xs lit)) (k + suc s)) not_here
           ∙ ap (ltb (place_from none (k + 1) xs lit)) (omega arith)
           ∙ place-below none (k + 1) xs lit s (omega arith) (omega arith)
           ∙ sym (ap (λ (b : Bool). b || is_false (take s xs) lit) not_here)
     ]
 
-pub place-push : (none k : ℕ) (xs : List ℕ) (x lit : ℕ) → place_from none k (xs ++ x ∷ []) lit ≡ cond (is_false xs lit) (place_from none k xs lit) (cond (eqb lit x) (k + length xs) none)
+pub place-push : (none k : ℕ) (xs : List ℕ) (x lit : ℕ) → place_from none k (xs ++ x ∷ []) lit ≡ cond (is_false xs lit)
+    (place_from none k xs lit) (cond (eqb lit x) (k + length xs) none)
 place-push none k [] x lit = ap (λ (n : ℕ). cond (eqb lit x) n none) (omega arith)
 place-push none k (y ∷ ys) x lit =
     elim (cases_Bool (eqb lit y)) [
       | inl here ↦ ap (λ (b : Bool). cond b k (place_from none (k + 1) (ys ++ x ∷ []) lit)) here
-          ∙ sym (ap (λ (b : Bool). cond (b || is_false ys lit) (cond b k (place_from none (k + 1) ys lit)) (cond (eqb lit x) (k + suc (length ys)) none)) here)
+          ∙ sym (ap (λ (b : Bool). cond (b || is_false ys lit) (cond b k (place_from none (k + 1) ys lit))
+          (cond (eqb lit x) (k + suc (length ys)) none)) here)
       | inr not_here ↦ ap (λ (b : Bool). cond b k (place_from none (k + 1) (ys ++ x ∷ []) lit)) not_here
           ∙ place-push none (k + 1) ys x lit
           ∙ ap (λ (n : ℕ). cond (is_false ys lit) (place_from none (k + 1) ys lit) (cond (eqb lit x) n none)) (omega arith)
-          ∙ sym (ap (λ (b : Bool). cond (b || is_false ys lit) (cond b k (place_from none (k + 1) ys lit)) (cond (eqb lit x) (k + suc (length ys)) none)) not_here)
+          ∙ sym (ap (λ (b : Bool). cond (b || is_false ys lit) (cond b k (place_from none (k + 1) ys lit))
+          (cond (eqb lit x) (k + suc (length ys)) none)) not_here)
     ]
 
 pub place-none : (none k : ℕ) (xs : List ℕ) (lit : ℕ) → is_false xs lit ≡ false → place_from none k xs lit ≡ none
@@ -67,7 +74,8 @@ pub Rise-push : (xs : List ℕ) (m n : ℕ) → Rise xs m → m < n → Rise (xs
 Rise-push [] m n r lt = (tt, lt, tt)
 Rise-push (x ∷ xs) m n r lt = (below-push x xs m r.0 r.1, omega (arith, r.1), Rise-push xs m n r.2 lt)
 
-below-front : (s : ℕ) (xs : List ℕ) (y : ℕ) → AllByRecursion (λ (t : ℕ). s < t) (xs ++ y ∷ []) → AllByRecursion (λ (t : ℕ). s < t) xs × (s < y)
+below-front : (s : ℕ) (xs : List ℕ) (y : ℕ) → AllByRecursion (λ (t : ℕ). s < t) (xs ++ y ∷ [])
+    → AllByRecursion (λ (t : ℕ). s < t) xs × (s < y)
 below-front s [] y a = (tt, a.0)
 below-front s (x ∷ xs) y a = (let rest = below-front s xs y a.1 in ((a.0, rest.0), rest.1))
 
@@ -90,12 +98,15 @@ or-false : (b : Bool) → (b || false) ≡ b
 or-false true = refl
 or-false false = refl
 
-kept-of : (falses : List ℕ) (l : ℕ) (b : Bool) → is_false falses l ≡ b → cond b (place_from no_place 0 falses l) no_place ≡ place_from no_place 0 falses l
+kept-of : (falses : List ℕ) (l : ℕ) (b : Bool) → is_false falses l ≡ b
+    → cond b (place_from no_place 0 falses l) no_place ≡ place_from no_place 0 falses l
 kept-of falses l true e = refl
 kept-of falses l false e = sym (place-none no_place 0 falses l e)
 
-kept : (falses : List ℕ) (l lit n : ℕ) → eqb l lit ≡ false → cond (is_false falses l) (place_from no_place 0 falses l) (cond (eqb l lit) n no_place) ≡ place_from no_place 0 falses l
-kept falses l lit n e = ap (λ (c : Bool). cond (is_false falses l) (place_from no_place 0 falses l) (cond c n no_place)) e ∙ kept-of falses l (is_false falses l) refl
+kept : (falses : List ℕ) (l lit n : ℕ) → eqb l lit ≡ false → cond (is_false falses l) (place_from no_place 0 falses l)
+    (cond (eqb l lit) n no_place) ≡ place_from no_place 0 falses l
+kept falses l lit n e = ap (λ (c : Bool). cond (is_false falses l) (place_from no_place 0 falses l) (cond c n no_place)) e
+    ∙ kept-of falses l (is_false falses l) refl
 
 module _ (v : ℕ) (places falses reasons starts : List ℕ) (a : Agree v places falses reasons starts) where
   pub few : length falses ≤ v
@@ -110,26 +121,30 @@ module _ (v : ℕ) (places falses reasons starts : List ℕ) (a : Agree v places
   module _ (lit : ℕ) (u : Unset v falses lit) where
     pub room : length falses < v
     room =
-        let longer = length-le-variables v (falses ++ lit ∷ []) (outside-push v falses lit a.inside u.inside) (double-push falses lit a.distinct u.not_false u.not_true) in
+        let longer = length-le-variables v (falses ++ lit ∷ []) (outside-push v falses lit a.inside u.inside)
+        (double-push falses lit a.distinct u.not_false u.not_true) in
         omega (arith, length_push falses lit)
 
     pub there : lit < 2 * v + 2
     there = (let b = inside-bounds v lit u.inside in omega arith)
 
-    pub Agree-push : (reason : ℕ) (next : List ℕ) → Rise next (length falses + 1) → Agree v (set places lit (length falses)) (falses ++ lit ∷ []) (set reasons (length falses) reason) next
+    pub Agree-push : (reason : ℕ) (next : List ℕ) → Rise next (length falses + 1)
+        → Agree v (set places lit (length falses)) (falses ++ lit ∷ []) (set reasons (length falses) reason) next
     Agree-push reason next rise =
         let lt : lit < length places = omega (arith, a.size, there) in
         record {
           size = length-set places lit (length falses) ∙ a.size;
           small = a.small;
           placed = λ l. elim (cases_eq l lit) [
-            | inl e ↦ subst (λ (m : ℕ). get_or (set places lit (length falses)) m no_place ≡ place_from no_place 0 (falses ++ lit ∷ []) m) (sym e)
+            | inl e ↦ subst (λ (m : ℕ). get_or (set places lit (length falses)) m no_place ≡ place_from no_place 0 (falses ++ lit ∷ []) m)
+                (sym e)
                 (get_or-set_same places lit (length falses) no_place lt
                 ∙ (let z : length falses ≡ 0 + length falses = omega arith in z)
                 ∙ sym (place-push no_place 0 falses lit lit
                 ∙ ap (λ (b : Bool). cond b (place_from no_place 0 falses lit) (cond (eqb lit lit) (0 + length falses) no_place)) u.not_false
                 ∙ ap (λ (b : Bool). cond b (0 + length falses) no_place) (eq-eqb lit lit refl)))
-            | inr ne ↦ get_or-set_other places lit l (length falses) no_place ne ∙ a.placed l ∙ sym (place-push no_place 0 falses lit l ∙ kept falses l lit (0 + length falses) (ne_eqb l lit ne))
+            | inr ne ↦ get_or-set_other places lit l (length falses) no_place ne ∙ a.placed l ∙ sym (place-push no_place 0 falses lit l
+                ∙ kept falses l lit (0 + length falses) (ne_eqb l lit ne))
           ];
           inside = outside-push v falses lit a.inside u.inside;
           distinct = double-push falses lit a.distinct u.not_false u.not_true;
@@ -137,7 +152,8 @@ module _ (v : ℕ) (places falses reasons starts : List ℕ) (a : Agree v places
           rise = subst (λ (n : ℕ). Rise next n) (sym (length_push falses lit)) rise;
         }
 
-pub Agree-pop : (v : ℕ) (places falses reasons starts : List ℕ) (lit : ℕ) → Agree v places (falses ++ lit ∷ []) reasons starts → Rise starts (length falses) → Agree v (set places lit no_place) falses reasons starts
+pub Agree-pop : (v : ℕ) (places falses reasons starts : List ℕ) (lit : ℕ) → Agree v places (falses ++ lit ∷ []) reasons starts
+    → Rise starts (length falses) → Agree v (set places lit no_place) falses reasons starts
 Agree-pop v places falses reasons starts lit a rise =
     let b = inside-bounds v lit (outside-last v falses lit a.inside) in
     let lt : lit < length places = omega (arith, a.size) in
@@ -174,7 +190,8 @@ Agree-new v lt = record {
 }
 
 -- other decisions
-pub Agree-starts : (v : ℕ) (places falses reasons starts next : List ℕ) → Agree v places falses reasons starts → Rise next (length falses) → Agree v places falses reasons next
+pub Agree-starts : (v : ℕ) (places falses reasons starts next : List ℕ) → Agree v places falses reasons starts → Rise next (length falses)
+    → Agree v places falses reasons next
 Agree-starts v places falses reasons starts next a rise = record {
   size = a.size;
   small = a.small;

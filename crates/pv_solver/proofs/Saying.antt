@@ -30,16 +30,20 @@ next-is Unsat line next e = absurd cc
 next-is SpentLemmas line next e = absurd cc
 next-is (SpentRegion need) line next e = cc
 
-pub region-next : (p : Problem) (found : Outcome) → SaysAll p found → (need : ℕ) → found.answer ≡ SpentRegion need → (next : Line) → next_as found.answer found.next ≡ Some next → HasSpentRegion p found.log next need
+pub region-next : (p : Problem) (found : Outcome) → SaysAll p found → (need : ℕ) → found.answer ≡ SpentRegion need → (next : Line)
+    → next_as found.answer found.next ≡ Some next → HasSpentRegion p found.log next need
 region-next p found says need e next is =
-    subst (λ (line : Line). HasSpentRegion p found.log line need) (next-is found.answer found.next next is) (says-region p found says need e)
+    subst (λ (line : Line). HasSpentRegion p found.log line need) (next-is found.answer found.next next
+    is) (says-region p found says need e)
 
 -- there is a value for each variable that has one
-value-for : (p : Problem) (lines : List Line) (values : List Bool) (next : Line) (a : Answer) (v : ℕ) → Says p lines values next a → 0 < v → v ≤ assigned_as p.variables a → v < length values
+value-for : (p : Problem) (lines : List Line) (values : List Bool) (next : Line) (a : Answer) (v : ℕ) → Says p lines values next a → 0 < v
+    → v ≤ assigned_as p.variables a → v < length values
 value-for p lines values next Sat v s low high = omega (arith, s.1)
 value-for p lines values next Unsat v s low high = absurd (omega arith)
 value-for p lines values next SpentLemmas v s low high = absurd (omega arith)
 value-for p lines values next (SpentRegion need) v s low high = absurd (omega arith)
 
-pub value-there : (p : Problem) (found : Outcome) (v : ℕ) → SaysAll p found → 0 < v → v ≤ assigned_as p.variables found.answer → v < length found.values.items
+pub value-there : (p : Problem) (found : Outcome) (v : ℕ) → SaysAll p found → 0 < v
+    → v ≤ assigned_as p.variables found.answer → v < length found.values.items
 value-there p found v s low high = value-for p found.log found.values.items found.next found.answer v s low high

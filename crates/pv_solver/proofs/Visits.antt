@@ -25,24 +25,28 @@ extends-on a b c f g = record {
   longer = omega (arith, f.longer, g.longer);
 }
 
-quiet-next : (F : List ℕ) (clauses : List (List ℕ)) (n : ℕ) (clause : List ℕ) → slice_get clauses n ≡ Some clause → AreQuiet F (take n clauses) → IsQuiet F clause → AreQuiet F (take (suc n) clauses)
+quiet-next : (F : List ℕ) (clauses : List (List ℕ)) (n : ℕ) (clause : List ℕ) → slice_get clauses n ≡ Some clause
+    → AreQuiet F (take n clauses) → IsQuiet F clause → AreQuiet F (take (suc n) clauses)
 quiet-next F [] n clause at a q = tt
 quiet-next F (c ∷ clauses) zero clause at a q = (let same : clause ≡ c = cc in subst (IsQuiet F) same q, tt)
 quiet-next F (c ∷ clauses) (suc n) clause at a q = (a.0, quiet-next F clauses n clause at a.1 q)
 
 -- a quiet clause changes nothing
-pub so-quiet : (clauses : List (List ℕ)) (n : ℕ) (clause : List ℕ) (first path : Path) (before : Pass) → slice_get clauses n ≡ Some clause → IsQuiet path.falses clause → SoFar clauses (take n clauses) first path before → SoFar clauses (take (n + 1) clauses) first path before
+pub so-quiet : (clauses : List (List ℕ)) (n : ℕ) (clause : List ℕ) (first path : Path) (before : Pass) → slice_get clauses n ≡ Some clause
+    → IsQuiet path.falses clause → SoFar clauses (take n clauses) first path before → SoFar clauses (take (n + 1) clauses) first path before
 so-quiet clauses n clause first path pass.Quiet at q s =
     let next : suc n ≡ n + 1 = omega arith in
     (s.0, subst (λ (k : ℕ). AreQuiet path.falses (take k clauses)) next (quiet-next path.falses clauses n clause at s.1 q))
 so-quiet clauses n clause first path pass.Changed at q s = s
 so-quiet clauses n clause first path (pass.Conflict m) at q s = s
 
-pub conflict-at : (clauses : List (List ℕ)) (falses : List ℕ) (n : ℕ) (clause : List ℕ) → slice_get clauses n ≡ Some clause → is_falsified falses clause ≡ true → IsConflict clauses falses (n + 1)
+pub conflict-at : (clauses : List (List ℕ)) (falses : List ℕ) (n : ℕ) (clause : List ℕ) → slice_get clauses n ≡ Some clause
+    → is_falsified falses clause ≡ true → IsConflict clauses falses (n + 1)
 conflict-at clauses falses n clause at is = record { clause = clause; at = named-at clauses (n + 1) n refl ∙ at; false_is = is }
 
 -- the literal of a unit clause has no value
-pub unset-of : (v : ℕ) (falses clause : List ℕ) (lit other : ℕ) → unit_of falses clause ≡ Some lit → has_outside v clause ≡ false → other ≡ complement lit → Unset v falses other
+pub unset-of : (v : ℕ) (falses clause : List ℕ) (lit other : ℕ) → unit_of falses clause ≡ Some lit → has_outside v clause ≡ false
+    → other ≡ complement lit → Unset v falses other
 unset-of v falses clause lit other unit inside is =
     let u = unit-is falses clause lit unit in
     let f = first-of v falses clause lit [] u.0 in
@@ -56,7 +60,8 @@ unset-of v falses clause lit other unit inside is =
 pub free-unset : (v : ℕ) (falses : List ℕ) (lit : ℕ) → IsFree v falses (lit / 2) → Unset v falses lit
 free-unset v falses lit f =
     let ne : lit / 2 ≡ 0 → ⊥ = λ e. omega (arith, f.from_one) in
-    let inside : is_outside v lit ≡ false = or_from (eqb (lit / 2) 0) (ltb v (lit / 2)) (ne_eqb (lit / 2) 0 ne) (le-ltb v (lit / 2) f.to_last) in
+    let inside : is_outside v lit ≡ false = or_from (eqb (lit / 2) 0) (ltb v (lit / 2))
+    (ne_eqb (lit / 2) 0 ne) (le-ltb v (lit / 2) f.to_last) in
     elim (cases_eq (lit % 2) 1) [
       | inl odd ↦ (let is : 2 * (lit / 2) + 1 ≡ lit = omega arith in let other : 2 * (lit / 2) ≡ complement lit = omega arith in record {
         inside = inside;
@@ -70,7 +75,8 @@ free-unset v falses lit f =
       })
     ]
 
-pub take-get : (clauses : List (List ℕ)) (n : ℕ) (clause : List ℕ) → slice_get clauses n ≡ Some clause → take (n + 1) clauses ≡ take n clauses ++ clause ∷ []
+pub take-get : (clauses : List (List ℕ)) (n : ℕ) (clause : List ℕ) → slice_get clauses n ≡ Some clause
+    → take (n + 1) clauses ≡ take n clauses ++ clause ∷ []
 take-get [] n clause at = absurd cc
 take-get (c ∷ clauses) zero clause at = (let same : c ≡ clause = cc in ap (λ (x : List ℕ). x ∷ []) same)
 take-get (c ∷ clauses) (suc n) clause at =
@@ -78,7 +84,9 @@ take-get (c ∷ clauses) (suc n) clause at =
     ap (λ (k : ℕ). take k (c ∷ clauses)) e ∙ ap (λ (xs : List (List ℕ)). c ∷ xs) (take-get clauses n clause at)
 
 -- one more value
-pub values-push : (items : List Bool) (falses : List ℕ) (n : ℕ) (b : Bool) → length items ≡ n → ((x : ℕ) → x < n → get_or items x false ≡ is_false falses (2 * x + 1)) → b ≡ is_false falses (2 * n + 1) → (x : ℕ) → x < n + 1 → get_or (items ++ b ∷ []) x false ≡ is_false falses (2 * x + 1)
+pub values-push : (items : List Bool) (falses : List ℕ) (n : ℕ) (b : Bool) → length items ≡ n
+    → ((x : ℕ) → x < n → get_or items x false ≡ is_false falses (2 * x + 1)) → b ≡ is_false falses (2 * n + 1) → (x : ℕ) → x < n + 1
+    → get_or (items ++ b ∷ []) x false ≡ is_false falses (2 * x + 1)
 values-push items falses n b size each here x lt =
     elim (cases_lt x n) [
       | inl below ↦ get_or_append_left items (b ∷ []) false x (omega arith) ∙ each x below

@@ -1,12 +1,12 @@
 -- What files hold decides a command's status, and the text that is taken.
 use Rattle.std.proofs.Common.{◌≡◌, ◌⊎◌, inl, inr, ℕ, List, Some, Result, Ok, Err, refl, ap, subst, arith}
 use Rattle.pv_edge.specs.Files.{FileMap}
-use Rattle.pv_replay.specs.declared.end.End.{End}
-use Rattle.pv_replay.specs.declared.end.End.TheVariants.{Kept, Broken}
+use Rattle.pv_first_replay.specs.declared.end.End.{End}
+use Rattle.pv_first_replay.specs.declared.end.End.TheVariants.{Kept, Broken}
 use Rattle.pv_recheck.specs.declared.fault.Kind.{Kind}
 use Rattle.pv_recheck.specs.declared.fault.RecheckFault.{RecheckFault}
 use Rattle.pv_recheck.specs.declared.fault.RecheckFault.TheVariants.{Unbuilt, TooManyGates, Fault, NoMemory}
-use Rattle.pv_case.specs.Cases.{CaseData}
+use Rattle.pv_first_case.specs.Cases.{CaseData}
 use Rattle.pv_top.specs.Projects.{Project}
 use Rattle.pv_top.specs.Inputs.{HoldsNoCase, ReadsNoProject}
 use Rattle.pv_top.specs.Texts.{status_of_end, form_line, replay_text}

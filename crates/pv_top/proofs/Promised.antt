@@ -4,8 +4,8 @@ use Rattle.std.specs.Prelude.{codes}
 use Rattle.pv_edge.specs.Faults.{HasRisen}
 use Rattle.pv_edge.specs.Files.{FileMap}
 use Rattle.pv_edge.specs.Sink.{Takes, TakesLess}
-use Rattle.pv_replay.specs.declared.end.End.{End}
-use Rattle.pv_replay.specs.declared.end.End.TheVariants.{Kept, Broken}
+use Rattle.pv_first_replay.specs.declared.end.End.{End}
+use Rattle.pv_first_replay.specs.declared.end.End.TheVariants.{Kept, Broken}
 use Rattle.pv_top.specs.declared.case.CaseStop.{CaseStop}
 use Rattle.pv_top.specs.declared.case.CaseStop.TheVariants as case_stop
 use Rattle.pv_top.specs.declared.source.SourceStop.{SourceStop}

@@ -10,13 +10,13 @@ use Rattle.pv_bool.specs.declared.program.Program.{Program}
 use Rattle.pv_bool.specs.Tree.{ProgramTree, IsProgram}
 use Rattle.pv_bool.specs.Programs.{program_tree}
 use Rattle.pv_bool.specs.Machine.{machine_of as program_machine}
-use Rattle.pv_mean.specs.Cells.{cells_of}
-use Rattle.pv_mean.specs.Sources.{Source, source_of}
-use Rattle.pv_mean.specs.Runs.{start}
-use Rattle.pv_mean.specs.FirstForm.{bit_of_cell, program_of}
-use Rattle.pv_pattern.specs.Patterns.{invariant}
-use Rattle.pv_pattern.specs.Sources.{machine_of, IsSatisfied}
-use Rattle.pv_pattern.proofs.ForCallers.{runs_from, same_step, lawful, alike}
+use Rattle.pv_first_mean.specs.Cells.{cells_of}
+use Rattle.pv_first_mean.specs.Sources.{Source, source_of}
+use Rattle.pv_first_mean.specs.Runs.{start}
+use Rattle.pv_first_mean.specs.FirstForm.{bit_of_cell, program_of}
+use Rattle.pv_first_pattern.specs.Patterns.{invariant}
+use Rattle.pv_first_pattern.specs.Sources.{machine_of, IsSatisfied}
+use Rattle.pv_first_pattern.proofs.ForCallers.{runs_from, same_step, lawful, alike}
 use Rattle.pv_recheck.specs.declared.fault.RecheckFault.{RecheckFault}
 use Rattle.pv_recheck.specs.declared.check.TheConstants.{MAX_STEP_GATES}
 use Rattle.pv_recheck.specs.Validity.{IsValid}

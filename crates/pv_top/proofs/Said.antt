@@ -2,21 +2,21 @@
 use Rattle.std.proofs.Common.{◌≡◌, ◌≢◌, inl, inr, ℕ, ℤ, List, [], ◌∷◌, length, get_or, Option, Some, None, Result, Ok, Err, string_bytes, refl, sym, ap, subst, ◌∙◌, arith}
 use Rattle.std.specs.Prelude.{codes}
 use Rattle.pv_edge.specs.Files.{FileMap}
-use Rattle.pv_mean.specs.Frames.{input_len}
-use Rattle.pv_mean.specs.Runs.{run}
-use Rattle.pv_mean.specs.FirstForm.{program_of}
-use Rattle.pv_pattern.specs.Patterns.{invariant}
+use Rattle.pv_first_mean.specs.Frames.{input_len}
+use Rattle.pv_first_mean.specs.Runs.{run}
+use Rattle.pv_first_mean.specs.FirstForm.{program_of}
+use Rattle.pv_first_pattern.specs.Patterns.{invariant}
 use Rattle.pv_cert.specs.Traces.{AreScans, scans_text, trace_text}
 use Rattle.pv_cert.proofs.ForCallers.{one_reading, behind_head}
-use Rattle.pv_replay.specs.declared.end.End.{End}
-use Rattle.pv_replay.specs.Ends.{IsEnd}
-use Rattle.pv_replay.proofs.ForCallers.{one_end}
+use Rattle.pv_first_replay.specs.declared.end.End.{End}
+use Rattle.pv_first_replay.specs.Ends.{IsEnd}
+use Rattle.pv_first_replay.proofs.ForCallers.{one_end}
 use Rattle.pv_recheck.specs.declared.fault.RecheckFault.{RecheckFault}
 use Rattle.pv_recheck.specs.declared.fault.RecheckFault.TheVariants.{Unbuilt, TooManyGates, Fault, NoMemory}
 use Rattle.pv_recheck.specs.declared.check.TheConstants.{MAX_STEP_GATES}
 use Rattle.pv_recheck.specs.Answers.{Answers, IsUnlessNoMemory}
 use Rattle.pv_recheck.proofs.ForCallers.{one_answer}
-use Rattle.pv_case.specs.Cases.{CaseData}
+use Rattle.pv_first_case.specs.Cases.{CaseData}
 use Rattle.pv_top.specs.declared.case.CaseStop.{CaseStop}
 use Rattle.pv_top.specs.declared.case.CaseStop.TheVariants as case_stop
 use Rattle.pv_top.specs.declared.source.SourceStop.{SourceStop}

@@ -12,15 +12,15 @@ use Rattle.pv_types.specs.declared.name.Name.{Name}
 use Rattle.pv_first.specs.Tree.{ExprTree, BlockTree}
 use Rattle.pv_first.specs.Names.{HasNames}
 use Rattle.pv_first.specs.FirstForm.{IsFirstForm, IsFirstExpr}
-use Rattle.pv_scl_parse.specs.declared.fault.ReadFault.{ReadFault}
-use Rattle.pv_scl_parse.specs.declared.fault.ReadFault.TheVariants.{NotOfForm}
-use Rattle.pv_scl_parse.specs.Reading.{ReadsBlock, ReadsExpression, ReadsName}
-use Rattle.pv_scl_parse.proofs.ForCallers.{block-unique, expression-unique, name-unique, block_of_first_form, expression_of_first_form}
+use Rattle.pv_first_parse.specs.declared.fault.ReadFault.{ReadFault}
+use Rattle.pv_first_parse.specs.declared.fault.ReadFault.TheVariants.{NotOfForm}
+use Rattle.pv_first_parse.specs.Reading.{ReadsBlock, ReadsExpression, ReadsName}
+use Rattle.pv_first_parse.proofs.ForCallers.{block-unique, expression-unique, name-unique, block_of_first_form, expression_of_first_form}
 use Rattle.pv_types.specs.declared.layout.TheConstants.{MAX_LEAVES}
 use Rattle.pv_first.specs.FirstForm.{IsFirstVar}
-use Rattle.pv_mean.specs.Cells.{cells_of}
-use Rattle.pv_mean.proofs.ForCallers.{as_many}
-use Rattle.pv_case.specs.Cases.{CaseData, IsCaseText}
+use Rattle.pv_first_mean.specs.Cells.{cells_of}
+use Rattle.pv_first_mean.proofs.ForCallers.{as_many}
+use Rattle.pv_first_case.specs.Cases.{CaseData, IsCaseText}
 use Rattle.pv_top.specs.Projects.{Project, IsProject}
 use Rattle.pv_top.specs.Inputs.{Holds, HoldsNoCase, HoldsNoProject, HoldsProject}
 

@@ -2,10 +2,10 @@
 use Rattle.std.proofs.Common.{◌≡◌, ℕ, List, Some, sym, subst, ◌∙◌, ap}
 use Rattle.pv_edge.specs.Files.{FileMap}
 use Rattle.pv_first.specs.Tree.{ExprTree, BlockTree}
-use Rattle.pv_scl_parse.specs.Reading.{ReadsBlock, ReadsExpression}
-use Rattle.pv_scl_parse.proofs.ForCallers.{block-unique, expression-unique}
-use Rattle.pv_case.specs.Cases.{CaseData, IsCaseText}
-use Rattle.pv_case.proofs.ForCallers.{one_case}
+use Rattle.pv_first_parse.specs.Reading.{ReadsBlock, ReadsExpression}
+use Rattle.pv_first_parse.proofs.ForCallers.{block-unique, expression-unique}
+use Rattle.pv_first_case.specs.Cases.{CaseData, IsCaseText}
+use Rattle.pv_first_case.proofs.ForCallers.{one_case}
 use Rattle.pv_top.specs.Projects.{Project, IsProject}
 use Rattle.pv_top.specs.Inputs.{HoldsCase, HoldsNoCase, HoldsProject, HoldsNoProject, Reads, ReadsNoProject}
 

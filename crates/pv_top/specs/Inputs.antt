@@ -3,7 +3,7 @@
 use Rattle.std.specs.Prelude.{◌≡◌, ◌≢◌, ◌≤◌, ℕ, List, Option, Some, IfSome, string_bytes}
 use Rattle.pv_edge.specs.Faults.{HasRisen}
 use Rattle.pv_edge.specs.Files.{FileMap}
-use Rattle.pv_case.specs.Cases.{CaseData, IsCaseText}
+use Rattle.pv_first_case.specs.Cases.{CaseData, IsCaseText}
 use Rattle.pv_top.specs.declared.read.ReadStop.{ReadStop}
 use Rattle.pv_top.specs.declared.read.ReadStop.TheVariants as read
 use Rattle.pv_top.specs.declared.case.CaseStop.{CaseStop}

@@ -3,9 +3,9 @@ use Rattle.std.specs.Prelude.{◌≡◌, ℕ, List}
 use Rattle.pv_types.specs.declared.name.Name.{Name}
 use Rattle.pv_first.specs.Tree.{ExprTree, BlockTree}
 use Rattle.pv_first.specs.Names.{HasNames}
-use Rattle.pv_scl_parse.specs.Reading.{ReadsBlock, ReadsExpression, ReadsName}
-use Rattle.pv_mean.specs.Sources.{Source, source_of}
-use Rattle.pv_case.specs.Cases.{CaseData}
+use Rattle.pv_first_parse.specs.Reading.{ReadsBlock, ReadsExpression, ReadsName}
+use Rattle.pv_first_mean.specs.Sources.{Source, source_of}
+use Rattle.pv_first_case.specs.Cases.{CaseData}
 
 pub record Project : Type 0 where
   pub case : CaseData

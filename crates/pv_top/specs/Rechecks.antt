@@ -2,17 +2,17 @@
 use Rattle.std.specs.Prelude.{◌≡◌, ◌↔◌, ◌⊎◌, ℕ, List, Option, Some, Result, Ok, Err, string_bytes}
 use Rattle.pv_edge.specs.Files.{FileMap}
 use Rattle.pv_first.specs.Tree.{ExprTree}
-use Rattle.pv_mean.specs.Sources.{Source}
-use Rattle.pv_mean.specs.FirstForm.{program_of}
-use Rattle.pv_pattern.specs.Patterns.{invariant}
-use Rattle.pv_pattern.specs.Sources.{IsSatisfied}
+use Rattle.pv_first_mean.specs.Sources.{Source}
+use Rattle.pv_first_mean.specs.FirstForm.{program_of}
+use Rattle.pv_first_pattern.specs.Patterns.{invariant}
+use Rattle.pv_first_pattern.specs.Sources.{IsSatisfied}
 use Rattle.pv_recheck.specs.declared.fault.Kind.{Kind}
 use Rattle.pv_recheck.specs.declared.fault.RecheckFault.{RecheckFault}
 use Rattle.pv_recheck.specs.declared.fault.RecheckFault.TheVariants.{Unbuilt, TooManyGates, Fault}
 use Rattle.pv_recheck.specs.declared.check.TheConstants.{MAX_STEP_GATES}
 use Rattle.pv_recheck.specs.Validity.{IsValid}
 use Rattle.pv_recheck.specs.Answers.{Answers, HasTooManyGates}
-use Rattle.pv_case.specs.Cases.{CaseData}
+use Rattle.pv_first_case.specs.Cases.{CaseData}
 use Rattle.pv_top.specs.declared.recheck.CertificateStop.{CertificateStop}
 use Rattle.pv_top.specs.declared.recheck.CertificateStop.TheVariants as certificate_stop
 use Rattle.pv_top.specs.declared.recheck.RecheckStop.{RecheckStop}

@@ -2,15 +2,15 @@
 use Rattle.std.specs.Prelude.{◌≡◌, ◌↔◌, ℕ, ℤ, [], List, Option, Some, Result, Ok, Err, string_bytes}
 use Rattle.pv_edge.specs.Files.{FileMap}
 use Rattle.pv_first.specs.Tree.{ExprTree}
-use Rattle.pv_mean.specs.Frames.{input_len}
-use Rattle.pv_mean.specs.Sources.{Source}
-use Rattle.pv_mean.specs.Runs.{run}
-use Rattle.pv_pattern.specs.Patterns.{invariant}
+use Rattle.pv_first_mean.specs.Frames.{input_len}
+use Rattle.pv_first_mean.specs.Sources.{Source}
+use Rattle.pv_first_mean.specs.Runs.{run}
+use Rattle.pv_first_pattern.specs.Patterns.{invariant}
 use Rattle.pv_cert.specs.Traces.{AreScans, trace_text}
-use Rattle.pv_replay.specs.declared.end.End.{End}
-use Rattle.pv_replay.specs.declared.end.End.TheVariants.{Kept, Broken}
-use Rattle.pv_replay.specs.Ends.{IsEnd}
-use Rattle.pv_case.specs.Cases.{CaseData}
+use Rattle.pv_first_replay.specs.declared.end.End.{End}
+use Rattle.pv_first_replay.specs.declared.end.End.TheVariants.{Kept, Broken}
+use Rattle.pv_first_replay.specs.Ends.{IsEnd}
+use Rattle.pv_first_case.specs.Cases.{CaseData}
 use Rattle.pv_top.specs.declared.replay.TraceStop.{TraceStop}
 use Rattle.pv_top.specs.declared.replay.TraceStop.TheVariants as trace_stop
 use Rattle.pv_top.specs.declared.replay.ReplayStop.{ReplayStop}

@@ -1,8 +1,8 @@
 -- What the program prints, and the status that it ends with, by what a command came to.
 use Rattle.std.specs.Prelude.{◌++◌, ℕ, List, codes, string_bytes, Option, Some, None, Result, Ok, Err}
 use Rattle.std.specs.Fmt.{decimal}
-use Rattle.pv_replay.specs.declared.end.End.{End}
-use Rattle.pv_replay.specs.declared.end.End.TheVariants.{Kept, Broken}
+use Rattle.pv_first_replay.specs.declared.end.End.{End}
+use Rattle.pv_first_replay.specs.declared.end.End.TheVariants.{Kept, Broken}
 use Rattle.pv_recheck.specs.declared.fault.Kind.{Kind}
 use Rattle.pv_recheck.specs.Kinds.{kind_word}
 use Rattle.pv_top.specs.declared.read.ReadStop.{ReadStop}

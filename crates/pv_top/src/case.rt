@@ -1,14 +1,14 @@
 //! The first stage of a command: its case.
 ghost use Rattle.std.specs.Prelude.{◌≡◌, Some, IfOk, IfErr, MatchResult, string_bytes};
-ghost use Rattle.pv_case.specs.Cases.{data_of};
+ghost use Rattle.pv_first_case.specs.Cases.{data_of};
 ghost use Rattle.pv_top.specs.Inputs.{HoldsCase, StopsCase, Counts};
 ghost use Rattle.pv_top.specs.Texts.{status_of_read, status_of_case, text_of_case};
 ghost use Rattle.pv_top.specs.declared.case.CaseStop.TheVariants.{NoMemory};
 
 use crate::outcome::{NO_MEMORY, READ_FAULT, Status, form_line, read_line};
 use crate::read::{ReadStop, read};
-use pv_case::{Case, CaseFault};
 use pv_edge::Files;
+use pv_first_case::{Case, CaseFault};
 use std::alloc::{AllocError, Global};
 use thiserror::Error;
 
@@ -81,7 +81,7 @@ pub fn case_in<F: Files>(alloc: Global, files: &mut F, file: &str) -> Result<Cas
     ensures writes { F.write_faults files.new ≡ F.write_faults files.old }
 {
     let bytes = read(alloc, files, file)?;
-    match pv_case::read(alloc, &bytes) {
+    match pv_first_case::read(alloc, &bytes) {
         Ok(case) => Ok(case),
         Err(CaseFault::NotOfForm) => {
             let file = String::from_str(alloc, file)?;

@@ -3,14 +3,14 @@ ghost use Rattle.std.specs.Prelude.{◌≡◌, ◌≤◌, length, Some, IfOk, If
 ghost use Rattle.pv_first.specs.Tree.{block_tree, expr_tree};
 ghost use Rattle.pv_first.specs.Names.{HasNames};
 ghost use Rattle.pv_first.specs.FirstForm.{IsFirstForm, IsFirstExpr};
-ghost use Rattle.pv_mean.specs.Cells.{cells_of};
-ghost use Rattle.pv_mean.specs.Sources.{source_of};
+ghost use Rattle.pv_first_mean.specs.Cells.{cells_of};
+ghost use Rattle.pv_first_mean.specs.Sources.{source_of};
 ghost use Rattle.pv_top.specs.Inputs.{Counts};
 ghost use Rattle.pv_top.specs.Replays.{HoldsTrace, StopsTrace, SaysReplay};
 ghost use Rattle.pv_top.specs.Texts.{status_of_end, status_of_trace, status_of_replay, status_of_replay_stop, text_of_trace, text_of_replay_stop, replay_text};
 ghost use Rattle.pv_top.specs.declared.replay.TraceStop.TheVariants.{NoMemory};
 ghost use Rattle.pv_top.specs.declared.replay.ReplayStop.TheVariants.{Case as AtCase, Source as AtSource, Trace as AtTrace};
-ghost use Rattle.pv_replay.specs.declared.end.End.TheVariants.{Kept, Broken};
+ghost use Rattle.pv_first_replay.specs.declared.end.End.TheVariants.{Kept, Broken};
 
 use crate::case::{CaseStop, case_in};
 use crate::outcome::{NO_MEMORY, READ_FAULT, Status, form_line, read_line};
@@ -18,7 +18,7 @@ use crate::read::{ReadStop, read};
 use crate::source::{SourceStop, project_in};
 use pv_edge::Files;
 use pv_first::{Block, Expr};
-use pv_replay::{End, ReplayFault, replay_block};
+use pv_first_replay::{End, ReplayFault, replay_block};
 use pv_types::MAX_LEAVES;
 use std::alloc::{AllocError, Global};
 use thiserror::Error;

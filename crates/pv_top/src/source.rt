@@ -2,8 +2,8 @@
 ghost use Rattle.std.specs.Prelude.{◌≡◌, ◌↔◌, IsTrue, Some, IfOk, IfErr, MatchResult, string_bytes};
 ghost use Rattle.pv_first.specs.Tree.{block_tree, expr_tree};
 ghost use Rattle.pv_first.specs.Names.{HasNames};
-ghost use Rattle.pv_scl_parse.specs.declared.fault.ReadFault.TheVariants.{NotOfForm};
-ghost use Rattle.pv_case.specs.Cases.{data_of};
+ghost use Rattle.pv_first_parse.specs.declared.fault.ReadFault.TheVariants.{NotOfForm};
+ghost use Rattle.pv_first_case.specs.Cases.{data_of};
 ghost use Rattle.pv_top.specs.Projects.{Project, IsProject};
 ghost use Rattle.pv_top.specs.Inputs.{HoldsProject, StopsSource, Counts};
 ghost use Rattle.pv_top.specs.Texts.{status_of_source, text_of_source};
@@ -11,11 +11,11 @@ ghost use Rattle.pv_top.specs.declared.source.SourceStop.TheVariants.{NoMemory};
 
 use crate::outcome::{NO_MEMORY, READ_FAULT, Status, form_line, read_line};
 use crate::read::{ReadStop, read};
-use pv_case::Case;
 use pv_edge::Files;
 use pv_first::{Block, Expr};
-use pv_rules::{NameFault, scope_of};
-use pv_scl_parse::{ReadFault, read_block, read_expression, read_name};
+use pv_first_case::Case;
+use pv_first_parse::{ReadFault, read_block, read_expression, read_name};
+use pv_first_rules::{NameFault, scope_of};
 use std::alloc::{AllocError, Global};
 use thiserror::Error;
 

@@ -4,12 +4,18 @@ pub use Rattle.pv_tree.proofs.Firsts.{first-append, first-one, first-joined, fir
 -- parts begin along the tokens
 pub use Rattle.pv_tree.proofs.Orders.{along_both, along-expr, along-operand, along-call, along-stmts}
 pub use Rattle.pv_tree.proofs.Types.{along-type, along-vars}
+pub use Rattle.pv_tree.proofs.BlockOrders.{along-instrs, along-kind, along-blocks}
 -- nesting from below and from above
 pub use Rattle.pv_tree.proofs.Levels.{Agrees, agrees_none, agrees_both, agrees_part, agrees-expr, agrees-operand, agrees-args, agrees-stmts}
 pub use Rattle.pv_tree.proofs.Types.{agrees-type, agrees-vars}
+pub use Rattle.pv_tree.proofs.BlockLevels.{agrees-body, agrees-kind, agrees-blocks}
 -- none outside, or a first one
 pub use Rattle.pv_tree.proofs.Outsides.{outside-some, outside-apart, outside-one}
 -- shallow, or with a deepest place
 pub use Rattle.pv_tree.proofs.Deepest.{has_above_of, deepest-some, deepest-apart, deepest-one}
 -- a fault of syntax stands at one token
 pub use Rattle.pv_tree.proofs.Faults.{fault-one}
+-- the least breach: one, and where there is none nothing is broken
+pub use Rattle.pv_tree.proofs.Leasts.{least-one, none-least}
+-- named types as declarations are laid out over them
+pub use Rattle.pv_tree.proofs.NamedTypes.{type_contained, type_looked_up, types_nest}

@@ -39,7 +39,7 @@ wider_left n a b m i = record { from = i.from; to = omega (arith, i.to, le-max_l
 wider_right : (n a b m : ℕ) → IsAmong n b m → IsAmong n (max a b) m
 wider_right n a b m i = record { from = i.from; to = omega (arith, i.to, le-max_right a b) }
 
-max_cases : (a b : ℕ) → (max a b ≡ a) ⊎ (max a b ≡ b)
+pub max_cases : (a b : ℕ) → (max a b ≡ a) ⊎ (max a b ≡ b)
 max_cases a b = elim (cases_lt a b) [ inl p ↦ inr (max-eq_right (omega (arith, p))) | inr q ↦ inl (max-eq_left q) ]
 
 among_cases : (n a b m : ℕ) → IsAmong n (max a b) m → IsAmong n a m ⊎ IsAmong n b m

@@ -1,10 +1,13 @@
 mod KeptRules
+pub mod NamedTypes
 mod ToldCalls
 pub mod ForCallers
 pub mod Firsts
 pub mod Orders
 pub mod Levels
 pub mod Types
+mod BlockOrders
+mod BlockLevels
 mod PartTypes
 mod ToldThings
 mod NoneBroken
@@ -15,6 +18,7 @@ mod TypedProjects
 mod TypedPatterns
 pub mod Outsides
 pub mod Deepest
+pub mod Leasts
 pub mod Faults
 mod Examples
 mod Sample

@@ -106,7 +106,7 @@ along-arg-list n (arg ∷ args) ts d =
     (along_joined d.back d.behind (parts n arg.value) (parts_of_args n args) (along-arg n arg d.behind.front d.behind.in_front)
     (along-arg-list n args d.behind.back d.behind.behind))
 
-along-listed : (n : ℕ) (arg : ArgTree) (args : List ArgTree) (ts : List Lexeme) → listed SpellsArg (arg ∷ args) ts
+pub along-listed : (n : ℕ) (arg : ArgTree) (args : List ArgTree) (ts : List Lexeme) → listed SpellsArg (arg ∷ args) ts
     → Along ts (parts n arg.value ++ parts_of_args n args)
 along-listed n arg args ts d =
     along_joined ts d (parts n arg.value) (parts_of_args n args) (along-arg n arg d.front d.in_front)

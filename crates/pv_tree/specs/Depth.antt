@@ -16,7 +16,7 @@ use Rattle.pv_tree.specs.Lexemes.{Lexeme}
 use Rattle.pv_tree.specs.Declarations.{SpellsType, SpellsVars, SpellsSection, SpellsSections, no_sections, sections}
 use Rattle.pv_tree.specs.Blocks.{SpellsOwnFields, SpellsDataType, SpellsKind, SpellsBlocks}
 use Rattle.pv_tree.specs.Order.{HasAbove, HasPart}
-use Rattle.pv_tree.specs.Nesting.{Part, part, parts_of_body, most_levels}
+use Rattle.pv_tree.specs.Nesting.{Part, part, levels_of_body, parts_of_body, most_levels}
 
 -- ---- types, from below
 
@@ -32,6 +32,25 @@ abbrev mutual
   levels_of_vars no_vars = 0
   levels_of_vars (_then_ (var name its ty start place) others) = max (levels_of_type ty)
       (levels_of_vars others)
+
+-- ---- blocks, from below
+
+-- the levels of a declared type; the type of a constant isn't written
+abbrev pub levels_of_written : Section → TypeTree → ℕ
+levels_of_written section.Const ty = 0
+levels_of_written around ty = levels_of_type ty
+
+abbrev pub levels_of_declared : List VarTree → ℕ
+levels_of_declared [] = 0
+levels_of_declared (var name its ty start place ∷ others) = max (levels_of_written its ty)
+    (levels_of_declared others)
+
+abbrev pub levels_of_block : BlockTree → ℕ
+levels_of_block block = max (levels_of_declared block.vars) (levels_of_body block.body)
+
+abbrev pub levels_of_blocks : List BlockTree → ℕ
+levels_of_blocks [] = 0
+levels_of_blocks (block ∷ others) = max (levels_of_block block) (levels_of_blocks others)
 
 -- ---- types, from above: a type that several variables share is one part
 

@@ -11,6 +11,8 @@ pub mod Parts
 pub mod Interfaces
 pub mod Fits
 pub mod Rules
+pub mod NamedTypes
+pub mod Least
 pub mod Projects
 pub mod RuleLaws
 pub mod Lexemes

@@ -106,6 +106,30 @@ abbrev mutual
   levels_of_else no_else = 0
   levels_of_else (else_ body) = levels_of_stmts body
 
+-- bodies: an instruction and a value of a data block are no level
+abbrev pub levels_of_variable : Option OperandTree → ℕ
+levels_of_variable None = 0
+levels_of_variable (Some variable) = levels_of_operand variable
+
+abbrev pub levels_of_call : Option CallPlain → ℕ
+levels_of_call None = 0
+levels_of_call (Some call) = levels_of_args call.args
+
+abbrev pub levels_of_instrs : List InstrTree → ℕ
+levels_of_instrs [] = 0
+levels_of_instrs (instr ∷ others) =
+    max (max (levels_of_variable instr.operand) (levels_of_call instr.call))
+    (levels_of_instrs others)
+
+abbrev pub levels_of_starts : List StartTree → ℕ
+levels_of_starts [] = 0
+levels_of_starts (start ∷ others) = max (levels_of_operand start.0) (levels_of_starts others)
+
+abbrev pub levels_of_body : BodyTree → ℕ
+levels_of_body (scl statements) = levels_of_stmts statements
+levels_of_body (stl instrs) = levels_of_instrs instrs
+levels_of_body (starts values) = levels_of_starts values
+
 -- ---- from above: the parts of a tree, in the order of the text
 
 -- a part: how many parts are around it, and the place of its first token

@@ -37,8 +37,10 @@ pub record ReadAsName (name : Name) (place : Place) (tokens : List Lexeme) : Typ
   pub spelled : SpellsName name place tokens
   pub free : IsFree name
 
--- the tokens up to this one, and it, begin nothing that a tree reads from, while those before it
--- do, or the tree ends before all tokens do. `Reads` says what a tree reads from
+-- `Reads` says from which lists of tokens a tree reads. From `inner` none does, and the fault stands
+-- at the token with this number, counted from 0: the tokens before it begin some list from which a
+-- tree reads, but with it they begin none. Where all tokens together begin such a list, the fault
+-- stands behind the last of them, at the end of the text
 pub record IsSyntaxFault {Tree : Type 0} (Reads : Tree → List Lexeme → Type 0) (inner : List Lexeme)
     (at : ℕ)
     : Type 0 where
@@ -84,8 +86,8 @@ pub record IsTooDeepExpression (tokens : List Lexeme) (place : Place) : Type 0 w
   pub read : ReadAsExpression expression inner
   pub deepest : IsDeepest (parts 0 expression) place
 
--- a text with no word outside the profile from which no tree reads, and the place of the first
--- token, the end among them, up to and with which no tree's spelling begins
+-- a text without a word outside the profile, from which no tree reads, and the place of the token at
+-- which the fault stands; behind all other tokens that is the one that ends the text
 pub record IsSyntaxFaultAt {Tree : Type 0} (Reads : Tree → List Lexeme → Type 0)
     (language : Language) (tokens : List Lexeme) (place : Place) : Type 0 where
   pub inner : List Lexeme

@@ -1,11 +1,13 @@
 -- What follows of the rules for a project that keeps them.
-use Rattle.std.specs.Prelude.{◌≢◌, is_some, None, Contains, IsTrue, ⊤}
+use Rattle.std.specs.Prelude.{◌≢◌, length, is_some, None, Contains, IsTrue, ⊤}
 use Rattle.std.specs.List.{AllByRecursion}
 use Rattle.pv_machine.specs.declared.place.Place.{Place}
+use Rattle.pv_types.specs.Named.{NestsWithin, AreGrounded}
 use Rattle.pv_tree.specs.Tree.{PlacedName, ExprTree, BlockTree}
 use Rattle.pv_tree.specs.LiteralTypes.{Want, nothing}
 use Rattle.pv_tree.specs.Sorts.{taken, own_type}
 use Rattle.pv_tree.specs.Scopes.{ProjectTree, Scope, type_named}
+use Rattle.pv_tree.specs.NamedTypes.{types_of_project}
 use Rattle.pv_tree.specs.Types.{sort_of, type_of, is_index_type, lies_in}
 use Rattle.pv_tree.specs.Callees.{CallSite, Callee, runs, not_declared, not_callable, unknown, callee_of}
 use Rattle.pv_tree.specs.Parts.{Part, parts_of, parts_of_block, Path, IndexAt, paths_of, indexes_of, calls_of}
@@ -19,6 +21,15 @@ pub record TypesAreGrounded (project : ProjectTree) : Type 0 where
       (named_types block) name → type_named project name.0.key ≢ None
   pub ends : (block : BlockTree) (name : PlacedName) → Contains project.blocks block → Contains
       (named_types block) name → Holds project name.0.key name.0.key → ⊥
+
+-- so declarations can be laid out: the types that a block's declarations name are there, and no more of them stand inside each
+-- other than there are, nor in the type that a data block is of
+pub record TypesNest (project : ProjectTree) : Type 0 where
+  pub vars : (block : BlockTree) → Contains project.blocks block → AreGrounded
+      (types_of_project project) block.vars
+  pub named : (block : BlockTree) (name : PlacedName) → Contains project.blocks block → Contains
+      (named_types block) name
+      → NestsWithin (types_of_project project) (length (types_of_project project)) name.0.key
 
 -- each call runs a block
 abbrev pub RunsOne : Callee → Type 0

@@ -87,8 +87,9 @@ statement_words =
     codes "EXIT" ∷ codes "CONTINUE" ∷ codes "RETURN" ∷ codes "AND" ∷ codes "OR" ∷ codes "XOR" ∷
     codes "NOT" ∷ codes "MOD" ∷ codes "DIV" ∷ codes "NETWORK" ∷ codes "CALL" ∷ codes "UC" ∷ []
 
--- a word of the grammar or a function's, in any letter case; the instructions' words are not among
--- them
+-- a text that is no name, in any letter case: a word that the grammar of SCL or of STL writes out, or
+-- the word of a standard function. The words of STL's instructions are names like others, as L and
+-- SET, but for the four that are in the lists above: NOT, MOD, CALL and UC
 unfoldable pub is_reserved : List ℕ → Bool
 is_reserved text =
     is_one_of block_words text || is_one_of statement_words text || is_one_of function_words text

@@ -3,15 +3,16 @@ ghost use Rattle.std.specs.Prelude.{◌≡◌, ◌⊎◌, ◌↔◌, ℕ, List, 
 ghost use Rattle.pv_types.specs.declared.declaration.Section.{Section};
 ghost use Rattle.pv_types.specs.Tree.{VarTrees};
 ghost use Rattle.pv_lex.specs.declared.token.Language.{Language};
-ghost use Rattle.pv_tree.specs.Tree.{ExprTree, OperandTree, CallPlain, StmtTree, StmtTrees};
+ghost use Rattle.pv_tree.specs.Tree.{ExprTree, OperandTree, CallPlain, StmtTree, StmtTrees, BlockTree};
 ghost use Rattle.pv_tree.specs.Lexemes.{Lexeme, first_place, ◌⨾◌};
 ghost use Rattle.pv_tree.specs.Expressions.{SpellsExpr, SpellsOperand};
 ghost use Rattle.pv_tree.specs.Calls.{SpellsCall};
 ghost use Rattle.pv_tree.specs.Statements.{SpellsStmt, SpellsEnd, SpellsStmts};
 ghost use Rattle.pv_tree.specs.Declarations.{SpellsVars};
+ghost use Rattle.pv_tree.specs.Blocks.{SpellsBlock, SpellsBlocks};
 ghost use Rattle.pv_machine.specs.declared.place.Place.{Place};
 ghost use Rattle.pv_tree.specs.Nesting.{Part, first_of, first_of_operand, first_of_stmt, levels, levels_of_stmts, parts, parts_of_stmts};
-ghost use Rattle.pv_tree.specs.Depth.{levels_of_vars, parts_of_vars, IsShallow, IsDeepest};
+ghost use Rattle.pv_tree.specs.Depth.{levels_of_vars, levels_of_block, levels_of_blocks, parts_of_vars, parts_of_kind, parts_of_blocks, IsShallow, IsDeepest};
 ghost use Rattle.pv_tree.specs.Order.{Along, HasAbove, IsAmong};
 ghost use Rattle.pv_tree.specs.Reading.{IsSyntaxFault, ReadAsBlocks, ReadAsExpression};
 ghost use Rattle.pv_tree.specs.Outside.{IsFirstOutside, IsWithin};
@@ -40,6 +41,12 @@ pub fn parts_keep_the_order_of_tokens()
     ensures declarations { (n : ℕ) (around : Section) (vars : VarTrees) (tokens : List Lexeme)
         (spelled : SpellsVars around vars tokens)
         → Along tokens (parts_of_vars n around vars tokens spelled) }
+    ensures block { (language : Language) (block : BlockTree) (tokens : List Lexeme)
+        (spelled : SpellsBlock language block tokens)
+        → Along tokens (parts_of_kind language block.kind block tokens spelled) }
+    ensures source { (language : Language) (blocks : List BlockTree) (tokens : List Lexeme)
+        (spelled : SpellsBlocks language blocks tokens)
+        → Along tokens (parts_of_blocks language blocks tokens spelled) }
 {}
 
 /// A law: nesting by levels from below and by parts from above agree. Some part of a tree with n
@@ -54,6 +61,14 @@ pub fn levels_and_parts_agree()
         (spelled : SpellsVars around vars tokens)
         → HasAbove (parts_of_vars n around vars tokens spelled) m
         ↔ IsAmong n (levels_of_vars vars) m }
+    ensures block { (m : ℕ) (language : Language) (block : BlockTree) (tokens : List Lexeme)
+        (spelled : SpellsBlock language block tokens)
+        → HasAbove (parts_of_kind language block.kind block tokens spelled) m
+        ↔ IsAmong 0 (levels_of_block block) m }
+    ensures source { (m : ℕ) (language : Language) (blocks : List BlockTree)
+        (tokens : List Lexeme) (spelled : SpellsBlocks language blocks tokens)
+        → HasAbove (parts_of_blocks language blocks tokens spelled) m
+        ↔ IsAmong 0 (levels_of_blocks blocks) m }
 {}
 
 /// A law: a fault of syntax of a source or of an expression stands at one token.

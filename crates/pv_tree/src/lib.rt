@@ -25,7 +25,8 @@ pub use laws::{
 };
 pub use making::project;
 pub use rule_laws::{
-    calls_run_blocks, chains_of_calls_end, expressions_have_types, literal_indexes_lie_in_bounds,
-    named_types_are_grounded, parts_of_typed_expressions_have_types, patterns_have_types,
+    calls_run_blocks, chains_of_calls_end, expressions_have_types, least_fault_is_one,
+    literal_indexes_lie_in_bounds, named_types_are_grounded, parts_of_typed_expressions_have_types,
+    patterns_have_types,
 };
 pub use stmt::{Arg, CallTree, Choice, Stmt};

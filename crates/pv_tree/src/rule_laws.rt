@@ -1,11 +1,16 @@
 //! What follows of the rules, each the contract of a function that does nothing.
+ghost use Rattle.std.specs.Prelude.{◌≡◌, ◌↔◌};
+ghost use Rattle.pv_machine.specs.declared.place.Place.{Place};
 ghost use Rattle.pv_tree.specs.Scopes.{ProjectTree};
-ghost use Rattle.pv_tree.specs.Rules.{KeepsRules};
-ghost use Rattle.pv_tree.specs.RuleLaws.{TypesAreGrounded, CallsRun, CallsAreBounded, IndexesLie, PartsHaveTypes, EachHasType, PatternsHaveTypes};
+ghost use Rattle.pv_tree.specs.Rules.{KeepsRules, Rule};
+ghost use Rattle.pv_tree.specs.Least.{IsLeastFault};
+ghost use Rattle.pv_tree.specs.RuleLaws.{TypesAreGrounded, TypesNest, CallsRun, CallsAreBounded, IndexesLie, PartsHaveTypes, EachHasType, PatternsHaveTypes};
 
-/// Each type that is named is there, and none contains itself.
+/// Each type that is named is there, and none contains itself; so they nest within as many types as there are.
 pub fn named_types_are_grounded()
-    ensures { (project : ProjectTree) → KeepsRules project → TypesAreGrounded project }
+    ensures grounded { (project : ProjectTree)
+        → KeepsRules project → TypesAreGrounded project }
+    ensures nest { (project : ProjectTree) → KeepsRules project → TypesNest project }
 {}
 
 /// Each call runs a block that is there.
@@ -36,4 +41,13 @@ pub fn expressions_have_types()
 /// A pattern's expression that breaks no rule, over a block of a project that keeps them, has a type.
 pub fn patterns_have_types()
     ensures { (project : ProjectTree) → KeepsRules project → PatternsHaveTypes project }
+{}
+
+/// A project has at most one least fault, and it has none exactly where it keeps the rules.
+pub fn least_fault_is_one()
+    ensures one { (project : ProjectTree) (rule other : Rule) (at place : Place)
+        → IsLeastFault project rule at → IsLeastFault project other place
+        → (rule ≡ other) × (at ≡ place) }
+    ensures none { (project : ProjectTree)
+        → ((rule : Rule) (at : Place) → IsLeastFault project rule at → ⊥) ↔ KeepsRules project }
 {}

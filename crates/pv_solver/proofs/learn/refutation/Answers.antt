@@ -15,5 +15,6 @@ returns-clause-last c =
     three (λ (line : Line). line.id ≡ c.count-id.result + 1) (λ (line : Line). line.lits ≡ take 0 path.falses)
     (λ (line : Line). line.hints ≡ take (length path.falses - 0) (drop 0 path.reasons) ++ c.args.conflict ∷ [])
     (IsLast c.args.known.now.variables clauses) c.whole.result c.whole.ensures.id c.whole.ensures.lits c.whole.ensures.hints
-    (λ line id lits hints. whole-last c.args.known.now.variables clauses path c.args.conflict line c.requires.sound c.requires.conflict c.requires.undecided
+    (λ line id lits hints. whole-last c.args.known.now.variables clauses path c.args.conflict line c.requires.sound
+    c.requires.conflict c.requires.undecided
     c.whole.ensures.reasons inside c.whole.ensures.distinct (id ∙ ap (λ (n : ℕ). n + 1) c.count-id.ensures.count) lits hints)

@@ -16,7 +16,9 @@ pub is_false_at-requires-in-Some-left-clause-inside : goal.is_false_at-requires-
 is_false_at-requires-in-Some-left-clause-inside c =
     let f = take c.args.upto c.args.trail.now.falses in
     let left : left_of (take c.args.upto c.args.trail.now.falses) c.args.clause.now ≡ c.in-Some-left.lit ∷ [] =
-    ap (left_of (take c.args.upto c.args.trail.now.falses)) (sym (take_all c.loop-lit.lit-index c.args.clause.now c.loop-lit-test.false)) ∙ sym c.loop-lit.invariant ∙ ap option_to_list c.in-Some-left.is in
+    ap (left_of (take c.args.upto c.args.trail.now.falses)) (sym (take_all c.loop-lit.lit-index c.args.clause.now c.loop-lit-test.false))
+    ∙ sym c.loop-lit.invariant ∙ ap option_to_list c.in-Some-left.is in
     let first = first-of c.args.trail.now.variables f c.args.clause.now c.in-Some-left.lit [] left in
-    let b = inside-bounds c.args.trail.now.variables (complement c.in-Some-left.lit) (complement-inside c.args.trail.now.variables c.in-Some-left.lit (first.inside c.requires.inside)) in
+    let b = inside-bounds c.args.trail.now.variables (complement c.in-Some-left.lit) (complement-inside c.args.trail.now.variables
+    c.in-Some-left.lit (first.inside c.requires.inside)) in
     omega (arith, c.flip.ensures.complement)

@@ -14,21 +14,24 @@ imply-requires-clause-inside c =
     let whole = take_all c.len.result c.args.trail.now.falses (omega (arith, c.len.ensures.len)) in
     let unit = subst (λ (f : List ℕ). unit_of f c.clause.result.now ≡ Some c.in-Unit.lit) whole c.in-Unit.ensures in
     let inside = subst (λ (v : ℕ). has_outside v c.clause.result.now ≡ false) c.requires.variables c.clause.ensures.valid.inside in
-    (unset-of c.args.trail.now.variables c.args.trail.now.falses c.clause.result.now c.in-Unit.lit c.flip.result unit inside c.flip.ensures.complement).inside
+    (unset-of c.args.trail.now.variables c.args.trail.now.falses c.clause.result.now c.in-Unit.lit c.flip.result unit
+    inside c.flip.ensures.complement).inside
 
 pub imply-requires-clause-not_false : goal.imply-requires-clause-not_false
 imply-requires-clause-not_false c =
     let whole = take_all c.len.result c.args.trail.now.falses (omega (arith, c.len.ensures.len)) in
     let unit = subst (λ (f : List ℕ). unit_of f c.clause.result.now ≡ Some c.in-Unit.lit) whole c.in-Unit.ensures in
     let inside = subst (λ (v : ℕ). has_outside v c.clause.result.now ≡ false) c.requires.variables c.clause.ensures.valid.inside in
-    (unset-of c.args.trail.now.variables c.args.trail.now.falses c.clause.result.now c.in-Unit.lit c.flip.result unit inside c.flip.ensures.complement).not_false
+    (unset-of c.args.trail.now.variables c.args.trail.now.falses c.clause.result.now c.in-Unit.lit c.flip.result unit inside
+    c.flip.ensures.complement).not_false
 
 pub imply-requires-clause-not_true : goal.imply-requires-clause-not_true
 imply-requires-clause-not_true c =
     let whole = take_all c.len.result c.args.trail.now.falses (omega (arith, c.len.ensures.len)) in
     let unit = subst (λ (f : List ℕ). unit_of f c.clause.result.now ≡ Some c.in-Unit.lit) whole c.in-Unit.ensures in
     let inside = subst (λ (v : ℕ). has_outside v c.clause.result.now ≡ false) c.requires.variables c.clause.ensures.valid.inside in
-    (unset-of c.args.trail.now.variables c.args.trail.now.falses c.clause.result.now c.in-Unit.lit c.flip.result unit inside c.flip.ensures.complement).not_true
+    (unset-of c.args.trail.now.variables c.args.trail.now.falses c.clause.result.now c.in-Unit.lit c.flip.result unit inside
+    c.flip.ensures.complement).not_true
 
 pub returns-in-Quiet-clause-so_far : goal.returns-in-Quiet-clause-so_far
 returns-in-Quiet-clause-so_far c = λ first le s.
@@ -43,7 +46,9 @@ returns-in-Unit-clause-sound c =
     let whole = take_all c.len.result c.args.trail.now.falses (omega (arith, c.len.ensures.len)) in
     let unit = subst (λ (f : List ℕ). unit_of f c.clause.result.now ≡ Some c.in-Unit.lit) whole c.in-Unit.ensures in
     let back : c.args.n + 1 - 1 ≡ c.args.n = omega arith in
-    sound-imply c.args.known.now.clauses c.args.trail.now c.imply.new.self c.flip.result (c.args.n + 1) c.requires.sound c.imply.ensures.rise c.imply.ensures.falses c.imply.ensures.reasons
+    sound-imply c.args.known.now.clauses c.args.trail.now c.imply.new.self c.flip.result (c.args.n + 1) c.requires.sound
+    c.imply.ensures.rise c.imply.ensures.falses c.imply.ensures.reasons
     c.clause.result.now c.in-Unit.lit c.imply.ensures.room c.imply.ensures.starts
-    (named-at c.args.known.now.clauses (c.args.n + 1) c.args.n refl ∙ subst (λ (k : ℕ). slice_get c.args.known.now.clauses k ≡ Some c.clause.result.now) back c.clause.ensures.value)
+    (named-at c.args.known.now.clauses (c.args.n + 1) c.args.n refl
+    ∙ subst (λ (k : ℕ). slice_get c.args.known.now.clauses k ≡ Some c.clause.result.now) back c.clause.ensures.value)
     unit c.flip.ensures.complement

@@ -9,5 +9,6 @@ loop-n-preserved c =
     let at = subst (λ (k : ℕ). slice_get c.args.clauses.now.clauses k ≡ Some c.clause.result.now) back c.clause.ensures.value in
     record {
       variables = c.in-Ok.ensures.variables_kept ∙ c.loop-n.invariant.variables;
-      clauses = c.in-Ok.ensures.ok ∙ ap (λ (cs : List (List ℕ)). cs ++ c.clause.result.now ∷ []) c.loop-n.invariant.clauses ∙ sym (take-get c.args.clauses.now.clauses c.loop-n.n c.clause.result.now at);
+      clauses = c.in-Ok.ensures.ok ∙ ap (λ (cs : List (List ℕ)). cs ++ c.clause.result.now ∷ []) c.loop-n.invariant.clauses
+          ∙ sym (take-get c.args.clauses.now.clauses c.loop-n.n c.clause.result.now at);
     }

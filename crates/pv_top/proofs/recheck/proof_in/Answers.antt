@@ -1,8 +1,8 @@
 use Rattle.std.proofs.Common.{Ok, Err, subst, arith}
 use Rattle.pv_bool.specs.Programs.{program_tree}
 use Rattle.pv_bool.specs.Tree.{IsProgram}
-use Rattle.pv_mean.specs.Sources.{source_of}
-use Rattle.pv_mean.specs.FirstForm.{program_of}
+use Rattle.pv_first_mean.specs.Sources.{source_of}
+use Rattle.pv_first_mean.specs.FirstForm.{program_of}
 use Rattle.pv_first.specs.Tree.{block_tree, expr_tree}
 use Rattle.pv_recheck.specs.declared.check.TheConstants.{MAX_STEP_GATES}
 use Rattle.pv_recheck.specs.declared.fault.RecheckFault.{RecheckFault}

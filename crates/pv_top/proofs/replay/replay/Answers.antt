@@ -1,4 +1,4 @@
-use Rattle.pv_case.specs.Cases.{data_of}
+use Rattle.pv_first_case.specs.Cases.{data_of}
 use Rattle.pv_first.specs.Tree.{block_tree, expr_tree}
 use Rattle.pv_top.specs.Projects.{Project}
 use Rattle.pv_top.proofs.Stages.{is_first_form, is_first_expr, few_cells}

@@ -1,4 +1,4 @@
-use Rattle.pv_case.specs.Cases.{data_of}
+use Rattle.pv_first_case.specs.Cases.{data_of}
 use Rattle.pv_top.proofs.Stages.{holds_no_project}
 use Rattle.pv_top.proofs.source.project_in.Goals as goal
 use Rattle.std.proofs.Common.{◌∙◌}

@@ -1,6 +1,6 @@
 use Rattle.std.proofs.Common.{sym, ◌∙◌}
 use Rattle.std.proofs.lemmas.Bool.{true≢false}
-use Rattle.pv_case.specs.Cases.{data_of}
+use Rattle.pv_first_case.specs.Cases.{data_of}
 use Rattle.pv_first.specs.Tree.{block_tree, expr_tree}
 use Rattle.pv_top.proofs.Stages.{HasNone, passed, no_block, no_entry, no_requirement, no_names, other_entry}
 use Rattle.pv_top.proofs.source.project_of.Goals as goal

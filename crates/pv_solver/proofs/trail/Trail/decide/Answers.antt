@@ -6,42 +6,67 @@ use Rattle.pv_solver.proofs.trail.Trail.decide.Goals as goal
 
 pub overflow_cast-place : goal.overflow_cast-place
 overflow_cast-place c =
-    let u = subst (λ (p : Path). Unset p.variables p.falses c.args.lit) (sym c.self.view_is) (record { inside = c.requires.inside; not_false = c.requires.not_false; not_true = c.requires.not_true }) in
+    let u = subst (λ (p : Path). Unset p.variables p.falses c.args.lit) (sym c.self.view_is) (record {
+      inside = c.requires.inside;
+      not_false = c.requires.not_false;
+      not_true = c.requires.not_true;
+    }) in
     let i = c.self.inside in let a = c.self.invariant.0 in
     let short = room i.variables i.places.items i.falses.items i.reasons.items i.starts.items a c.args.lit u in
     omega (arith, a.small)
 
 pub index_mut-requires-2 : goal.index_mut-requires-2
 index_mut-requires-2 c =
-    let u = subst (λ (p : Path). Unset p.variables p.falses c.args.lit) (sym c.self.view_is) (record { inside = c.requires.inside; not_false = c.requires.not_false; not_true = c.requires.not_true }) in
+    let u = subst (λ (p : Path). Unset p.variables p.falses c.args.lit) (sym c.self.view_is) (record {
+      inside = c.requires.inside;
+      not_false = c.requires.not_false;
+      not_true = c.requires.not_true;
+    }) in
     let i = c.self.inside in let a = c.self.invariant.0 in
     let short = room i.variables i.places.items i.falses.items i.reasons.items i.starts.items a c.args.lit u in
     omega (arith, a.reasons_size)
 
 pub unwrap-requires : goal.unwrap-requires
 unwrap-requires c =
-    let u = subst (λ (p : Path). Unset p.variables p.falses c.args.lit) (sym c.self.view_is) (record { inside = c.requires.inside; not_false = c.requires.not_false; not_true = c.requires.not_true }) in
+    let u = subst (λ (p : Path). Unset p.variables p.falses c.args.lit) (sym c.self.view_is) (record {
+      inside = c.requires.inside;
+      not_false = c.requires.not_false;
+      not_true = c.requires.not_true;
+    }) in
     let i = c.self.inside in let a = c.self.invariant.0 in
     let short = room i.variables i.places.items i.falses.items i.reasons.items i.starts.items a c.args.lit u in
     c.push-2.ensures.succeeds (omega (arith, c.self.invariant.1))
 
 pub invariant_of-self-2 : goal.invariant_of-self-2
 invariant_of-self-2 c =
-    let u = subst (λ (p : Path). Unset p.variables p.falses c.args.lit) (sym c.self.view_is) (record { inside = c.requires.inside; not_false = c.requires.not_false; not_true = c.requires.not_true }) in
+    let u = subst (λ (p : Path). Unset p.variables p.falses c.args.lit) (sym c.self.view_is) (record {
+      inside = c.requires.inside;
+      not_false = c.requires.not_false;
+      not_true = c.requires.not_true;
+    }) in
     let i = c.self.inside in let a = c.self.invariant.0 in
     let items : c.push-2.new.self.items ≡ i.falses.items ++ c.args.lit ∷ [] = rw c.unwrap.ensures at c.push-2.ensures.items in
     let starts : c.push.new.self.items ≡ i.starts.items ++ c.len-place.result ∷ [] = c.in_ok-push.ensures.items in
     let len : c.len-place.result ≡ length i.falses.items = omega (arith, c.len-place.ensures) in
-    let after = Agree-push i.variables i.places.items i.falses.items i.reasons.items i.starts.items a c.args.lit u 0 (i.starts.items ++ length i.falses.items ∷ []) (Rise-push i.starts.items (length i.falses.items) (length i.falses.items + 1) a.rise (omega arith)) in
-    let here = subst (λ (n : ℕ). Agree i.variables (set i.places.items c.args.lit n) (i.falses.items ++ c.args.lit ∷ []) (set i.reasons.items n 0) (i.starts.items ++ n ∷ [])) (sym len) after in (
-      subst (λ (t : List ℕ). Agree i.variables (set i.places.items c.args.lit c.len-place.result) t (set i.reasons.items c.len-place.result 0) c.push.new.self.items) (sym items)
-          (subst (λ (ss : List ℕ). Agree i.variables (set i.places.items c.args.lit c.len-place.result) (i.falses.items ++ c.args.lit ∷ []) (set i.reasons.items c.len-place.result 0) ss) (sym starts) here),
+    let after = Agree-push i.variables i.places.items i.falses.items i.reasons.items i.starts.items a c.args.lit u 0
+    (i.starts.items ++ length i.falses.items ∷ []) (Rise-push i.starts.items (length i.falses.items)
+    (length i.falses.items + 1) a.rise (omega arith)) in
+    let here = subst (λ (n : ℕ). Agree i.variables (set i.places.items c.args.lit n) (i.falses.items ++ c.args.lit ∷ [])
+    (set i.reasons.items n 0) (i.starts.items ++ n ∷ [])) (sym len) after in (
+      subst (λ (t : List ℕ). Agree i.variables (set i.places.items c.args.lit c.len-place.result) t (set i.reasons.items c.len-place.result
+          0) c.push.new.self.items) (sym items)
+          (subst (λ (ss : List ℕ). Agree i.variables (set i.places.items c.args.lit c.len-place.result) (i.falses.items ++ c.args.lit ∷ [])
+          (set i.reasons.items c.len-place.result 0) ss) (sym starts) here),
       omega (arith, c.self.invariant.1, c.push-2.ensures.capacity),
     )
 
 pub returns-clause-bound : goal.returns-clause-bound
 returns-clause-bound c =
-    let u = subst (λ (p : Path). Unset p.variables p.falses c.args.lit) (sym c.self.view_is) (record { inside = c.requires.inside; not_false = c.requires.not_false; not_true = c.requires.not_true }) in
+    let u = subst (λ (p : Path). Unset p.variables p.falses c.args.lit) (sym c.self.view_is) (record {
+      inside = c.requires.inside;
+      not_false = c.requires.not_false;
+      not_true = c.requires.not_true;
+    }) in
     let i = c.self.inside in
     let short = room i.variables i.places.items i.falses.items i.reasons.items i.starts.items c.self.invariant.0 c.args.lit u in
     let items : c.push-2.new.self.items ≡ i.falses.items ++ c.args.lit ∷ [] = rw c.unwrap.ensures at c.push-2.ensures.items in

@@ -10,4 +10,5 @@ returns c =
     let small = subst (λ (p : Path). c.args.upto ≤ length p.falses) (sym c.self.view_is) c.requires.there in
     let low = subst (λ (p : Path). c.args.lit < 2 * p.variables + 2) (sym c.self.view_is) c.requires.inside in
     let lt : c.args.lit < length i.places.items = omega (arith, a.size) in
-    rw (← c.self.view_is) (ap (λ (p : ℕ). ltb p c.args.upto) (get_or_read i.places.items c.args.lit c.index.result.now lt c.index.ensures no_place) ∙ asks i.variables i.places.items i.falses.items i.reasons.items i.starts.items a c.args.lit c.args.upto small)
+    rw (← c.self.view_is) (ap (λ (p : ℕ). ltb p c.args.upto) (get_or_read i.places.items c.args.lit c.index.result.now lt c.index.ensures
+    no_place) ∙ asks i.variables i.places.items i.falses.items i.reasons.items i.starts.items a c.args.lit c.args.upto small)

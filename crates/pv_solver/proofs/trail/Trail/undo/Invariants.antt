@@ -4,7 +4,8 @@ use Rattle.pv_solver.proofs.trail.Trail.undo.Given as goal
 
 abbrev pub invariant-back : goal.invariant-back
 invariant-back l = record {
-  agree : Agree l.self-inside.variables l.self-inside.places.items l.self-inside.falses.items l.self-inside.reasons.items l.self-inside.starts.items;
+  agree : Agree l.self-inside.variables l.self-inside.places.items l.self-inside.falses.items
+      l.self-inside.reasons.items l.self-inside.starts.items;
   room : l.self-inside.variables ≤ vec_capacity l.self-inside.falses;
   variables : l.self-inside.variables ≡ l.initial.self-inside.variables;
   reasons : l.self-inside.reasons.items ≡ l.initial.self-inside.reasons.items;

@@ -1,0 +1,8 @@
+use Rattle.std.proofs.Common.{map, take}
+use Rattle.serde_json.specs.View.{view}
+use Rattle.pv_case.specs.Checks.{each}
+use Rattle.pv_case.specs.Fields.{source_has}
+use Rattle.pv_case.proofs.sources.sources_have.Given as goal
+
+abbrev pub invariant-loop-s : goal.invariant-loop-s
+invariant-loop-s l = (each source_has (map view (take l.s-index l.items))).keeps

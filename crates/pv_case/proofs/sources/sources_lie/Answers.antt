@@ -1,0 +1,16 @@
+use Rattle.std.proofs.Common.{arith}
+use Rattle.serde_json.specs.View.{view}
+use Rattle.pv_case.specs.Fields.{source_lies}
+use Rattle.pv_case.proofs.Each.{keeps_more, breaks_with}
+use Rattle.pv_case.proofs.sources.sources_lie.Goals as goal
+
+pub returns-in_err-source_lies : goal.returns-in_err-source_lies
+returns-in_err-source_lies c =
+    breaks_with source_lies view c.args.items.now c.loop-s.s-index c.s-item.result
+    c.in_err-source_lies.field-0.0 c.from_residual.result c.from_residual.ensures.1 (omega arith) c.s-item.is c.loop-s.invariant
+    c.in_err-source_lies.ensures
+
+pub loop-s-preserved : goal.loop-s-preserved
+loop-s-preserved c =
+    keeps_more source_lies view c.args.items.now c.loop-s.s-index c.s-item.result (omega arith) c.s-item.is
+    c.loop-s.invariant c.in_ok-source_lies.ensures

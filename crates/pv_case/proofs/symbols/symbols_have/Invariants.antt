@@ -1,0 +1,7 @@
+use Rattle.pv_case.specs.Checks.{each}
+use Rattle.pv_case.specs.Fields.{symbol_has}
+use Rattle.pv_case.proofs.OverMaps.{asked}
+use Rattle.pv_case.proofs.symbols.symbols_have.Given as goal
+
+abbrev pub invariant-loop-path : goal.invariant-loop-path
+invariant-loop-path l = (each symbol_has (asked l.yielded)).keeps

@@ -1,0 +1,3 @@
+mod CaseLemmas
+mod Unique
+pub mod ForCallers

@@ -1,0 +1,11 @@
+pub mod Lists
+pub mod Frames
+pub mod Statements
+pub mod Runs
+pub mod Bits
+pub mod FirstCells
+pub mod FirstScans
+pub mod FirstNames
+pub mod FirstNumbers
+pub mod FirstLaws
+pub mod ForCallers

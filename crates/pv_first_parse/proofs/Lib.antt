@@ -1,0 +1,20 @@
+mod Chains
+mod Exits
+mod ExpressionsComplete
+mod ExpressionsSound
+mod Expressions
+mod Statements
+mod Declarations
+mod DeclarationsSound
+mod Names
+mod Blocks
+mod WordLemmas
+mod Numbers
+mod Bytes
+mod Stretching
+mod Nexts
+mod Cutting
+mod Readings
+mod FirstForm
+pub mod ForCallers
+mod Headers

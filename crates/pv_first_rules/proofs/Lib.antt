@@ -1,0 +1,3 @@
+mod Keys
+mod Each
+pub mod ForCallers

@@ -1,0 +1,32 @@
+mod LookUps
+mod KindSteps
+mod CaseBlind
+mod KindCases
+mod KindSpelled
+mod KindNames
+mod KindOf
+mod KindPairs
+pub mod FunctionTables
+pub mod Taking
+pub mod Sorts
+pub mod Forms
+pub mod FunctionTexts
+pub mod OperatorTexts
+pub mod TokenFacts
+pub mod ChainLaws
+pub mod ExprLaws
+pub mod TokenKinds
+pub mod Gets
+pub mod ChainRuns
+pub mod ExprRuns
+pub mod FunctionRuns
+pub mod Complete
+pub mod Shapes
+pub mod ExprSound
+pub mod Closed
+pub mod Readings
+pub mod Answering
+mod Sound
+mod Witnesses
+pub mod ForCallers
+mod RoleLaws

@@ -1,0 +1,189 @@
+-- The names of the grammar that SCL and STL share, by their numbers; the last two have bodies of each
+-- language's own. Written by tools/grammar_files.py from crates/pv_scl_parse/grammar/scl.txt.
+use Rattle.std.specs.Prelude.{ℕ}
+
+abbrev pub word : ℕ
+word = 0
+
+abbrev pub label_word : ℕ
+label_word = 1
+
+abbrev pub firm_name : ℕ
+firm_name = 2
+
+abbrev pub field : ℕ
+field = 3
+
+abbrev pub expression : ℕ
+expression = 4
+
+abbrev pub or_tail : ℕ
+or_tail = 5
+
+abbrev pub or_link : ℕ
+or_link = 6
+
+abbrev pub xor_chain : ℕ
+xor_chain = 7
+
+abbrev pub xor_tail : ℕ
+xor_tail = 8
+
+abbrev pub xor_link : ℕ
+xor_link = 9
+
+abbrev pub and_chain : ℕ
+and_chain = 10
+
+abbrev pub and_tail : ℕ
+and_tail = 11
+
+abbrev pub and_link : ℕ
+and_link = 12
+
+abbrev pub equal_chain : ℕ
+equal_chain = 13
+
+abbrev pub equal_tail : ℕ
+equal_tail = 14
+
+abbrev pub equal_link : ℕ
+equal_link = 15
+
+abbrev pub compare_chain : ℕ
+compare_chain = 16
+
+abbrev pub compare_tail : ℕ
+compare_tail = 17
+
+abbrev pub compare_link : ℕ
+compare_link = 18
+
+abbrev pub sum_chain : ℕ
+sum_chain = 19
+
+abbrev pub sum_tail : ℕ
+sum_tail = 20
+
+abbrev pub sum_link : ℕ
+sum_link = 21
+
+abbrev pub product_chain : ℕ
+product_chain = 22
+
+abbrev pub product_tail : ℕ
+product_tail = 23
+
+abbrev pub product_link : ℕ
+product_link = 24
+
+abbrev pub factor : ℕ
+factor = 25
+
+abbrev pub word_read : ℕ
+word_read = 26
+
+abbrev pub other_factor : ℕ
+other_factor = 27
+
+abbrev pub name_read : ℕ
+name_read = 28
+
+abbrev pub firm_factor : ℕ
+firm_factor = 29
+
+abbrev pub function : ℕ
+function = 30
+
+abbrev pub steps : ℕ
+steps = 31
+
+abbrev pub step : ℕ
+step = 32
+
+abbrev pub area : ℕ
+area = 33
+
+abbrev pub source : ℕ
+source = 34
+
+abbrev pub block : ℕ
+block = 35
+
+abbrev pub name : ℕ
+name = 36
+
+abbrev pub value_type : ℕ
+value_type = 37
+
+abbrev pub sections : ℕ
+sections = 38
+
+abbrev pub section : ℕ
+section = 39
+
+abbrev pub constants : ℕ
+constants = 40
+
+abbrev pub constant : ℕ
+constant = 41
+
+abbrev pub declarations : ℕ
+declarations = 42
+
+abbrev pub declaration : ℕ
+declaration = 43
+
+abbrev pub more_words : ℕ
+more_words = 44
+
+abbrev pub start_value : ℕ
+start_value = 45
+
+abbrev pub declared_type : ℕ
+declared_type = 46
+
+abbrev pub struct : ℕ
+struct = 47
+
+abbrev pub maybe_semicolon : ℕ
+maybe_semicolon = 48
+
+abbrev pub literal : ℕ
+literal = 49
+
+abbrev pub integer : ℕ
+integer = 50
+
+abbrev pub data_type : ℕ
+data_type = 51
+
+abbrev pub data_values : ℕ
+data_values = 52
+
+abbrev pub data_value : ℕ
+data_value = 53
+
+abbrev pub path_steps : ℕ
+path_steps = 54
+
+abbrev pub path_step : ℕ
+path_step = 55
+
+abbrev pub second_name : ℕ
+second_name = 56
+
+abbrev pub maybe_number : ℕ
+maybe_number = 57
+
+abbrev pub more_arguments : ℕ
+more_arguments = 58
+
+abbrev pub argument_value : ℕ
+argument_value = 59
+
+abbrev pub body : ℕ
+body = 60
+
+abbrev pub data_body : ℕ
+data_body = 61

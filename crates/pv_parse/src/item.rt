@@ -1,0 +1,26 @@
+//! What lies on the stack while a tree is built: tokens that were passed, and the parts that were
+//! made of them.
+
+use pv_lex::Kind;
+use pv_machine::Place;
+use pv_tree::{Expr, Operand};
+
+/// A token with its bytes.
+#[derive(Clone, Copy)]
+pub struct Sliced<'a> {
+    pub kind: Kind,
+    pub bytes: &'a [u8],
+    pub value: i128,
+    pub place: Place,
+}
+
+/// A thing on the stack.
+#[derive(Drop)]
+pub enum Item<'a> {
+    /// A token.
+    Token(Sliced<'a>),
+    /// Where an operand begins, and the steps behind it so far. A word is one without steps.
+    Path(Operand),
+    /// An expression.
+    Expr(Expr),
+}

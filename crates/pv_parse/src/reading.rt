@@ -1,0 +1,44 @@
+//! Expressions, read from tokens.
+ghost use Rattle.std.specs.Prelude.{false, IsTrue, IfOk};
+ghost use Rattle.pv_tree.specs.Lexemes.{lexemes_of};
+ghost use Rattle.pv_ll.specs.Check.{is_ll1};
+ghost use Rattle.pv_parse.specs.Kinds.{kinds_of, HaveKinds};
+ghost use Rattle.pv_parse.specs.ExprAnswers.{ReadsExpressions, AnswersExpression};
+
+use crate::action::Action;
+use crate::builder::build;
+use crate::stack::pop_expr;
+use crate::token_kinds::kinds;
+use pv_lex::Token;
+use pv_ll::{Language, recognize};
+use pv_tree::Expr;
+use std::alloc::{AllocError, Global};
+
+/// The one expression that the tokens of a text spell, without the end behind them; else the number of the first token such
+/// that no expression's spelling begins with the tokens up to it and with it, which is the number of tokens where they end too
+/// early. How deep it nests isn't looked at: the tree is made whatever its depth.
+pub fn read_expression(
+    alloc: Global,
+    language: &Language,
+    actions: &[Action],
+    text: &[u8],
+    tokens: &[Token],
+) -> Result<Result<Expr, usize>, AllocError>
+    requires ll1 { IsTrue (is_ll1 language.now) }
+    requires grammar { ReadsExpressions language.now actions.now }
+    requires tokens { HaveKinds (lexemes_of text.now tokens.now) (kinds_of false (lexemes_of text.now tokens.now)) }
+    ensures { IfOk result (λ answer. AnswersExpression (lexemes_of text.now tokens.now) answer) }
+{
+    let kinds = kinds(alloc, text, tokens)?;
+    let trace = match recognize(alloc, language, &kinds)? {
+        Ok(trace) => trace,
+        Err(at) => return Ok(Err(at)),
+    };
+    let Ok(mut stack) = build(alloc, language, actions, &trace, text, tokens) else {
+        return Err(AllocError);
+    };
+    match pop_expr(&mut stack) {
+        Ok(expression) => Ok(Ok(expression)),
+        Err(_) => Err(AllocError),
+    }
+}

@@ -1,0 +1,219 @@
+-- Names that stand twice: one more name that is met, and the definition of a later name.
+use Rattle.std.proofs.Common.{◌≡◌, ℕ, zero, suc, ◌+◌, ◌<◌, true, false, List, [], ◌∷◌, ◌++◌, map, length, get_or, take, add-one, refl, ap, sym, subst, ◌∙◌, arith, inl, inr, append_assoc}
+use Rattle.std.specs.Prelude.{◌⊎◌, Option, Some, None, is_some, bytes_eq, cond, slice_index_or, Contains}
+use Rattle.std.specs.Map.{lookup}
+use Rattle.std.proofs.lemmas.Bool.{true≢false, cases_Bool}
+use Rattle.std.proofs.lemmas.Slice.Eq.{bytes_eq-Decides}
+use Rattle.indexmap.specs.IndexMap.{insert_entry}
+use Rattle.pv_machine.specs.declared.place.Place.{Place}
+use Rattle.pv_tree.specs.Tree.{PlacedName}
+use Rattle.pv_tree.specs.Interfaces.{IsLater}
+use Rattle.pv_rules.specs.Graphs.{Has}
+use Rattle.pv_rules.specs.Nearest.{Nears}
+use Rattle.pv_rules.specs.Doubles.{IsMet, IsLaterBehind, AreMet}
+use Rattle.pv_rules.specs.declared.doubled.Names.{Names}
+use Rattle.pv_rules.proofs.Marking.{has_front, has_behind, has_either}
+use Rattle.pv_rules.proofs.Nearing.{near_same, near_then}
+
+-- ---- the table
+
+insert_known : {X : Type 0} (es : List (List ℕ × X)) (key q : List ℕ) (v : X) → is_some (lookup (bytes_eq q) (insert_entry bytes_eq es key v)) ≡ true
+    → (is_some (lookup (bytes_eq q) es) ≡ true) ⊎ (key ≡ q)
+insert_known [] key q v h = elim (cases_Bool (bytes_eq q key)) [
+  | inl on ↦ inr (sym ((bytes_eq-Decides q key).0 on))
+  | inr off ↦ absurd (true≢false (sym h ∙ ap (λ b. is_some (cond b (Some v) None)) off))
+]
+insert_known (e ∷ es) key q v h = elim (cases_Bool (bytes_eq key e.0)) [
+  | inl on ↦ inl (replaced on (subst (λ b. is_some (lookup (bytes_eq q) (cond b ((e.0, v) ∷ es) (e ∷ insert_entry bytes_eq es key v))) ≡ true) on h))
+  | inr off ↦ behind (λ m. insert_known es key q v m) (subst (λ b. is_some (lookup (bytes_eq q) (cond b ((e.0, v) ∷ es) (e ∷ insert_entry bytes_eq es key v))) ≡ true) off h)
+]
+  where
+    replaced : bytes_eq key e.0 ≡ true → is_some (cond (bytes_eq q e.0) (Some v) (lookup (bytes_eq q) es)) ≡ true
+        → is_some (cond (bytes_eq q e.0) (Some e.1) (lookup (bytes_eq q) es)) ≡ true
+    replaced on k = elim (bytes_eq q e.0) as (λ b. is_some (cond b (Some v) (lookup (bytes_eq q) es)) ≡ true
+        → is_some (cond b (Some e.1) (lookup (bytes_eq q) es)) ≡ true) [ true ↦ λ p. refl | false ↦ λ p. p ] k
+
+    behind : (is_some (lookup (bytes_eq q) (insert_entry bytes_eq es key v)) ≡ true → (is_some (lookup (bytes_eq q) es) ≡ true) ⊎ (key ≡ q))
+        → is_some (cond (bytes_eq q e.0) (Some e.1) (lookup (bytes_eq q) (insert_entry bytes_eq es key v))) ≡ true
+        → (is_some (cond (bytes_eq q e.0) (Some e.1) (lookup (bytes_eq q) es)) ≡ true) ⊎ (key ≡ q)
+    behind rest k = elim (bytes_eq q e.0) as (λ b. is_some (cond b (Some e.1) (lookup (bytes_eq q) (insert_entry bytes_eq es key v))) ≡ true
+        → (is_some (cond b (Some e.1) (lookup (bytes_eq q) es)) ≡ true) ⊎ (key ≡ q)) [
+          | true ↦ λ p. inl refl
+          | false ↦ λ p. rest p
+        ] k
+
+insert_kept : {X : Type 0} (es : List (List ℕ × X)) (key q : List ℕ) (v : X) → is_some (lookup (bytes_eq q) es) ≡ true
+    → is_some (lookup (bytes_eq q) (insert_entry bytes_eq es key v)) ≡ true
+insert_kept [] key q v h = absurd (true≢false (sym h))
+insert_kept (e ∷ es) key q v h =
+    elim (bytes_eq key e.0) as (λ b. is_some (lookup (bytes_eq q) (cond b ((e.0, v) ∷ es) (e ∷ insert_entry bytes_eq es key v))) ≡ true) [
+      | true ↦ elim (bytes_eq q e.0) as (λ b. is_some (cond b (Some e.1) (lookup (bytes_eq q) es)) ≡ true → is_some (cond b (Some v) (lookup (bytes_eq q) es)) ≡ true) [ true ↦ λ p. refl | false ↦ λ p. p ] h
+      | false ↦ elim (bytes_eq q e.0) as (λ b. is_some (cond b (Some e.1) (lookup (bytes_eq q) es)) ≡ true → is_some (cond b (Some e.1) (lookup (bytes_eq q) (insert_entry bytes_eq es key v))) ≡ true) [ true ↦ λ p. refl | false ↦ λ p. insert_kept es key q v p ] h
+    ]
+
+same_key : (key : List ℕ) → bytes_eq key key ≡ true
+same_key key = (bytes_eq-Decides key key).1 refl
+
+insert_now : {X : Type 0} (es : List (List ℕ × X)) (key : List ℕ) (v : X) → is_some (lookup (bytes_eq key) (insert_entry bytes_eq es key v)) ≡ true
+insert_now [] key v = ap (λ b. is_some (cond b (Some v) None)) (same_key key)
+insert_now (e ∷ es) key v =
+    elim (cases_Bool (bytes_eq key e.0)) [
+      | inl on ↦ ap (λ b. is_some (lookup (bytes_eq key) (cond b ((e.0, v) ∷ es) (e ∷ insert_entry bytes_eq es key v)))) on ∙ ap (λ b. is_some (cond b (Some v) (lookup (bytes_eq key) es))) on
+      | inr off ↦ ap (λ b. is_some (lookup (bytes_eq key) (cond b ((e.0, v) ∷ es) (e ∷ insert_entry bytes_eq es key v)))) off
+          ∙ ap (λ b. is_some (cond b (Some e.1) (lookup (bytes_eq key) (insert_entry bytes_eq es key v)))) off ∙ insert_now es key v
+    ]
+
+-- ---- names that were met
+
+abbrev keys_of : List PlacedName → List (List ℕ)
+keys_of all = map (λ n. n.0.key) all
+
+keys_pushed : (all : List PlacedName) (n : PlacedName) → keys_of (all ++ n ∷ []) ≡ keys_of all ++ n.0.key ∷ []
+keys_pushed [] n = refl
+keys_pushed (m ∷ all) n = ap (λ l. m.0.key ∷ l) (keys_pushed all n)
+
+has_pushed : (all : List PlacedName) (n : PlacedName) (key : List ℕ) → Has (keys_of all) key ⊎ (n.0.key ≡ key) → Has (keys_of (all ++ n ∷ [])) key
+has_pushed all n key (inl h) = subst (λ l. Has l key) (sym (keys_pushed all n)) (has_front (λ y. y ≡ key) (keys_of all) (n.0.key ∷ []) h)
+has_pushed all n key (inr is) = subst (λ l. Has l key) (sym (keys_pushed all n)) (has_behind (λ y. y ≡ key) (keys_of all) (n.0.key ∷ []) (inl is))
+
+of_pushed : (all : List PlacedName) (n : PlacedName) (key : List ℕ) → Has (keys_of (all ++ n ∷ [])) key → Has (keys_of all) key ⊎ (n.0.key ≡ key)
+of_pushed all n key h = elim (has_either (λ y. y ≡ key) (keys_of all) (n.0.key ∷ []) (subst (λ l. Has l key) (keys_pushed all n) h)) [
+  | inl front ↦ inl front
+  | inr last ↦ elim last [ inl is ↦ inr is | inr never ↦ absurd never ]
+]
+
+-- a name that is known already
+pub met_again : (old new : Names) (all : List PlacedName) (n : PlacedName) → IsMet old n.0.key → new.seen.entries ≡ old.seen.entries → AreMet old all
+    → AreMet new (all ++ n ∷ [])
+met_again old new all n there same are = record {
+  known = λ key m. has_pushed all n key (inl (are.known key (subst (λ es. is_some (lookup (bytes_eq key) es) ≡ true) same m)));
+  met = λ key h. subst (λ es. is_some (lookup (bytes_eq key) es) ≡ true) (sym same) (elim (of_pushed all n key h) [
+    | inl front ↦ are.met key front
+    | inr is ↦ subst (IsMet old) is there
+  ]);
+}
+
+pub met_new : (old new : Names) (all : List PlacedName) (n : PlacedName) → new.seen.entries ≡ insert_entry bytes_eq old.seen.entries n.0.key tt → AreMet old all
+    → AreMet new (all ++ n ∷ [])
+met_new old new all n added are = record {
+  known = λ key m. has_pushed all n key (elim (insert_known old.seen.entries n.0.key key tt (subst (λ es. is_some (lookup (bytes_eq key) es) ≡ true) added m)) [
+    | inl was ↦ inl (are.known key was)
+    | inr is ↦ inr is
+  ]);
+  met = λ key h. subst (λ es. is_some (lookup (bytes_eq key) es) ≡ true) (sym added) (elim (of_pushed all n key h) [
+    | inl front ↦ insert_kept old.seen.entries n.0.key key tt (are.met key front)
+    | inr is ↦ subst (λ q. is_some (lookup (bytes_eq q) (insert_entry bytes_eq old.seen.entries n.0.key tt)) ≡ true) is (insert_now old.seen.entries n.0.key tt)
+  ]);
+}
+
+pub none_met : (names : Names) → names.seen.entries ≡ [] → AreMet names []
+none_met names empty = record {
+  known = λ key m. absurd (true≢false (sym m ∙ ap (λ es. is_some (lookup (bytes_eq key) es)) empty));
+  met = λ key h. absurd h;
+}
+
+-- ---- later names
+
+later_pushed : (keys : List (List ℕ)) (all : List PlacedName) (n : PlacedName) (at : Place)
+    → IsLaterBehind keys all at ⊎ (Has (keys ++ keys_of all) n.0.key × (n.1 ≡ at)) → IsLaterBehind keys (all ++ n ∷ []) at
+later_pushed keys [] n at (inl h) = absurd h
+later_pushed keys [] n at (inr last) = inl (subst (λ l. Has l n.0.key) (nothing keys) last.0, last.1)
+  where
+    nothing : (xs : List (List ℕ)) → xs ++ [] ≡ xs
+    nothing [] = refl
+    nothing (x ∷ xs) = ap (λ l. x ∷ l) (nothing xs)
+later_pushed keys (m ∷ all) n at (inl (inl h)) = inl h
+later_pushed keys (m ∷ all) n at (inl (inr h)) = inr (later_pushed (keys ++ m.0.key ∷ []) all n at (inl h))
+later_pushed keys (m ∷ all) n at (inr last) =
+    inr (later_pushed (keys ++ m.0.key ∷ []) all n at (inr (subst (λ l. Has l n.0.key) (sym (append_assoc keys (m.0.key ∷ []) (keys_of all))) last.0, last.1)))
+
+later_of_pushed : (keys : List (List ℕ)) (all : List PlacedName) (n : PlacedName) (at : Place) → IsLaterBehind keys (all ++ n ∷ []) at
+    → IsLaterBehind keys all at ⊎ (Has (keys ++ keys_of all) n.0.key × (n.1 ≡ at))
+later_of_pushed keys [] n at (inl last) = inr (has_front (λ y. y ≡ n.0.key) keys [] last.0, last.1)
+later_of_pushed keys [] n at (inr never) = absurd never
+later_of_pushed keys (m ∷ all) n at (inl h) = inl (inl h)
+later_of_pushed keys (m ∷ all) n at (inr h) = elim (later_of_pushed (keys ++ m.0.key ∷ []) all n at h) [
+  | inl front ↦ inl (inr front)
+  | inr last ↦ inr (subst (λ l. Has l n.0.key) (append_assoc keys (m.0.key ∷ []) (keys_of all)) last.0, last.1)
+]
+
+-- one more name
+pub near_later : (names : Names) (all : List PlacedName) (n : PlacedName) (a b c : Option Place) → AreMet names all → Nears (IsLaterBehind [] all) a b
+    → Nears (λ at. IsMet names n.0.key × (n.1 ≡ at)) b c → Nears (IsLaterBehind [] (all ++ n ∷ [])) a c
+near_later names all n a b c are before one =
+    near_same (λ at. IsLaterBehind [] all at ⊎ (IsMet names n.0.key × (n.1 ≡ at))) (IsLaterBehind [] (all ++ n ∷ [])) a c
+    (λ at h. later_pushed [] all n at (elim h [ inl front ↦ inl front | inr last ↦ inr (are.known n.0.key last.0, last.1) ]))
+    (λ at h. elim (later_of_pushed [] all n at h) [ inl front ↦ inl front | inr last ↦ inr (are.met n.0.key last.0, last.1) ])
+    (near_then (IsLaterBehind [] all) (λ at. IsMet names n.0.key × (n.1 ≡ at)) a b c before one)
+
+taken_next : {X : Type 0} {Y : Type 0} (f : X → Y) (xs : List X) (i : ℕ) (x : X) → i < length xs → x ≡ get_or xs i x
+    → map f (take (suc i) xs) ≡ map f (take i xs) ++ f x ∷ []
+taken_next f [] i x lt is = absurd (omega (arith, lt))
+taken_next f (y ∷ ys) zero x lt is = ap (λ z. f z ∷ []) (sym is)
+taken_next f (y ∷ ys) (suc i) x lt is = ap (λ l. f y ∷ l) (taken_next f ys i x (omega (arith, lt)) is)
+
+pub taken_one : {X : Type 0} {Y : Type 0} (f : X → Y) (xs : List X) (i : ℕ) (x : X) → i < length xs → x ≡ get_or xs i x
+    → map f (take (i + 1) xs) ≡ map f (take i xs) ++ f x ∷ []
+taken_one f xs i x lt is = ap (λ n. map f (take n xs)) (add-one i) ∙ taken_next f xs i x lt is
+
+-- ---- the definition
+
+pub has_contains : {X : Type 0} (xs : List X) (x : X) → Has xs x → Contains xs x
+has_contains [] x h = absurd h
+has_contains (y ∷ ys) x (inl is) = (0, omega arith, is)
+has_contains (y ∷ ys) x (inr h) = let rest = has_contains ys x h in (suc rest.0, omega (arith, rest.1), rest.2)
+
+pub contains_has : {X : Type 0} (xs : List X) (x : X) → Contains xs x → Has xs x
+contains_has {X = X} xs x c = walked xs c.0 c.1 c.2
+  where
+    walked : (ys : List X) (k : ℕ) → k < length ys → slice_index_or ys k x ≡ x → Has ys x
+    walked [] k lt is = absurd (omega (arith, lt))
+    walked (y ∷ ys) zero lt is = inl is
+    walked (y ∷ ys) (suc k) lt is = inr (walked ys k (omega (arith, lt)) is)
+
+record Splits (keys : List (List ℕ)) (all : List PlacedName) (at : Place) : Type 0 where
+  pub front : List PlacedName
+  pub later : PlacedName
+  pub back : List PlacedName
+  pub split : all ≡ front ++ later ∷ back
+  pub known : Has (keys ++ keys_of front) later.0.key
+  pub is_at : later.1 ≡ at
+
+splits_of : (keys : List (List ℕ)) (all : List PlacedName) (at : Place) → IsLaterBehind keys all at → Splits keys all at
+splits_of keys [] at h = absurd h
+splits_of keys (n ∷ more) at (inl h) = record {
+  front = [];
+  later = n;
+  back = more;
+  split = refl;
+  known = has_front (λ y. y ≡ n.0.key) keys [] h.0;
+  is_at = h.1;
+}
+splits_of keys (n ∷ more) at (inr h) = let rest = splits_of (keys ++ n.0.key ∷ []) more at h in record {
+  front = n ∷ rest.front;
+  later = rest.later;
+  back = rest.back;
+  split = ap (λ l. n ∷ l) rest.split;
+  known = subst (λ l. Has l rest.later.0.key) (append_assoc keys (n.0.key ∷ []) (keys_of rest.front)) rest.known;
+  is_at = rest.is_at;
+}
+
+of_split : (keys : List (List ℕ)) (front : List PlacedName) (later : PlacedName) (back : List PlacedName) (at : Place)
+    → Has (keys ++ keys_of front) later.0.key → later.1 ≡ at → IsLaterBehind keys (front ++ later ∷ back) at
+of_split keys [] later back at h is = inl (elim (has_either (λ y. y ≡ later.0.key) keys [] h) [ inl k ↦ k | inr never ↦ absurd never ], is)
+of_split keys (n ∷ front) later back at h is =
+    inr (of_split (keys ++ n.0.key ∷ []) front later back at (subst (λ l. Has l later.0.key) (sym (append_assoc keys (n.0.key ∷ []) (keys_of front))) h) is)
+
+pub later_is : (all : List PlacedName) (at : Place) → IsLaterBehind [] all at → IsLater all at
+later_is all at h = let s = splits_of [] all at h in record {
+  front = s.front;
+  later = s.later;
+  back = s.back;
+  split = s.split;
+  is_before = has_contains (keys_of s.front) s.later.0.key s.known;
+  is_at = s.is_at;
+}
+
+pub is_later : (all : List PlacedName) (at : Place) → IsLater all at → IsLaterBehind [] all at
+is_later all at r =
+    subst (λ l. IsLaterBehind [] l at) (sym r.split) (of_split [] r.front r.later r.back at (contains_has (keys_of r.front) r.later.0.key r.is_before) r.is_at)

@@ -1,0 +1,11 @@
+use Rattle.std.proofs.Common.{refl, true, arith}
+use Rattle.pv_rules.proofs.TypeCycles.{no_number, number_below}
+use Rattle.pv_rules.proofs.types.TypeGraph.is_wrong.Goals as goal
+
+pub returns-in-None : goal.returns-in-None
+returns-in-None c = λ bs g. no_number bs c.args.name.now.key true refl (c.in-None.ensures bs g.names)
+
+pub returns-then-number-len : goal.returns-then-number-len
+returns-then-number-len c = λ bs g.
+    let below = number_below bs c.args.self.now.graph.next.items c.args.name.now.key c.in-Some.number g.steps (c.in-Some.ensures bs g.names) in
+    absurd (omega (arith, below))

@@ -1,0 +1,45 @@
+//! The first of several breaches.
+ghost use Rattle.std.specs.Prelude.{◌≡◌};
+ghost use Rattle.pv_rules.specs.Least.{is_up_to, lesser, breach_where};
+
+use crate::fault::{Breach, Rule};
+use pv_machine::Place;
+
+/// Whether `a` comes before `b`, or is the same.
+fn comes_first(a: &Breach, b: &Breach) -> bool
+    ensures { result ≡ is_up_to a.now b.now }
+{
+    let same_file = a.place.file == b.place.file;
+    let same_offset = a.place.offset == b.place.offset;
+    let same_rule_or_less = a.rule.number() <= b.rule.number();
+    a.place.file < b.place.file
+        || (same_file && (a.place.offset < b.place.offset || (same_offset && same_rule_or_less)))
+}
+
+/// The first of two breaches.
+pub(crate) fn lesser(a: Option<Breach>, b: Option<Breach>) -> Option<Breach>
+    ensures { result ≡ lesser a b }
+{
+    match (a, b) {
+        (None, other) => other,
+        (one, None) => one,
+        (Some(one), Some(other)) => {
+            if comes_first(&one, &other) {
+                Some(one)
+            } else {
+                Some(other)
+            }
+        }
+    }
+}
+
+/// A breach at this place, where the rule is broken.
+pub(crate) fn breach(broken: bool, rule: Rule, place: Place) -> Option<Breach>
+    ensures { result ≡ breach_where broken rule place }
+{
+    if broken {
+        Some(Breach { rule, place })
+    } else {
+        None
+    }
+}

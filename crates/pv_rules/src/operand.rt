@@ -1,0 +1,119 @@
+//! Operands that break a rule: a name that isn't declared, the value of a function without one, an address that there isn't.
+ghost use Rattle.std.specs.Prelude.{◌≡◌, option_and_then, option_map};
+ghost use Rattle.pv_tree.specs.Things as things;
+ghost use Rattle.pv_tree.specs.Parts as parts;
+ghost use Rattle.pv_tree.specs.View.{expr_tree, operand_tree};
+ghost use Rattle.pv_rules.specs.InScope.{scope_of};
+ghost use Rattle.pv_rules.specs.Operands.{name_at, void_at, address_at};
+
+use crate::scope::Scope;
+use crate::thing::{Thing, is_address};
+use crate::typing::{is_void, root_place};
+use pv_machine::Place;
+use pv_tree::{Expr, Operand, Root};
+
+/// The operand that an expression reads.
+fn operand_of(e: &Expr) -> Option<&Operand>
+    ensures { option_map (λ o. operand_tree o.now) result ≡ parts.operand_of (expr_tree e.now) }
+{
+    match e {
+        Expr::Read(operand) => Some(operand),
+        Expr::Lit { .. } => None,
+        Expr::Unary { .. } => None,
+        Expr::Binary { .. } => None,
+        Expr::Std { .. } => None,
+        Expr::Paren(..) => None,
+    }
+}
+
+/// The address that an operand is, where there is none such.
+fn wrong_address(operand: &Operand) -> Option<Place>
+    ensures { result ≡ address_at (operand_tree operand.now) }
+{
+    match &operand.root {
+        Root::Local { .. } => None,
+        Root::Named(_) => None,
+        Root::Area {
+            bits,
+            byte,
+            bit,
+            ..
+        } => {
+            if is_address(*bits, *byte, *bit) {
+                None
+            } else {
+                Some(operand.place)
+            }
+        }
+    }
+}
+
+/// The address that an expression reads, where there is none such.
+pub(crate) fn address_place(e: &Expr) -> Option<Place>
+    ensures { result ≡ option_and_then address_at (parts.operand_of (expr_tree e.now)) }
+{
+    match operand_of(e) {
+        Some(operand) => wrong_address(operand),
+        None => None,
+    }
+}
+
+impl<'p> Scope<'p> {
+    /// The name in an operand that isn't declared.
+    fn missing_name(&self, operand: &Operand) -> Option<Place>
+        ensures { result ≡ name_at (things.thing_of (scope_of self.now) (operand_tree operand.now)) }
+    {
+        match self.thing_of(operand) {
+            Thing::NoName(at) => Some(at),
+            Thing::Part(_) => None,
+            Thing::Constant(_) => None,
+            Thing::Block(_) => None,
+            Thing::NoArray(_) => None,
+            Thing::ADate(_) => None,
+            Thing::Untold => None,
+        }
+    }
+
+    /// The name of a function without a value that an operand is.
+    fn void_name(&self, operand: &Operand) -> Option<Place>
+        ensures { result ≡ void_at (scope_of self.now) (operand_tree operand.now) }
+    {
+        match self.thing_of(operand) {
+            Thing::Block(entry) => {
+                if is_void(entry.block) {
+                    Some(root_place(&operand.root, operand.place))
+                } else {
+                    None
+                }
+            }
+            Thing::Part(_) => None,
+            Thing::Constant(_) => None,
+            Thing::NoName(_) => None,
+            Thing::NoArray(_) => None,
+            Thing::ADate(_) => None,
+            Thing::Untold => None,
+        }
+    }
+
+    /// The name in an operand that an expression reads, where it isn't declared.
+    pub(crate) fn missing_place(&self, e: &Expr) -> Option<Place>
+        ensures { let scope = scope_of self.now in result ≡ option_and_then
+            (λ o. name_at (things.thing_of scope o)) (parts.operand_of (expr_tree e.now)) }
+    {
+        match operand_of(e) {
+            Some(operand) => self.missing_name(operand),
+            None => None,
+        }
+    }
+
+    /// The name of a function without a value that an expression reads.
+    pub(crate) fn void_place(&self, e: &Expr) -> Option<Place>
+        ensures { result ≡ option_and_then (void_at (scope_of self.now))
+            (parts.operand_of (expr_tree e.now)) }
+    {
+        match operand_of(e) {
+            Some(operand) => self.void_name(operand),
+            None => None,
+        }
+    }
+}

@@ -1,0 +1,2 @@
+//! Declarations whose breaches were worked out by hand from the rules of the language.
+mod declared;

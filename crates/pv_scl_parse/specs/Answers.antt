@@ -1,0 +1,35 @@
+-- What reading a text of SCL answers.
+use Rattle.std.specs.Prelude.{◌≡◌, ℕ, List, Result, Ok, Err}
+use Rattle.pv_machine.specs.declared.place.Place.{Place}
+use Rattle.pv_lex.specs.declared.token.Token.{Token}
+use Rattle.pv_lex.specs.declared.token.Language.TheVariants.{Scl}
+use Rattle.pv_tree.specs.declared.expr.Expr.{Expr}
+use Rattle.pv_tree.specs.Tree.{ExprTree}
+use Rattle.pv_tree.specs.View.{expr_tree}
+use Rattle.pv_tree.specs.Lexemes.{Lexeme, lexeme_of, lexemes_of}
+use Rattle.pv_tree.specs.Outside.{IsFirstOutside, IsWithin}
+use Rattle.pv_tree.specs.Reading.{AreEnded, ReadAsExpression, IsSyntaxFaultAt}
+use Rattle.pv_scl_parse.specs.declared.fault.ParseFault.{ParseFault}
+use Rattle.pv_scl_parse.specs.declared.fault.ParseFault.TheVariants.{Outside, Syntax, NoMemory}
+
+-- no word is outside the profile, and the tokens before the end read as this expression and as no other
+pub record IsOnlyExpression (tokens : List Lexeme) (tree : ExprTree) : Type 0 where
+  pub inner : List Lexeme
+  pub ended : AreEnded inner tokens
+  pub within : IsWithin Scl tokens
+  pub read : ReadAsExpression tree inner
+  pub only : (other : ExprTree) → ReadAsExpression other inner → other ≡ tree
+
+-- the first token outside the profile
+pub record IsOutsideAt (text : List ℕ) (tokens : List Token) (place : Place) (len : ℕ) : Type 0 where
+  pub token : Token
+  pub first : IsFirstOutside Scl (lexemes_of text tokens) (lexeme_of text token)
+  pub placed : place ≡ token.place
+  pub long : len ≡ token.len
+
+abbrev pub AnswersExpression : List ℕ → List Token → Result Expr ParseFault → Type 0
+AnswersExpression text tokens (Ok e) = IsOnlyExpression (lexemes_of text tokens) (expr_tree e)
+AnswersExpression text tokens (Err (Outside place len)) = IsOutsideAt text tokens place len
+AnswersExpression text tokens (Err (Syntax place)) =
+    IsSyntaxFaultAt ReadAsExpression Scl (lexemes_of text tokens) place
+AnswersExpression text tokens (Err NoMemory) = Unit {0}
