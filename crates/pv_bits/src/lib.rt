@@ -19,6 +19,3 @@ pub use overflow::{difference_overflow, product_overflow, sum_overflow};
 pub use product::multiply;
 pub use quotient::divide;
 pub use sum::{adder, subtract};
-
-#[cfg(test)]
-mod tests;

@@ -2,3 +2,10 @@ mod Each
 mod Looking
 mod OverMaps
 mod LeastStrays
+mod AddressLaws
+mod SymbolLaws
+mod Made
+mod ExactLaws
+mod OneCase
+mod Numbers
+mod Answering

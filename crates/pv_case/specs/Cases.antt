@@ -15,6 +15,7 @@ use Rattle.pv_case.specs.declared.case.Source.{Source}
 use Rattle.pv_case.specs.declared.case.Bound.{Bound}
 use Rattle.pv_case.specs.declared.case.Symbol.{Symbol}
 use Rattle.pv_case.specs.declared.case.PatternKind.{PatternKind}
+use Rattle.pv_case.specs.declared.case.Limits.{Limits}
 use Rattle.pv_case.specs.declared.case.Reductions.{Reductions}
 use Rattle.pv_case.specs.declared.fault.Kind.{Kind}
 use Rattle.pv_case.specs.Members.{items_at, pairs_at, text_at, text_in, integer_of, integer_at, is_object}
@@ -42,10 +43,7 @@ pub record CaseData : Type 0 where
   pub symbols : List SymbolData
   pub kind : PatternKind
   pub expressions : List (List ℕ)
-  pub loop_bound : ℤ
-  pub depth : ℤ
-  pub lemmas : ℤ
-  pub region_words : ℤ
+  pub limits : Limits
   pub reductions : Reductions
   pub certificate : Option (List ℕ)
 
@@ -87,6 +85,13 @@ AreSymbols (p ∷ pairs) (s ∷ symbols) = IsSymbolOf p s × AreSymbols pairs sy
 abbrev pub expressions_in : Data → List (List ℕ)
 expressions_in v = filter_map (text_at v) expression_names
 
+-- the value's pattern is of this kind and has these expressions
+pub record IsPatternOf (d : Data) (kind : PatternKind) (expressions : List (List ℕ)) : Type 0 where
+  pub value : Data
+  pub there : get (codes "pattern") d ≡ Some value
+  pub of_kind : kind_named (text_in value (codes "kind")) ≡ Some kind
+  pub are : expressions ≡ expressions_in value
+
 -- all three reductions where the case doesn't say, else those that it names
 abbrev pub names_reduction : Option (List Data) → List ℕ → Bool
 names_reduction None name = true
@@ -103,6 +108,13 @@ reductions_in d =
 abbrev pub number_in : Data → List ℕ → ℤ
 number_in d key = unwrap_or (integer_at d key) (pos 0)
 
+-- the limits that the value has
+pub record HasLimits (d : Data) (limits : Limits) : Type 0 where
+  pub loop_bound : pos limits.loop_bound ≡ number_in d (codes "loopBound")
+  pub depth : pos limits.depth ≡ number_in d (codes "depth")
+  pub lemmas : pos limits.lemmas ≡ number_in d (codes "lemmas")
+  pub region_words : pos limits.region_words ≡ number_in d (codes "regionWords")
+
 -- what the value says, where it keeps all rules
 pub record Says (d : Data) (case : CaseData) : Type 0 where
   pub name : case.name ≡ text_in d (codes "name")
@@ -111,12 +123,8 @@ pub record Says (d : Data) (case : CaseData) : Type 0 where
   pub params : case.params ≡ map text_of (unwrap_or (items_at d (codes "params")) [])
   pub bind : case.bind ≡ map bound_of (unwrap_or (pairs_at d (codes "bind")) [])
   pub symbols : AreSymbols (unwrap_or (pairs_at d (codes "symbols")) []) case.symbols
-  pub pattern : (v : Data) × (get (codes "pattern") d ≡ Some v)
-      × (kind_named (text_in v (codes "kind")) ≡ Some case.kind) × (case.expressions ≡ expressions_in v)
-  pub loop_bound : case.loop_bound ≡ number_in d (codes "loopBound")
-  pub depth : case.depth ≡ number_in d (codes "depth")
-  pub lemmas : case.lemmas ≡ number_in d (codes "lemmas")
-  pub region_words : case.region_words ≡ number_in d (codes "regionWords")
+  pub pattern : IsPatternOf d case.kind case.expressions
+  pub limits : HasLimits d case.limits
   pub reductions : case.reductions ≡ reductions_in d
   pub certificate : case.certificate ≡ text_at d (codes "certificate")
 
@@ -166,10 +174,7 @@ data_of case =
       symbols = map symbol_data case.symbols.items;
       kind = case.pattern.kind;
       expressions = map string_bytes case.pattern.expressions.items;
-      loop_bound = pos case.limits.loop_bound;
-      depth = pos case.limits.depth;
-      lemmas = pos case.limits.lemmas;
-      region_words = pos case.limits.region_words;
+      limits = case.limits;
       reductions = case.reductions;
       certificate = option_map string_bytes case.certificate;
     }

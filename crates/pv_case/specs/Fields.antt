@@ -145,7 +145,7 @@ abbrev pub symbols_behind : List (List ℕ) → List (List ℕ × Data) → Chec
 symbols_behind earlier [] = passed
 symbols_behind earlier (p ∷ more) =
     must (IsSymbol earlier p.0 (text_in p.1 (codes "at")) (text_in p.1 (codes "type"))) BadSymbol p.0
-    ⨾ symbols_behind (symbol_key p.0 ∷ earlier) more
+    ⨾ symbols_behind (earlier ++ symbol_key p.0 ∷ []) more
 
 -- each symbol's operand reads and suits its type, and no two have one name
 abbrev pub good_symbols : Data → Checks
@@ -291,7 +291,3 @@ last_checks d = pattern d ⨾ limits d ⨾ reduce d ⨾ certificate d ⨾ known 
 
 abbrev pub case_checks : Data → Checks
 case_checks d = first_checks d ⨾ input_checks d ⨾ good_symbols d ⨾ last_checks d
-
--- all that is asked of the members, but not whether the symbols are good
-abbrev pub member_checks : Data → Checks
-member_checks d = first_checks d ⨾ input_checks d ⨾ last_checks d

@@ -13,6 +13,7 @@ use Rattle.pv_tree.specs.Tree.{OperandTree, operand, no_steps}
 use Rattle.pv_tree.specs.Lexemes.{lexeme_of}
 use Rattle.pv_tree.specs.Literals.{IsAddress}
 use Rattle.pv_tree.specs.Things.{is_address}
+use Rattle.pv_case.specs.Members.{is_short}
 
 -- a symbol's name without regard to case
 abbrev pub symbol_key : List ℕ → List ℕ
@@ -29,8 +30,9 @@ type_of_width bits text =
     else (if bytes_eq text (codes "DINT") && (bits == 32) then Some Dint
     else (if bytes_eq text (codes "TIME") && (bits == 32) then Some Time else None))))))
 
--- the text is one address, with dropped text around it or not, and there is such an address
+-- the text, no longer than a case's texts may be, is one address, with dropped text around it or not, and there is such an address
 pub record IsAddressText (text : List ℕ) (area : Area) (bits byte bit : ℕ) (place : Place) : Type 0 where
+  pub short : IsTrue (is_short text)
   pub token : Token
   pub last : Token
   pub cut : AreTokens Scl 0 text (token ∷ last ∷ [])

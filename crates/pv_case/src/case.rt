@@ -77,11 +77,11 @@ pub enum PatternKind {
 #[derive(Clone, Copy, Debug, PartialEq, Eq)]
 pub struct Limits {
     /// How often a loop may turn in one scan, 1 to 256.
-    pub loop_bound: u64,
+    pub loop_bound: u32,
     /// The deepest query, 0 to 64.
-    pub depth: u64,
+    pub depth: u32,
     /// How many lemmas a query may learn, 1 to 10,000,000.
-    pub lemmas: u64,
+    pub lemmas: u32,
     /// The words of the solver's region, 16 to 250,000,000.
     pub region_words: u64,
 }
@@ -104,13 +104,13 @@ pub const MAX_NAME: usize = 64;
 pub const MAX_SOURCES: usize = 64;
 
 /// The most turns that a case lets a loop take.
-pub const MAX_LOOP_BOUND: u64 = 256;
+pub const MAX_LOOP_BOUND: u32 = 256;
 
 /// The deepest query that a case may ask.
-pub const MAX_DEPTH: u64 = 64;
+pub const MAX_DEPTH: u32 = 64;
 
 /// The most lemmas that a case lets a query learn.
-pub const MAX_LEMMAS: u64 = 10_000_000;
+pub const MAX_LEMMAS: u32 = 10_000_000;
 
 /// The fewest words that a case may give the solver's region, and the most.
 pub const MIN_REGION_WORDS: u64 = 16;

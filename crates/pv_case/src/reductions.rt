@@ -56,7 +56,7 @@ fn reductions_lie(items: &[Value]) -> Result<(), Breach<'static>>
     Ok(())
 }
 
-fn is_text(i: &Value, name: &str) -> bool
+pub(crate) fn is_text(i: &Value, name: &str) -> bool
     ensures { result ≡ bytes_eq (text_of (view i.now)) name.now }
 {
     text_of(i) == name

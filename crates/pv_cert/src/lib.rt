@@ -23,6 +23,3 @@ pub use proof::{Chain, Proof, Query};
 pub use reader::read;
 pub use trace::{CellValues, Ending, ScanInputs, Trace};
 pub use writer::write;
-
-#[cfg(test)]
-mod tests;

@@ -15,6 +15,3 @@ pub use dimacs::{text_determines_clauses, to_dimacs};
 pub use formula::Formula;
 pub use literal::flip;
 pub use value::holds;
-
-#[cfg(test)]
-mod tests;

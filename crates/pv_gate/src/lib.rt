@@ -11,8 +11,6 @@ mod literals;
 mod netlist;
 mod operations;
 mod sharing;
-#[cfg(test)]
-mod tests;
 
 pub use fault::GateFault;
 pub use literals::Literals;

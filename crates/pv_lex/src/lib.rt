@@ -26,6 +26,3 @@ pub use laws::{
 pub use lex::{MAX_SOURCE, tokens};
 pub use pv_machine::Place;
 pub use token::{Kind, Language, Token};
-
-#[cfg(test)]
-mod tests;

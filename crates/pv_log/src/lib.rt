@@ -27,6 +27,3 @@ pub use numbers::Numbers;
 pub use read::read_line;
 pub use view::{Log, LogView};
 pub use write::write_line;
-
-#[cfg(test)]
-mod tests;

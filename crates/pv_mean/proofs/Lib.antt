@@ -6,6 +6,13 @@ pub mod VisibleCells
 pub mod Images
 pub mod Runs
 pub mod Passing
+pub mod Capping
+pub mod Visits
+pub mod Searches
+pub mod Countings
+pub mod TypeTables
+pub mod DataStarts
+pub mod LaidVariables
 pub mod Fuel
 pub mod Steps
 pub mod Divisions
@@ -14,3 +21,4 @@ pub mod CalledBlocks
 pub mod Tables
 pub mod Changes
 pub mod VisibleParts
+pub mod ForCallers

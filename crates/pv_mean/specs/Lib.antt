@@ -16,3 +16,9 @@ pub mod Doings
 pub mod Chains
 pub mod Correct
 pub mod Paths
+pub mod Counts
+pub mod ProjectSizes
+pub mod Sized
+pub mod LaidOut
+-- what private clauses cite
+pub mod Visits

@@ -4,11 +4,21 @@
 #![tactic(auto)]
 
 mod cell;
+mod count;
+mod data_blocks;
+mod known;
+mod laid;
 pub mod laws;
 mod lookup;
+mod sizes;
+mod sizing;
 pub mod step_laws;
+mod types;
 mod view;
 
 pub use cell::Cell;
+pub use count::BEYOND;
+pub use laid::{Laid, Part, activation_part};
 pub use lookup::find;
+pub use sizes::Sizes;
 pub use view::{CaseView, set_params};

@@ -31,7 +31,7 @@ either_part [] rest k x e = inr (k, e)
 either_part (y ∷ front) rest zero x e = inl e
 either_part (y ∷ front) rest (suc k) x e = either_part front rest k x e
 
-holds_at : {X : Type 0} (test : X → Bool) (xs : List X) (k : ℕ) (x : X) → list_all test xs ≡ true → slice_get xs k ≡ Some x → test x ≡ true
+pub holds_at : {X : Type 0} (test : X → Bool) (xs : List X) (k : ℕ) (x : X) → list_all test xs ≡ true → slice_get xs k ≡ Some x → test x ≡ true
 holds_at test [] k x h e = absurd (cc (e))
 holds_at test (y ∷ xs) zero x h e =
     let same : y ≡ x = cc (e) in
@@ -52,7 +52,7 @@ inside_name front kinds n k ss body u v w p x y e = record {
 }
 
 -- a name of the front has its productions there alone
-own_production : (front rest : Grammar) (names kinds k n : ℕ) (body : List Symbol) → list_all (λ (p : Production). nat_le names p.name) rest ≡ true
+pub own_production : (front rest : Grammar) (names kinds k n : ℕ) (body : List Symbol) → list_all (λ (p : Production). nat_le names p.name) rest ≡ true
     → nat_lt n names ≡ true → IsProduction (front ++ rest) k n body → IsProduction front k n body
 own_production front rest names kinds k n body apart below p =
     elim (either_part front rest k (n ⟶ body) p) [

@@ -5,6 +5,9 @@ pub use Rattle.pv_parse.proofs.CaseBlind.{small, same-small, small-same, small-t
 pub use Rattle.pv_parse.proofs.KindSteps.{kinds-append}
 pub use Rattle.pv_parse.proofs.Sound.{AreSound, tokens-sound, have-kinds}
 pub use Rattle.pv_parse.proofs.Witnesses.{witness-of}
+-- the address that a token says
+pub use Rattle.pv_parse.proofs.TokenKinds.{area}
+pub use Rattle.pv_parse.proofs.OperatorTexts.{letter_of}
 -- from a kind to what spells it: one word or sign
 pub use Rattle.pv_parse.proofs.KindSpelled.{SaidBy, one-or, one-of-none, only-one, by-words, by-signs, is-assign, is-arrow, is-dots, is-paren-open, is-paren-close, is-bracket-open, is-bracket-close, is-colon, is-semicolon, is-comma, is-dot, is-hash, is-plus, is-minus, is-equals, is-unequal, is-in-word, is-in0-word, is-in1-word, is-in2-word, is-mn-word, is-mx-word, is-g-word, is-n-word, is-mod-word, is-xor-word, is-or-word, is-not-word, is-limit-function, is-sel-function, is-date-and-time, is-void-word, is-array-word, is-of-word, is-struct-word, is-end-struct, is-end-var, is-const-word, is-end-const, is-begin-word, is-function-block, is-end-function-block, is-function-word, is-end-function, is-organization-block, is-end-organization-block, is-data-block, is-end-data-block, is-type-word, is-end-type, is-if-word, is-then-word, is-elsif-word, is-else-word, is-end-if, is-case-word, is-end-case, is-for-word, is-to-word, is-by-word, is-do-word, is-end-for, is-while-word, is-end-while, is-repeat-word, is-until-word, is-end-repeat, is-network-word, is-call-word, is-uc-word, is-or-op, is-compare-sign, is-truth, is-two-function, is-shift-function, is-section-word, is-single-word, is-times, is-and-word, is-number-prefix, is-one-function, is-bit-op, is-value-op, is-free-op, is-stl-sign, is-simple-type}
 -- names, numbers and addresses, pairs and functions

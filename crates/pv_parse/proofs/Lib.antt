@@ -8,6 +8,12 @@ mod KindOf
 mod KindPairs
 pub mod FunctionTables
 pub mod Taking
+pub mod Merging
+pub mod Popped
+pub mod Marks
+pub mod ExprMarks
+pub mod Following
+pub mod ExprFollows
 pub mod Sorts
 pub mod Forms
 pub mod FunctionTexts
@@ -25,6 +31,7 @@ pub mod Shapes
 pub mod ExprSound
 pub mod Closed
 pub mod Readings
+pub mod Shading
 pub mod Answering
 mod Sound
 mod Witnesses

@@ -53,6 +53,11 @@ abbrev pub kinded : Bool → List Lexeme → List Kinded
 kinded marked [] = []
 kinded marked (t ∷ others) = record { lexeme = t; kind = kind_of marked t } ∷ kinded (marks t) others
 
--- the making of trees by these actions
+-- the making of values by these actions, of which a token's value hangs on the token alone
+abbrev pub kinded_making : {V : Type 0} → (Lexeme → V) → (ℕ → List V → Option (List V))
+    → Making Kinded V
+kinded_making leaf reduce = record { kind = λ t. t.kind; leaf = λ t. leaf t.lexeme; reduce = reduce }
+
+-- that of trees
 abbrev pub making : List Action → Making Kinded ItemTree
-making actions = record { kind = λ t. t.kind; leaf = λ t. token t.lexeme; reduce = reduce_by actions }
+making actions = kinded_making token (reduce_by actions)

@@ -80,11 +80,11 @@ Finds view (Ok x) found = found ≡ Some (view x)
 Finds view (Err e) found = Missed e found
 
 -- what was taken off the stack, and what is left there
-abbrev pub Pops : {X Y : Type 0} → (X → Y) → Result X Stop → Stack → Option (Y × Stack) → Type 0
+abbrev pub Pops : {X Y S : Type 0} → (X → Y) → Result X Stop → S → Option (Y × S) → Type 0
 Pops view (Ok x) left found = found ≡ Some (view x, left)
 Pops view (Err e) left found = Missed e found
 
 -- what an action leaves on the stack
-abbrev pub Leaves : Result Unit Stop → Stack → Option Stack → Type 0
+abbrev pub Leaves : {S : Type 0} → Result Unit Stop → S → Option S → Type 0
 Leaves (Ok _) left found = found ≡ Some left
 Leaves (Err e) left found = Missed e found

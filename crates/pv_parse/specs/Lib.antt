@@ -11,6 +11,10 @@ pub mod TokenTexts
 pub mod Items
 pub mod ExprDeeds
 pub mod Deeds
+pub mod Shades
+pub mod ExprShades
+pub mod ItemShades
 pub mod Building
 pub mod ExprAnswers
+pub mod InOrder
 pub mod Roles

@@ -35,7 +35,7 @@ fn sliced<'a>(text: &'a [u8], token: &Token) -> Sliced<'a>
 }
 
 /// The action of the alternative with this number.
-fn action_at(actions: &[Action], k: u16) -> Action
+pub fn action_at(actions: &[Action], k: u16) -> Action
     ensures { result ≡ slice_index_or actions.now k Action.Keep }
 {
     actions.get(k as usize).copied().unwrap_or(Action::Keep)
@@ -60,7 +60,7 @@ fn take<'a, 'b>(
     tokens: &'b [Token],
     stack: &mut Vec<Item<'a>>,
 ) -> Result<&'b [Token], Stop>
-    ensures { Taken (λ left. lexemes_of text.now left.now) actions.now step result
+    ensures { Taken (λ left. lexemes_of text.now left.now) (making actions.now) step result
         (lexemes_of text.now tokens.now) (stack_of stack.old) (stack_of stack.new) }
 {
     match step {
@@ -92,7 +92,7 @@ pub fn build<'a>(
     ensures { (behind : Stack) → Leftmost (grammar_of language.now) trace.now (Symbol.Name language.now.start ∷ [])
         (kinds_of false (lexemes_of text.now tokens.now))
         → Runs (grammar_of language.now) (making actions.now) (Symbol.Name language.now.start ∷ [])
-        (kinded false (lexemes_of text.now tokens.now)) [] behind → Built result behind }
+        (kinded false (lexemes_of text.now tokens.now)) [] behind → Built stack_of result behind }
 {
     let mut walk = Walk::new(alloc, language, trace)?;
     let mut stack = Vec::new(alloc);

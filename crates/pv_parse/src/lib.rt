@@ -4,8 +4,11 @@
 
 mod action;
 mod builder;
+mod depth;
 mod entries;
+mod expr_shades;
 mod expressions;
+mod fault;
 mod item;
 mod kind;
 mod laws;
@@ -14,17 +17,19 @@ mod numbers;
 mod outside;
 mod reading;
 mod role;
+mod shade;
 mod spot;
 mod stack;
-#[cfg(test)]
-mod tests;
 mod texts;
 mod token_kinds;
 
 pub use action::{Action, ExprAction};
 pub use builder::build;
+pub use depth::find_too_deep;
+pub use fault::{ParseFault, ReadFault};
 pub use item::{Item, Sliced};
 pub use laws::{fronts_have_front_kinds, kinds_have_witnesses, tokens_have_kinds};
+pub use numbers::area_of;
 pub use outside::first_outside;
 pub use reading::read_expression;
 pub use stack::Stop;

@@ -6,4 +6,6 @@ mod commands;
 #[cfg(test)]
 mod gates;
 #[cfg(test)]
+mod pattern_rows;
+#[cfg(test)]
 mod readers;

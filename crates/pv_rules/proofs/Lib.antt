@@ -10,7 +10,17 @@ mod Steps
 mod Looking
 mod Misapplying
 mod NearParts
+mod NearestLists
 mod NearReads
+mod IndexWalks
+mod StartWalks
+mod NearStarts
+mod NearPieces
+mod NearIndexes
+mod PatternBreaches
+mod Entering
+mod ProjectFirst
+pub mod PartsAppended
 pub mod Nearing
 pub mod Marking
 pub mod Searching

@@ -23,7 +23,7 @@ pub nearest_same : (A B : Place → Type 0) (o : Option Place) → ((at : Place)
 nearest_same A B None to from h = λ at b. h at (from at b)
 nearest_same A B (Some a) to from h = (to a h.0, λ at b. h.1 at (from at b))
 
-nearest_both : (A B : Place → Type 0) (x y : Option Place) → IsNearest A x → IsNearest B y → IsNearest (λ at. A at ⊎ B at) (nearer_of x y)
+pub nearest_both : (A B : Place → Type 0) (x y : Option Place) → IsNearest A x → IsNearest B y → IsNearest (λ at. A at ⊎ B at) (nearer_of x y)
 nearest_both A B None None h g = λ at e. elim e [ inl a ↦ h at a | inr b ↦ g at b ]
 nearest_both A B None (Some y) h g = (inr g.0, λ at e. elim e [ inl a ↦ absurd (h at a) | inr b ↦ g.1 at b ])
 nearest_both A B (Some x) None h g = (inl h.0, λ at e. elim e [ inl a ↦ h.1 at a | inr b ↦ absurd (g at b) ])
@@ -46,7 +46,7 @@ written_from : (want : Want) (o : Option Written) → IsWrittenOutside want o �
 written_from want None h = absurd h
 written_from want (Some w) h = h
 
-outside_nearest : (p : Part) → IsNearest (λ at. IsPartOutside at p) (outside p.want p.expr)
+pub outside_nearest : (p : Part) → IsNearest (λ at. IsPartOutside at p) (outside p.want p.expr)
 outside_nearest p =
     nearest_same (λ at. (first_place p.expr ≡ at) × IsTrue (is_written_outside p.want (literal_of p.expr))) (λ at. IsPartOutside at p)
     (outside p.want p.expr)
@@ -54,7 +54,7 @@ outside_nearest p =
     (λ at h. (h.0, written_from p.want (literal_of p.expr) h.1))
     (nearest_where (is_written_outside p.want (literal_of p.expr)) (first_place p.expr))
 
-misapplied_nearest : (scope : Scope) (e : ExprTree) → IsNearest (λ at. Misapplies scope at e) (misapplied scope e)
+pub misapplied_nearest : (scope : Scope) (e : ExprTree) → IsNearest (λ at. Misapplies scope at e) (misapplied scope e)
 misapplied_nearest scope (lit ty value place) = λ at h. h
 misapplied_nearest scope (read o) = λ at h. h
 misapplied_nearest scope (unary op place arg) = nearest_where _ place
@@ -63,7 +63,7 @@ misapplied_nearest scope (std function place args) = nearest_where _ place
 misapplied_nearest scope (paren place inner) = λ at h. h
 
 -- all parts
-near_all : (what : Look) (scope : Scope) (P : Part → Place → Type 0) → ((p : Part) → IsNearest (P p) (part_place what scope p.want p.expr))
+pub near_all : (what : Look) (scope : Scope) (P : Part → Place → Type 0) → ((p : Part) → IsNearest (P p) (part_place what scope p.want p.expr))
     → (A : Place → Type 0) (ps : List Part) (n : Option Place) → IsNearest A n
     → IsNearest (λ at. A at ⊎ HasSome (λ p. P p at) ps) (near_parts what scope ps n)
 near_all what scope P one A [] n h =

@@ -20,47 +20,47 @@ use Rattle.pv_rules.proofs.NearParts.{nearest_same, nearest_where, near_any}
 
 -- ---- lists
 
-appended_to : {X : Type 0} (Q : X → Type 0) (xs ys : List X) → HasSome Q xs ⊎ HasSome Q ys → HasSome Q (xs ++ ys)
+pub appended_to : {X : Type 0} (Q : X → Type 0) (xs ys : List X) → HasSome Q xs ⊎ HasSome Q ys → HasSome Q (xs ++ ys)
 appended_to Q [] ys (inl h) = absurd h
 appended_to Q [] ys (inr h) = h
 appended_to Q (x ∷ xs) ys (inl (inl q)) = inl q
 appended_to Q (x ∷ xs) ys (inl (inr h)) = inr (appended_to Q xs ys (inl h))
 appended_to Q (x ∷ xs) ys (inr h) = inr (appended_to Q xs ys (inr h))
 
-appended_from : {X : Type 0} (Q : X → Type 0) (xs ys : List X) → HasSome Q (xs ++ ys) → HasSome Q xs ⊎ HasSome Q ys
+pub appended_from : {X : Type 0} (Q : X → Type 0) (xs ys : List X) → HasSome Q (xs ++ ys) → HasSome Q xs ⊎ HasSome Q ys
 appended_from Q [] ys h = inr h
 appended_from Q (x ∷ xs) ys (inl q) = inl (inl q)
 appended_from Q (x ∷ xs) ys (inr h) = elim (appended_from Q xs ys h) [ inl g ↦ inl (inr g) | inr g ↦ inr g ]
 
-reads_to : (Q : OperandTree → Type 0) (ps : List Part) → HasSome (λ p. HasSome Q (operands_read p.expr)) ps → HasSome Q (reads_of_parts ps)
+pub reads_to : (Q : OperandTree → Type 0) (ps : List Part) → HasSome (λ p. HasSome Q (operands_read p.expr)) ps → HasSome Q (reads_of_parts ps)
 reads_to Q [] h = h
 reads_to Q (p ∷ ps) (inl h) = appended_to Q (operands_read p.expr) (reads_of_parts ps) (inl h)
 reads_to Q (p ∷ ps) (inr h) = appended_to Q (operands_read p.expr) (reads_of_parts ps) (inr (reads_to Q ps h))
 
-reads_from : (Q : OperandTree → Type 0) (ps : List Part) → HasSome Q (reads_of_parts ps) → HasSome (λ p. HasSome Q (operands_read p.expr)) ps
+pub reads_from : (Q : OperandTree → Type 0) (ps : List Part) → HasSome Q (reads_of_parts ps) → HasSome (λ p. HasSome Q (operands_read p.expr)) ps
 reads_from Q [] h = h
 reads_from Q (p ∷ ps) h = elim (appended_from Q (operands_read p.expr) (reads_of_parts ps) h) [ inl g ↦ inl g | inr g ↦ inr (reads_from Q ps g) ]
 
-mapped_to : {X Y : Type 0} (Q : Y → Type 0) (f : X → Y) (xs : List X) → HasSome (λ x. Q (f x)) xs → HasSome Q (map f xs)
+pub mapped_to : {X Y : Type 0} (Q : Y → Type 0) (f : X → Y) (xs : List X) → HasSome (λ x. Q (f x)) xs → HasSome Q (map f xs)
 mapped_to Q f [] h = h
 mapped_to Q f (x ∷ xs) (inl q) = inl q
 mapped_to Q f (x ∷ xs) (inr h) = inr (mapped_to Q f xs h)
 
-mapped_from : {X Y : Type 0} (Q : Y → Type 0) (f : X → Y) (xs : List X) → HasSome Q (map f xs) → HasSome (λ x. Q (f x)) xs
+pub mapped_from : {X Y : Type 0} (Q : Y → Type 0) (f : X → Y) (xs : List X) → HasSome Q (map f xs) → HasSome (λ x. Q (f x)) xs
 mapped_from Q f [] h = h
 mapped_from Q f (x ∷ xs) (inl q) = inl q
 mapped_from Q f (x ∷ xs) (inr h) = inr (mapped_from Q f xs h)
 
 -- ---- operands
 
-of_option : (Q : Place → OperandTree → Type 0) (f : OperandTree → Option Place) → ((o : OperandTree) → IsNearest (λ at. Q at o) (f o))
+pub of_option : (Q : Place → OperandTree → Type 0) (f : OperandTree → Option Place) → ((o : OperandTree) → IsNearest (λ at. Q at o) (f o))
     → (x : Option OperandTree) → IsNearest (λ at. HasSome (Q at) (option_to_list x)) (option_and_then f x)
 of_option Q f one None = λ at h. h
 of_option Q f one (Some o) =
     nearest_same (λ at. Q at o) (λ at. Q at o ⊎ ⊥) (f o) (λ at q. inl q) (λ at e. elim e [ inl q ↦ q | inr b ↦ absurd b ]) (one o)
 
 -- what is nearest over parts is nearest over the operands that they read
-over_reads : (what : Look) (scope : Scope) (Q : Place → OperandTree → Type 0)
+pub over_reads : (what : Look) (scope : Scope) (Q : Place → OperandTree → Type 0)
     → ((p : Part) → IsNearest (λ at. HasSome (Q at) (operands_read p.expr)) (part_place what scope p.want p.expr))
     → (ps : List Part) → IsNearest (λ at. HasSome (Q at) (reads_of_parts ps)) (near_parts what scope ps None)
 over_reads what scope Q one ps =
@@ -78,7 +78,7 @@ has_name t = is_some (name_at t)
 no_other : (t : Thing) (at : Place) → has_name t ≡ false → t ≡ no_name at → ⊥
 no_other t at isnt is = true≢false (sym (ap has_name is) ∙ isnt)
 
-name_nearest : (t : Thing) → IsNearest (λ at. t ≡ no_name at) (name_at t)
+pub name_nearest : (t : Thing) → IsNearest (λ at. t ≡ no_name at) (name_at t)
 name_nearest (part ty) = λ at. no_other (part ty) at refl
 name_nearest (constant ty) = λ at. no_other (constant ty) at refl
 name_nearest (a_block b) = λ at. no_other (a_block b) at refl
@@ -107,7 +107,7 @@ missing_name_parts scope ps o is =
 
 -- ---- values that aren't there, and addresses
 
-void_nearest : (scope : Scope) (o : OperandTree) → IsNearest (λ at. ReadsVoid scope at o) (void_at scope o)
+pub void_nearest : (scope : Scope) (o : OperandTree) → IsNearest (λ at. ReadsVoid scope at o) (void_at scope o)
 void_nearest scope (operand root more place) =
     nearest_where (is_void_thing (thing_of scope (operand root more place))) (root_place root place)
 
@@ -125,7 +125,7 @@ not_callable_parts scope ps o is =
 abbrev IsWrongAt : Place → OperandTree → Type 0
 IsWrongAt at o = (place_of_operand o ≡ at) × IsTrue (is_wrong_operand o)
 
-address_nearest : (o : OperandTree) → IsNearest (λ at. IsWrongAt at o) (address_at o)
+pub address_nearest : (o : OperandTree) → IsNearest (λ at. IsWrongAt at o) (address_at o)
 address_nearest o = nearest_where (is_wrong_operand o) (place_of_operand o)
 
 pub wrong_address_parts : (scope : Scope) (ps : List Part) (o : Option Place) → o ≡ near_parts look.Address scope ps None

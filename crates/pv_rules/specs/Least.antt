@@ -1,32 +1,25 @@
 -- The first breach: the least place, by the source's number and then the offset, and of the rules broken there the least.
-use Rattle.std.specs.Prelude.{◌≡◌, ◌⊎◌, ℕ, nat_lt, nat_eq, nat_le, Bool as Truth, ◌&&◌, ◌||◌, if◌then◌else◌, Option, Some, None, List, [], ◌∷◌, IsTrue}
+use Rattle.std.specs.Prelude.{◌≡◌, ◌⊎◌, Bool as Truth, if◌then◌else◌, Option, Some, None, List, [], ◌∷◌, IsTrue}
 use Rattle.pv_machine.specs.declared.place.Place.{Place}
 use Rattle.pv_tree.specs.Rules as tree
+pub use Rattle.pv_tree.specs.Least.{Breaches, IsLeast}
+use Rattle.pv_tree.specs.Least as least_breach
 use Rattle.pv_rules.specs.Names.{rule_of}
 use Rattle.pv_rules.specs.declared.fault.Breach.{Breach}
 use Rattle.pv_rules.specs.declared.fault.Rule.{Rule}
-
--- what is broken where
-abbrev pub Breaches : Type 1
-Breaches = tree.Rule → Place → Type 0
-
--- a place before another, or the same one and no later number
-abbrev pub is_up_to_at : ℕ → Place → ℕ → Place → Truth
-is_up_to_at m a n b =
-    nat_lt a.file b.file || (nat_eq a.file b.file && (nat_lt a.offset b.offset
-    || (nat_eq a.offset b.offset && nat_le m n)))
+use Rattle.pv_rules.specs.declared.least.Found.{Found}
+use Rattle.pv_rules.specs.Graphs.{HasSome}
+use Rattle.pv_rules.specs.Nearest.{IsNearest}
 
 -- a comes before b, or is the same
 abbrev pub is_up_to : Breach → Breach → Truth
-is_up_to a b = is_up_to_at (tree.number_of (rule_of a.rule)) a.place (tree.number_of
+is_up_to a b = least_breach.is_up_to (tree.number_of (rule_of a.rule)) a.place (tree.number_of
     (rule_of b.rule)) b.place
 
 -- the first of those that are broken, or none is
 abbrev pub IsFirst : Breaches → Option Breach → Type 0
 IsFirst breaks None = (rule : tree.Rule) (at : Place) → breaks rule at → ⊥
-IsFirst breaks (Some b) = breaks (rule_of b.rule) b.place × ((rule : tree.Rule) (at : Place)
-    → breaks rule at → IsTrue (is_up_to_at (tree.number_of (rule_of b.rule)) b.place
-    (tree.number_of rule) at))
+IsFirst breaks (Some b) = IsLeast breaks (rule_of b.rule) b.place
 
 -- the first of two
 abbrev pub lesser : Option Breach → Option Breach → Option Breach
@@ -38,6 +31,18 @@ lesser (Some a) (Some b) = if is_up_to a b then Some a else Some b
 abbrev pub least : List (Option Breach) → Option Breach
 least [] = None
 least (b ∷ more) = lesser b (least more)
+
+-- a rule's breach at the place, if there is one
+abbrev pub breach_at : Rule → Option Place → Option Breach
+breach_at rule None = None
+breach_at rule (Some place) = Some (record { rule = rule; place = place })
+
+abbrev pub breach_found : Found → Option Breach
+breach_found f = breach_at f.rule f.place
+
+-- one rule, broken at these places
+abbrev pub OfRule : Rule → (Place → Type 0) → Breaches
+OfRule rule breaks r at = (rule_of rule ≡ r) × breaks at
 
 -- a breach where the test says so
 abbrev pub breach_where : Truth → Rule → Place → Option Breach
@@ -51,3 +56,12 @@ BreaksWhere broken rule place r at = (rule_of rule ≡ r) × (place ≡ at) × I
 -- either breaks
 abbrev pub Either : Breaches → Breaches → Breaches
 Either a b rule at = a rule at ⊎ b rule at
+
+-- of a list of rules, each with a place or none: that is the nearest at which it is broken
+abbrev pub AreNear : Breaches → List Found → Type 0
+AreNear breaks [] = Unit {0}
+AreNear breaks (f ∷ more) = IsNearest (breaks (rule_of f.rule)) f.place × AreNear breaks more
+
+-- the rule is one of them
+abbrev pub HasRule : tree.Rule → List Found → Type 0
+HasRule rule found = HasSome (λ f. rule_of f.rule ≡ rule) found

@@ -11,8 +11,12 @@ pub mod Widest
 pub mod Literals
 pub mod Written
 pub mod Places
+pub mod NearestIn
 pub mod Operands
+pub mod Indexes
 pub mod Looks
+pub mod Patterns
+pub mod Answers
 -- what only private clauses cite
 pub mod Nearest
 pub mod Graphs
@@ -24,3 +28,5 @@ pub mod BlockLists
 pub mod TypeNumbers
 pub mod TypeNames
 pub mod Links
+pub mod Starts
+pub mod StartPieces

@@ -1,5 +1,5 @@
 -- The least of the places that break a rule.
-use Rattle.std.specs.Prelude.{◌≡◌, ◌⊎◌, nat_lt, nat_le, nat_eq, Bool as Truth, ◌&&◌, ◌||◌, Option, Some, None, IsTrue}
+use Rattle.std.specs.Prelude.{◌≡◌, ◌⊎◌, nat_lt, nat_le, nat_eq, Bool as Truth, ◌&&◌, ◌||◌, if◌then◌else◌, Option, Some, None, IsTrue}
 use Rattle.pv_machine.specs.declared.place.Place.{Place}
 
 -- a stands before b, or is the same
@@ -20,3 +20,9 @@ pub record Nears (breaks : Place → Type 0) (old new : Option Place) : Type 0 w
   pub is_one : (new ≡ old) ⊎ ((at : Place) × (new ≡ Some at) × breaks at)
   pub up_to_old : (at : Place) → old ≡ Some at → IsUpTo new at
   pub up_to_each : (at : Place) → breaks at → IsUpTo new at
+
+-- the nearer of two
+abbrev pub nearer_of : Option Place → Option Place → Option Place
+nearer_of None other = other
+nearer_of (Some a) None = Some a
+nearer_of (Some a) (Some b) = if is_before a b then Some a else Some b

@@ -1,9 +1,23 @@
 //! The first of several breaches.
-ghost use Rattle.std.specs.Prelude.{◌≡◌};
-ghost use Rattle.pv_rules.specs.Least.{is_up_to, lesser, breach_where};
+ghost use Rattle.std.specs.Prelude.{◌≡◌, map};
+ghost use Rattle.pv_rules.specs.Least.{is_up_to, lesser, least, breach_at, breach_found, breach_where};
 
 use crate::fault::{Breach, Rule};
 use pv_machine::Place;
+
+/// The nearest place at which a rule is broken, if it is.
+#[derive(Clone, Copy)]
+pub(crate) struct Found {
+    pub(crate) rule: Rule,
+    pub(crate) place: Option<Place>,
+}
+
+/// A rule with the nearest place at which it is broken.
+pub(crate) fn make_found(rule: Rule, place: Option<Place>) -> Found
+    ensures { result ≡ record { rule = rule; place = place } }
+{
+    Found { rule, place }
+}
 
 /// Whether `a` comes before `b`, or is the same.
 fn comes_first(a: &Breach, b: &Breach) -> bool
@@ -30,6 +44,26 @@ pub(crate) fn lesser(a: Option<Breach>, b: Option<Breach>) -> Option<Breach>
                 Some(other)
             }
         }
+    }
+}
+
+/// The rule's breach at the place, if there is one.
+pub(crate) fn breach_at(rule: Rule, place: Option<Place>) -> Option<Breach>
+    ensures { result ≡ breach_at rule place }
+{
+    match place {
+        Some(place) => Some(Breach { rule, place }),
+        None => None,
+    }
+}
+
+/// The first of these.
+pub(crate) fn least_of(found: &[Found]) -> Option<Breach>
+    ensures { result ≡ least (map breach_found found.now) }
+{
+    match found.split_first() {
+        Some((one, more)) => lesser(breach_at(one.rule, one.place), least_of(more)),
+        None => None,
     }
 }
 

@@ -84,7 +84,7 @@ pub(crate) fn is_literal(e: &Expr) -> bool
 }
 
 /// The type of a literal that is written with this type or none.
-fn type_of_literal(want: Want, w: Written) -> Ty
+pub(crate) fn type_of_literal(want: Want, w: Written) -> Ty
     ensures { result ≡ literals.type_of_literal (want_tree want) w.ty (number_value w.number) }
 {
     match w.ty {

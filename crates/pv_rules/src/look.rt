@@ -16,6 +16,7 @@ ghost use Rattle.pv_rules.specs.Sorts.{sort_tree, want_tree};
 ghost use Rattle.pv_rules.specs.InScope.{scope_of};
 ghost use Rattle.pv_rules.specs.Looks.{nearer_of, part_place, near_parts, first_then};
 
+use crate::indexes::{IndexFault, division_place};
 use crate::literal::{is_literal, outside_place};
 use crate::nearest::is_before;
 use crate::operand::address_place;
@@ -39,6 +40,14 @@ pub enum Look {
     Void,
     /// An address that there isn't.
     Address,
+    /// An index at what is no array or of another type, or a variable of DATE_AND_TIME.
+    Misused,
+    /// A literal index beyond the bounds.
+    Beyond,
+    /// An index that is no literal.
+    Moving,
+    /// An operator that divides.
+    Divides,
 }
 
 /// What a function wants of its first argument, and of each other.
@@ -136,6 +145,10 @@ impl<'p> Scope<'p> {
             Look::Missing => Ok(self.missing_place(e)),
             Look::Void => Ok(self.void_place(e)),
             Look::Address => Ok(address_place(e)),
+            Look::Misused => self.misused_place(alloc, e),
+            Look::Beyond => self.index_fault_place(alloc, IndexFault::Beyond, e),
+            Look::Moving => self.index_fault_place(alloc, IndexFault::Moving, e),
+            Look::Divides => Ok(division_place(e)),
         }
     }
 

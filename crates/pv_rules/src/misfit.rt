@@ -21,7 +21,7 @@ use pv_word::Ty;
 use std::alloc::{AllocError, Global};
 
 /// Whether the part is a whole array, structure, instance or block.
-fn is_whole(sort: Sort) -> bool
+pub(crate) fn is_whole(sort: Sort) -> bool
     ensures { result ≡ sorts.is_whole (sort_tree sort) }
 {
     match sort {
@@ -115,7 +115,7 @@ fn misfits_function(function: StdFunction, parts: &[Sort]) -> bool
 }
 
 /// The place, where the test passes.
-fn where_is(test: bool, place: Place) -> Option<Place>
+pub(crate) fn where_is(test: bool, place: Place) -> Option<Place>
     ensures { result ≡ place_where test place }
 {
     if test { Some(place) } else { None }

@@ -13,7 +13,7 @@ use pv_machine::Place;
 use pv_tree::{Expr, Operand, Root};
 
 /// The operand that an expression reads.
-fn operand_of(e: &Expr) -> Option<&Operand>
+pub(crate) fn operand_of(e: &Expr) -> Option<&Operand>
     ensures { option_map (λ o. operand_tree o.now) result ≡ parts.operand_of (expr_tree e.now) }
 {
     match e {

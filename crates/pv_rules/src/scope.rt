@@ -202,7 +202,7 @@ impl<'p> Scope<'p> {
     }
 
     /// The field of this name in a block: a data block has the fields of its type, or its own.
-    fn field_of_block(&self, entry: &Entry<'p>, name: &Name, place: Place) -> Thing<'p>
+    pub(crate) fn field_of_block(&self, entry: &Entry<'p>, name: &Name, place: Place) -> Thing<'p>
         ensures { thing_tree result ≡ things.field_of_kind (scope_of self.now)
             (block_of entry.now).kind (block_of entry.now).vars name.now.key place }
     {

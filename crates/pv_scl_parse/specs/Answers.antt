@@ -1,5 +1,5 @@
 -- What reading a text of SCL answers.
-use Rattle.std.specs.Prelude.{◌≡◌, ℕ, List, Result, Ok, Err}
+use Rattle.std.specs.Prelude.{◌≡◌, ◌≤◌, ℕ, List, Result, Ok, Err}
 use Rattle.pv_machine.specs.declared.place.Place.{Place}
 use Rattle.pv_lex.specs.declared.token.Token.{Token}
 use Rattle.pv_lex.specs.declared.token.Language.TheVariants.{Scl}
@@ -7,18 +7,18 @@ use Rattle.pv_tree.specs.declared.expr.Expr.{Expr}
 use Rattle.pv_tree.specs.Tree.{ExprTree}
 use Rattle.pv_tree.specs.View.{expr_tree}
 use Rattle.pv_tree.specs.Lexemes.{Lexeme, lexeme_of, lexemes_of}
-use Rattle.pv_tree.specs.Outside.{IsFirstOutside, IsWithin}
-use Rattle.pv_tree.specs.Reading.{AreEnded, ReadAsExpression, IsSyntaxFaultAt}
-use Rattle.pv_scl_parse.specs.declared.fault.ParseFault.{ParseFault}
-use Rattle.pv_scl_parse.specs.declared.fault.ParseFault.TheVariants.{Outside, Syntax, NoMemory}
+use Rattle.pv_tree.specs.Nesting.{levels, most_levels}
+use Rattle.pv_tree.specs.Outside.{IsFirstOutside}
+use Rattle.pv_tree.specs.Reading.{ReadAsExpression, IsReadExpression, IsTooDeepExpression, IsSyntaxFaultAt}
+use Rattle.pv_parse.specs.declared.fault.ParseFault.{ParseFault}
+use Rattle.pv_parse.specs.declared.fault.ParseFault.TheVariants.{Outside, Syntax, Deep, NoMemory}
 
--- no word is outside the profile, and the tokens before the end read as this expression and as no other
+-- no word is outside the profile, the tokens before the end read as this expression, which doesn't nest too deep, and as no
+-- other
 pub record IsOnlyExpression (tokens : List Lexeme) (tree : ExprTree) : Type 0 where
-  pub inner : List Lexeme
-  pub ended : AreEnded inner tokens
-  pub within : IsWithin Scl tokens
-  pub read : ReadAsExpression tree inner
-  pub only : (other : ExprTree) → ReadAsExpression other inner → other ≡ tree
+  pub reads : IsReadExpression tokens tree
+  pub only : (other : ExprTree) → ReadAsExpression other reads.inner → other ≡ tree
+  pub levels : levels tree ≤ most_levels
 
 -- the first token outside the profile
 pub record IsOutsideAt (text : List ℕ) (tokens : List Token) (place : Place) (len : ℕ) : Type 0 where
@@ -32,4 +32,5 @@ AnswersExpression text tokens (Ok e) = IsOnlyExpression (lexemes_of text tokens)
 AnswersExpression text tokens (Err (Outside place len)) = IsOutsideAt text tokens place len
 AnswersExpression text tokens (Err (Syntax place)) =
     IsSyntaxFaultAt ReadAsExpression Scl (lexemes_of text tokens) place
+AnswersExpression text tokens (Err (Deep place)) = IsTooDeepExpression (lexemes_of text tokens) place
 AnswersExpression text tokens (Err NoMemory) = Unit {0}

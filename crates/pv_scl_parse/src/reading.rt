@@ -6,16 +6,15 @@ ghost use Rattle.pv_lex.specs.Tokens.{AreTokens};
 ghost use Rattle.pv_scl_parse.specs.Answers.{AnswersExpression};
 
 use crate::actions::expression_actions;
-use crate::fault::ParseFault;
 use crate::table::scl_expression;
 use pv_lex::{Language, Token};
-use pv_parse::{first_outside, read_expression};
+use pv_parse::{ParseFault, ReadFault, first_outside, read_expression};
 use pv_tree::Expr;
 use std::alloc::Global;
 
 /// The expression that the tokens of a text of SCL are, down to the end of the text. Outside where a word stands that is
-/// outside the profile; else Syntax where no expression reads. How deep it nests isn't looked at yet: the tree is made whatever
-/// its depth.
+/// outside the profile; else Syntax where no expression reads; else Deep where it nests deeper than 64 levels, which is found
+/// before a tree is built.
 pub fn expression(alloc: Global, text: &[u8], tokens: &[Token]) -> Result<Expr, ParseFault>
     requires { (file : ℕ) × AreTokens Scl file text.now tokens.now }
     ensures { AnswersExpression text.now tokens.now result }
@@ -28,10 +27,14 @@ pub fn expression(alloc: Global, text: &[u8], tokens: &[Token]) -> Result<Expr, 
     }
     let (inner, _end) = tokens.split_at(tokens.len() - 1);
     let language = scl_expression();
-    match read_expression(alloc, &language, expression_actions(), text, inner)? {
-        Ok(expression) => Ok(expression),
-        Err(at) => Err(ParseFault::Syntax {
+    let fault = match read_expression(alloc, &language, expression_actions(), text, inner)? {
+        Ok(expression) => return Ok(expression),
+        Err(fault) => fault,
+    };
+    match fault {
+        ReadFault::Syntax(at) => Err(ParseFault::Syntax {
             place: tokens[at].place,
         }),
+        ReadFault::Deep(place) => Err(ParseFault::Deep { place }),
     }
 }

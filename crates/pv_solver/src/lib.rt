@@ -19,6 +19,3 @@ mod trail;
 pub use answer::{Answer, MakeFault};
 pub use outcome::Outcome;
 pub use solver::Solver;
-
-#[cfg(test)]
-mod tests;

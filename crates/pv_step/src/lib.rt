@@ -11,8 +11,6 @@ mod build;
 pub mod laws;
 mod made;
 mod step;
-#[cfg(test)]
-mod tests;
 
 pub use made::StepCircuit;
 pub use step::circuit;

@@ -17,6 +17,3 @@ pub use layout::{MAX_LEAVES, flatten, flatten_beneath};
 pub use leaf::{Leaf, Leaves};
 pub use name::Name;
 pub use named::Types;
-
-#[cfg(test)]
-mod tests;

@@ -14,6 +14,3 @@ pub use arithmetic::{add, compare, div, mul, rem, sub};
 pub use bits::{and, not, or, shl, shr, xor};
 pub use types::{Ty, greatest, in_range, is_signed, least, width};
 pub use wrapping::wrap;
-
-#[cfg(test)]
-mod tests;

@@ -1,7 +1,8 @@
-use Rattle.std.proofs.Common.{subst}
+use Rattle.std.proofs.Common.{Err, subst}
+use Rattle.pv_tree.specs.View.{expr_tree}
 use Rattle.pv_tree.specs.Lexemes.{lexemes_of}
 use Rattle.pv_parse.specs.ExprAnswers.{AnswersExpression}
-use Rattle.pv_scl_parse.proofs.Endings.{ends, kinds_before, fault_at}
+use Rattle.pv_scl_parse.proofs.Endings.{ends, kinds_before, order_before, only_expression, fault_at, too_deep}
 use Rattle.pv_scl_parse.proofs.reading.expression.Goals as goal
 
 pub read_expression-requires-clause-tokens : goal.read_expression-requires-clause-tokens
@@ -10,9 +11,34 @@ read_expression-requires-clause-tokens c =
     let inner = c.split_at.result.0.now in
     kinds_before c.requires.0 text c.args.tokens.now inner c.requires.1 (ends c.requires.0 text c.args.tokens.now inner c.requires.1 c.split_at.ensures.front)
 
-pub returns-in-Err : goal.returns-in-Err
-returns-in-Err c =
+pub read_expression-requires-clause-order : goal.read_expression-requires-clause-order
+read_expression-requires-clause-order c =
     let text = c.args.text.now in
     let inner = c.split_at.result.0.now in
-    fault_at text c.args.tokens.now inner c.in-Err.at _ (ends c.requires.0 text c.args.tokens.now inner c.requires.1 c.split_at.ensures.front)
-    c.in_default.ensures.none (subst (λ answer. AnswersExpression (lexemes_of text inner) answer) c.in-Err.is c.in_ok-expression.ensures)
+    order_before c.requires.0 text c.args.tokens.now inner c.requires.1 (ends c.requires.0 text c.args.tokens.now inner c.requires.1 c.split_at.ensures.front)
+
+pub returns-in-Ok : goal.returns-in-Ok
+returns-in-Ok c =
+    let text = c.args.text.now in
+    let inner = c.split_at.result.0.now in
+    only_expression text c.args.tokens.now inner (expr_tree c.in-Ok.expression)
+    (ends c.requires.0 text c.args.tokens.now inner c.requires.1 c.split_at.ensures.front) c.in_default.ensures.none
+    (subst (λ answer. AnswersExpression (lexemes_of text inner) answer) c.in-Ok.is c.in_ok-expression.ensures)
+
+pub returns-in-Syntax : goal.returns-in-Syntax
+returns-in-Syntax c =
+    let text = c.args.text.now in
+    let inner = c.split_at.result.0.now in
+    fault_at text c.args.tokens.now inner c.in-Syntax.at _
+    (ends c.requires.0 text c.args.tokens.now inner c.requires.1 c.split_at.ensures.front) c.in_default.ensures.none
+    (subst (λ fault. AnswersExpression (lexemes_of text inner) (Err fault)) c.in-Syntax.is
+    (subst (λ answer. AnswersExpression (lexemes_of text inner) answer) c.in-Err.is c.in_ok-expression.ensures))
+
+pub returns-in-Deep : goal.returns-in-Deep
+returns-in-Deep c =
+    let text = c.args.text.now in
+    let inner = c.split_at.result.0.now in
+    too_deep text c.args.tokens.now inner c.in-Deep.place
+    (ends c.requires.0 text c.args.tokens.now inner c.requires.1 c.split_at.ensures.front) c.in_default.ensures.none
+    (subst (λ fault. AnswersExpression (lexemes_of text inner) (Err fault)) c.in-Deep.is
+    (subst (λ answer. AnswersExpression (lexemes_of text inner) answer) c.in-Err.is c.in_ok-expression.ensures))

@@ -1,0 +1,23 @@
+//! Tests of the crates that stand below trees: a crate of tests alone, since a crate that has tests is proved twice.
+#![tactic(auto)]
+
+#[cfg(test)]
+mod bits;
+#[cfg(test)]
+mod cert;
+#[cfg(test)]
+mod cnf;
+#[cfg(test)]
+mod gate;
+#[cfg(test)]
+mod lex;
+#[cfg(test)]
+mod log;
+#[cfg(test)]
+mod solver;
+#[cfg(test)]
+mod step;
+#[cfg(test)]
+mod types;
+#[cfg(test)]
+mod word;

@@ -1,0 +1,9 @@
+-- what public clauses cite
+pub mod Patterns
+pub mod Kinds
+pub mod Reads
+pub mod Texts
+pub mod Failing
+pub mod Sources
+pub mod Terms
+pub mod Found

@@ -1,0 +1,11 @@
+//! Tests of what reads sources and cases: a crate of tests alone, since a crate that has tests is proved twice.
+#![tactic(auto)]
+
+#[cfg(test)]
+mod case;
+#[cfg(test)]
+mod fit;
+#[cfg(test)]
+mod parse;
+#[cfg(test)]
+mod scl_parse;

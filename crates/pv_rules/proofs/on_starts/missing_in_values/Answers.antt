@@ -1,0 +1,10 @@
+use Rattle.pv_tree.specs.Rules.{missing_name}
+use Rattle.pv_rules.specs.Tables.{project_of}
+use Rattle.pv_rules.specs.declared.look.Look.TheVariants.{Missing}
+use Rattle.pv_rules.proofs.Looking.{if_ok}
+use Rattle.pv_rules.proofs.NearReads.{missing_name_parts}
+use Rattle.pv_rules.proofs.NearPieces.{index_piece}
+use Rattle.pv_rules.proofs.on_starts.missing_in_values.Goals as goal
+
+pub returns : goal.returns
+returns c = if_ok c.nearest_piece.result (λ o is. index_piece missing_name Missing missing_name_parts (project_of c.args.tables.now) o is) c.nearest_piece.ensures

@@ -1,0 +1,14 @@
+mod Endings
+mod Choosing
+mod Loops
+mod Lists
+mod Handing
+mod Calling
+mod Stepping
+mod Beginning
+mod Starting
+mod Left
+mod Passing
+mod Statements
+mod Turning
+mod Blocks

@@ -1,0 +1,394 @@
+use Rattle.std.proofs.Common.{◌≡◌, ◌+◌, ◌-◌, ◌*◌, ◌<◌, ◌^◌, true, false, Some, None, Ok, Err, rules, arith, sym, ap, subst, ◌∙◌}
+use Rattle.std.specs.Prelude.{FitsSigned}
+use Rattle.std.specs.Int.{w64, w128}
+use Rattle.std.proofs.lemmas.Int.{to_z-of_z}
+use Rattle.std.proofs.Math.ListN.{replicate}
+use Rattle.pv_mean.specs.Calls.{calls_within}
+use Rattle.pv_eval.specs.Means.{activation}
+use Rattle.pv_run.specs.Code.{IsStmt}
+use Rattle.pv_mean.specs.Statements.{for_turns}
+use Rattle.pv_run.specs.Choosing.{arm_chosen, branch_chosen}
+use Rattle.pv_run.specs.Runs.{frame_in, body_of, counting_of, linked_in, Tests, Chooses, ChoosesBranch}
+use Rattle.pv_run.proofs.Lists.{missing_at, found_at}
+use Rattle.pv_run.proofs.Left.{stmts_none, stmts_go_on, stmts_leave, stmts_stop, stmts_over}
+use Rattle.pv_run.proofs.Statements.{if_runs_arm, if_runs_other, if_stops, case_runs_branch, case_runs_other, case_stops, for_runs, for_unbegun, while_runs, repeat_runs, call_stops}
+use Rattle.pv_run.proofs.Turning.{while_false, while_stop, while_next, while_left, while_stopped, while_past, repeat_next, repeat_done, repeat_stop, repeat_left, repeat_stopped, repeat_past, for_next, for_unmade, for_left, for_stopped}
+use Rattle.pv_run.proofs.Loops.{for_ends}
+use Rattle.pv_run.proofs.Blocks.{block_stops_in, block_stops, block_stops_out, block_done, room_left}
+use Rattle.pv_run.proofs.program.Program.+run.Goals as goal
+
+pub run_list-returns-in_default : goal.run_list-returns-in_default
+run_list-returns-in_default t c =
+    λ source block trees program are. absurd (stmts_none (c.loop-k.invariant source block trees program are) c.loop-k-test.true
+    (missing_at c.deref.result.now c.args.self.now.stmts.items c.loop-k.k c.deref.ensures.value (omega
+    (arith, c.in_default.ensures.lookup.3))))
+
+pub run_list-returns-then-not-is_normal : goal.run_list-returns-then-not-is_normal
+run_list-returns-then-not-is_normal t c =
+    λ source block trees program are. stmts_leave (c.loop-k.invariant source block trees program are) c.loop-k-test.true c.in-Some.stmt.now
+    (found_at c.deref.result.now c.args.self.now.stmts.items c.loop-k.k c.in-Some.stmt.now c.deref.ensures.value (search rules)
+    (search rules))
+    c.in-Ok.flow (frame_in c.run_stmt.new.visible c.run_stmt.new.own) (λ tree is. c.in-Ok.ensures source block tree program is)
+    (search rules)
+
+pub run_list-returns-in-Err : goal.run_list-returns-in-Err
+run_list-returns-in-Err t c =
+    λ source block trees program are. stmts_stop (c.loop-k.invariant source block trees program are) c.loop-k-test.true c.in-Some.stmt.now
+    (found_at c.deref.result.now c.args.self.now.stmts.items c.loop-k.k c.in-Some.stmt.now c.deref.ensures.value (search rules)
+    (search rules))
+    c.in-Err.stop (λ tree is. c.in-Err.ensures source block tree program is)
+
+pub run_list-loop-k-preserved : goal.run_list-loop-k-preserved
+run_list-loop-k-preserved t c =
+    λ source block trees program are. stmts_go_on (c.loop-k.invariant source block trees program are) c.loop-k-test.true c.in-Some.stmt.now
+    (found_at c.deref.result.now c.args.self.now.stmts.items c.loop-k.k c.in-Some.stmt.now c.deref.ensures.value (search rules)
+    (search rules))
+    c.in-Ok.flow (frame_in c.run_stmt.new.visible c.run_stmt.new.own) (λ tree is. c.in-Ok.ensures source block tree program is)
+    (search rules)
+
+pub run_list-returns : goal.run_list-returns
+run_list-returns t c =
+    λ source block trees program are. stmts_over (c.loop-k.invariant source block trees program are) (λ lt. omega arith)
+
+pub run_while-returns-in-Ok-false : goal.run_while-returns-in-Ok-false
+run_while-returns-in-Ok-false t c =
+    λ source block e trees program value are.
+    sym (c.loop-turn.invariant source block e trees program value are
+    ∙ while_false source block c.args.self.now c.args.condition c.args.at.first (c.args.self.now.bound - c.loop-turn.turn) e
+    (body_of source c.args.at block trees) c.args.place (frame_in c.loop-turn.visible c.loop-turn.own) value
+    (let x : Tests c.args.self.now c.args.condition c.args.at.first (frame_in c.loop-turn.visible c.loop-turn.own)
+    (Ok false) = search rules in x))
+
+pub run_while-returns-in-Err : goal.run_while-returns-in-Err
+run_while-returns-in-Err t c =
+    λ source block e trees program value are.
+    sym (c.loop-turn.invariant source block e trees program value are
+    ∙ while_stop source block c.args.self.now c.args.condition c.args.at.first (c.args.self.now.bound - c.loop-turn.turn) e
+    (body_of source c.args.at block trees) c.args.place (frame_in c.loop-turn.visible c.loop-turn.own) c.in-Err.stop value
+    (let x : Tests c.args.self.now c.args.condition c.args.at.first (frame_in c.loop-turn.visible c.loop-turn.own)
+    (Err c.in-Err.stop) = search rules in x))
+
+pub run_while-returns-in-Some : goal.run_while-returns-in-Some
+run_while-returns-in-Some t c =
+    λ source block e trees program value are.
+    sym (c.loop-turn.invariant source block e trees program value are
+    ∙ while_left source block c.args.self.now c.args.condition c.args.at.first c.args.self.now.bound c.loop-turn.turn e
+    (body_of source c.args.at block trees) c.args.place (frame_in c.loop-turn.visible c.loop-turn.own)
+    (frame_in c.run_list.new.visible c.run_list.new.own)
+    c.in-Ok.flow c.in-Some.end c.loop-turn-test.true value (let x : Tests c.args.self.now c.args.condition c.args.at.first
+    (frame_in c.loop-turn.visible c.loop-turn.own) (Ok true) = search rules in x)
+    (c.in-Ok.ensures source block trees program are) (sym c.behind_turn.ensures ∙ c.in-Some.is))
+
+pub run_while-returns-in-Err-run_list : goal.run_while-returns-in-Err-run_list
+run_while-returns-in-Err-run_list t c =
+    λ source block e trees program value are.
+    sym (c.loop-turn.invariant source block e trees program value are
+    ∙ while_stopped source block c.args.self.now c.args.condition c.args.at.first c.args.self.now.bound c.loop-turn.turn e
+    (body_of source c.args.at block trees) c.args.place (frame_in c.loop-turn.visible c.loop-turn.own) c.in-Err-run_list.stop
+    c.loop-turn-test.true value (let x : Tests c.args.self.now c.args.condition c.args.at.first
+    (frame_in c.loop-turn.visible c.loop-turn.own) (Ok true) = search rules in x)
+    (c.in-Err-run_list.ensures source block trees program are))
+
+pub run_while-loop-turn-preserved : goal.run_while-loop-turn-preserved
+run_while-loop-turn-preserved t c =
+    λ source block e trees program value are.
+    c.loop-turn.invariant source block e trees program value are
+    ∙ while_next source block c.args.self.now c.args.condition c.args.at.first c.args.self.now.bound c.loop-turn.turn e
+    (body_of source c.args.at block trees) c.args.place (frame_in c.loop-turn.visible c.loop-turn.own)
+    (frame_in c.run_list.new.visible c.run_list.new.own)
+    c.in-Ok.flow c.loop-turn-test.true value (let x : Tests c.args.self.now c.args.condition c.args.at.first
+    (frame_in c.loop-turn.visible c.loop-turn.own) (Ok true) = search rules in x)
+    (c.in-Ok.ensures source block trees program are) (sym c.behind_turn.ensures ∙ c.in_default.is)
+
+pub run_while-returns-in-Ok-true-holds : goal.run_while-returns-in-Ok-true-holds
+run_while-returns-in-Ok-true-holds t c =
+    λ source block e trees program value are.
+    sym (c.loop-turn.invariant source block e trees program value are
+    ∙ while_past source block c.args.self.now c.args.condition c.args.at.first c.args.self.now.bound c.loop-turn.turn e
+    (body_of source c.args.at block trees) c.args.place (frame_in c.loop-turn.visible c.loop-turn.own) (omega arith) value
+    (let x : Tests c.args.self.now c.args.condition c.args.at.first (frame_in c.loop-turn.visible c.loop-turn.own)
+    (Ok true) = search rules in x))
+
+pub run_while-returns-in-Ok-false-holds : goal.run_while-returns-in-Ok-false-holds
+run_while-returns-in-Ok-false-holds t c =
+    λ source block e trees program value are.
+    sym (c.loop-turn.invariant source block e trees program value are
+    ∙ while_false source block c.args.self.now c.args.condition c.args.at.first (c.args.self.now.bound - c.loop-turn.turn) e
+    (body_of source c.args.at block trees) c.args.place (frame_in c.loop-turn.visible c.loop-turn.own) value
+    (let x : Tests c.args.self.now c.args.condition c.args.at.first (frame_in c.loop-turn.visible c.loop-turn.own)
+    (Ok false) = search rules in x))
+
+pub run_while-returns-in-Err-holds : goal.run_while-returns-in-Err-holds
+run_while-returns-in-Err-holds t c =
+    λ source block e trees program value are.
+    sym (c.loop-turn.invariant source block e trees program value are
+    ∙ while_stop source block c.args.self.now c.args.condition c.args.at.first (c.args.self.now.bound - c.loop-turn.turn) e
+    (body_of source c.args.at block trees) c.args.place (frame_in c.loop-turn.visible c.loop-turn.own) c.in-Err-holds.stop value
+    (let x : Tests c.args.self.now c.args.condition c.args.at.first (frame_in c.loop-turn.visible c.loop-turn.own)
+    (Err c.in-Err-holds.stop) = search rules in x))
+
+pub run_repeat-returns-in-Some : goal.run_repeat-returns-in-Some
+run_repeat-returns-in-Some t c =
+    λ source block e trees program value are.
+    sym (c.loop-turn.invariant source block e trees program value are
+    ∙ repeat_left source block c.args.at.first c.args.self.now.bound c.loop-turn.turn e
+    (body_of source c.args.at block trees) c.args.place (frame_in c.loop-turn.visible c.loop-turn.own)
+    (frame_in c.run_list.new.visible c.run_list.new.own)
+    c.in-Ok.flow c.in-Some.end c.loop-turn-test.true (c.in-Ok.ensures source block trees program are) (sym c.behind_turn.ensures
+    ∙ c.in-Some.is))
+
+pub run_repeat-returns-in-Err : goal.run_repeat-returns-in-Err
+run_repeat-returns-in-Err t c =
+    λ source block e trees program value are.
+    sym (c.loop-turn.invariant source block e trees program value are
+    ∙ repeat_stopped source block c.args.at.first c.args.self.now.bound c.loop-turn.turn e
+    (body_of source c.args.at block trees) c.args.place (frame_in c.loop-turn.visible c.loop-turn.own) c.in-Err.stop
+    c.loop-turn-test.true (c.in-Err.ensures source block trees program are))
+
+pub run_repeat-returns-in-Ok-true : goal.run_repeat-returns-in-Ok-true
+run_repeat-returns-in-Ok-true t c =
+    λ source block e trees program value are.
+    sym (c.loop-turn.invariant source block e trees program value are
+    ∙ repeat_done source block c.args.self.now c.args.condition c.args.at.first c.args.self.now.bound c.loop-turn.turn e
+    (body_of source c.args.at block trees) c.args.place (frame_in c.loop-turn.visible c.loop-turn.own)
+    (frame_in c.run_list.new.visible c.run_list.new.own)
+    c.in-Ok.flow c.loop-turn-test.true value (c.in-Ok.ensures source block trees program are) (sym c.behind_turn.ensures ∙ c.in_default.is)
+    (let x : Tests c.args.self.now c.args.condition c.args.at.first (frame_in c.run_list.new.visible c.run_list.new.own)
+    (Ok true) = search rules in x))
+
+pub run_repeat-returns-in-Err-holds : goal.run_repeat-returns-in-Err-holds
+run_repeat-returns-in-Err-holds t c =
+    λ source block e trees program value are.
+    sym (c.loop-turn.invariant source block e trees program value are
+    ∙ repeat_stop source block c.args.self.now c.args.condition c.args.at.first c.args.self.now.bound c.loop-turn.turn e
+    (body_of source c.args.at block trees) c.args.place (frame_in c.loop-turn.visible c.loop-turn.own)
+    (frame_in c.run_list.new.visible c.run_list.new.own)
+    c.in-Ok.flow c.in-Err-holds.stop c.loop-turn-test.true value (c.in-Ok.ensures source block trees program are) (sym c.behind_turn.ensures
+    ∙ c.in_default.is)
+    (let x : Tests c.args.self.now c.args.condition c.args.at.first (frame_in c.run_list.new.visible c.run_list.new.own)
+    (Err c.in-Err-holds.stop) = search rules in x))
+
+pub run_repeat-loop-turn-preserved : goal.run_repeat-loop-turn-preserved
+run_repeat-loop-turn-preserved t c =
+    λ source block e trees program value are.
+    c.loop-turn.invariant source block e trees program value are
+    ∙ repeat_next source block c.args.self.now c.args.condition c.args.at.first c.args.self.now.bound c.loop-turn.turn e
+    (body_of source c.args.at block trees) c.args.place (frame_in c.loop-turn.visible c.loop-turn.own)
+    (frame_in c.run_list.new.visible c.run_list.new.own)
+    c.in-Ok.flow c.loop-turn-test.true value (c.in-Ok.ensures source block trees program are) (sym c.behind_turn.ensures ∙ c.in_default.is)
+    (let x : Tests c.args.self.now c.args.condition c.args.at.first (frame_in c.run_list.new.visible c.run_list.new.own)
+    (Ok false) = search rules in x)
+
+pub run_repeat-returns : goal.run_repeat-returns
+run_repeat-returns t c =
+    λ source block e trees program value are.
+    sym (c.loop-turn.invariant source block e trees program value are
+    ∙ repeat_past source block c.args.at.first c.args.self.now.bound c.loop-turn.turn e
+    (body_of source c.args.at block trees) c.args.place (frame_in c.loop-turn.visible c.loop-turn.own) (omega arith))
+
+pub run_for-returns-then-not-is_on_the_way : goal.run_for-returns-then-not-is_on_the_way
+run_for-returns-then-not-is_on_the_way t c =
+    λ source block trees program are.
+    sym (c.loop-turn.invariant source block trees program are ∙ for_ends source
+    (counting_of c.args.begun.now c.args.counting.now.variable_place c.args.counting.now.by c.args.place)
+    (body_of source c.args.at block trees) (c.args.self.now.bound - c.loop-turn.turn) _ (frame_in c.loop-turn.visible c.loop-turn.own)
+    (sym c.is_on_the_way.ensures ∙ c.if-not-is_on_the_way.true))
+
+pub run_for-returns-in-Some : goal.run_for-returns-in-Some
+run_for-returns-in-Some t c =
+    λ source block trees program are.
+    sym (c.loop-turn.invariant source block trees program are ∙ for_left source
+    (counting_of c.args.begun.now c.args.counting.now.variable_place c.args.counting.now.by c.args.place)
+    (body_of source c.args.at block trees) c.args.self.now.bound c.loop-turn.turn _ (frame_in c.loop-turn.visible c.loop-turn.own)
+    (frame_in c.run_list.new.visible c.run_list.new.own)
+    c.in-Ok.flow c.in-Some.end c.loop-turn-test.true (sym c.is_on_the_way.ensures
+    ∙ c.if-not-is_on_the_way.false) (c.in-Ok.ensures source block trees program are) (sym c.behind_turn.ensures ∙ c.in-Some.is))
+
+pub run_for-returns-in-Err : goal.run_for-returns-in-Err
+run_for-returns-in-Err t c =
+    λ source block trees program are.
+    sym (c.loop-turn.invariant source block trees program are ∙ for_stopped source
+    (counting_of c.args.begun.now c.args.counting.now.variable_place c.args.counting.now.by c.args.place)
+    (body_of source c.args.at block trees) c.args.self.now.bound c.loop-turn.turn _
+    (frame_in c.loop-turn.visible c.loop-turn.own) c.in-Err.stop
+    c.loop-turn-test.true (sym c.is_on_the_way.ensures ∙ c.if-not-is_on_the_way.false) (c.in-Err.ensures source block trees program are))
+
+pub run_for-returns-in-Err-step : goal.run_for-returns-in-Err-step
+run_for-returns-in-Err-step t c =
+    λ source block trees program are.
+    sym (c.loop-turn.invariant source block trees program are ∙ for_unmade source
+    (counting_of c.args.begun.now c.args.counting.now.variable_place c.args.counting.now.by c.args.place)
+    (body_of source c.args.at block trees) c.args.self.now.bound c.loop-turn.turn _ (frame_in c.loop-turn.visible c.loop-turn.own)
+    (frame_in c.run_list.new.visible c.run_list.new.own)
+    c.in-Ok.flow c.in-Err-step.stop c.loop-turn-test.true (sym c.is_on_the_way.ensures
+    ∙ c.if-not-is_on_the_way.false) (c.in-Ok.ensures source block trees program are) (sym c.behind_turn.ensures ∙ c.in_default.is)
+    (c.in-Err-step.ensures source program.types))
+
+pub run_for-loop-turn-preserved : goal.run_for-loop-turn-preserved
+run_for-loop-turn-preserved t c =
+    λ source block trees program are.
+    let fits : FitsSigned w128 c.in-Ok-step.next = search rules in
+    let stepped = frame_in c.step.new.visible c.step.new.brief in
+    c.loop-turn.invariant source block trees program are ∙ for_next source
+    (counting_of c.args.begun.now c.args.counting.now.variable_place c.args.counting.now.by c.args.place)
+    (body_of source c.args.at block trees) c.args.self.now.bound c.loop-turn.turn _ c.in-Ok-step.next
+    (frame_in c.loop-turn.visible c.loop-turn.own) (frame_in c.run_list.new.visible c.run_list.new.own) stepped
+    c.in-Ok.flow c.loop-turn-test.true (sym c.is_on_the_way.ensures
+    ∙ c.if-not-is_on_the_way.false) (c.in-Ok.ensures source block trees program are) (sym c.behind_turn.ensures
+    ∙ c.in_default.is) (c.in-Ok-step.ensures source program.types)
+    ∙ ap (λ n. for_turns source (counting_of c.args.begun.now c.args.counting.now.variable_place c.args.counting.now.by c.args.place)
+    (body_of source c.args.at block trees) (c.args.self.now.bound - (c.loop-turn.turn + 1)) n stepped) (sym
+    (to_z-of_z w128 c.in-Ok-step.next fits))
+
+pub run_stmt-returns-in-Ok-Some-arm_of : goal.run_stmt-returns-in-Ok-Some-arm_of
+run_stmt-returns-in-Ok-Some-arm_of t c =
+    λ source block tree program is.
+    if_runs_arm (subst (λ x. IsStmt source block c.args.self.now c.args.k x tree) c.in-If.is is) (calls_within source c.args.at.calls)
+    (activation block c.args.at.first) (frame_in c.args.visible.now c.args.own.now) c.in-Ok-Some-arm_of.body
+    (λ trees are. subst (λ o. Chooses source block c.args.self.now c.args.k (Ok o) (arm_chosen source (activation block c.args.at.first)
+    (frame_in c.args.visible.now c.args.own.now) trees))
+    c.in-Ok-Some-arm_of.field-0-is (c.in-Ok-Some-arm_of.ensures source block c.args.k trees are)) _ c.before-in-Ok-Some-arm_of.result
+    c.before-in-Ok-Some-arm_of.ensures.same
+    (λ trees are. c.run_list.ensures source block trees program are)
+
+pub run_stmt-returns-in-Ok-None-arm_of : goal.run_stmt-returns-in-Ok-None-arm_of
+run_stmt-returns-in-Ok-None-arm_of t c =
+    λ source block tree program is.
+    if_runs_other (subst (λ x. IsStmt source block c.args.self.now c.args.k x tree) c.in-If.is is) (calls_within source c.args.at.calls)
+    (activation block c.args.at.first) (frame_in c.args.visible.now c.args.own.now)
+    (λ trees are. subst (λ o. Chooses source block c.args.self.now c.args.k (Ok o) (arm_chosen source (activation block c.args.at.first)
+    (frame_in c.args.visible.now c.args.own.now) trees))
+    c.in-Ok-None-arm_of.field-0-is (c.in-Ok-None-arm_of.ensures source block c.args.k trees are)) _ c.before-in-Ok-None-arm_of.result
+    c.before-in-Ok-None-arm_of.ensures.same
+    (λ trees are. c.run_list-in-Ok-None-arm_of.ensures source block trees program are)
+
+pub run_stmt-returns-in-Err-arm_of : goal.run_stmt-returns-in-Err-arm_of
+run_stmt-returns-in-Err-arm_of t c =
+    λ source block tree program is.
+    if_stops (subst (λ x. IsStmt source block c.args.self.now c.args.k x tree) c.in-If.is is) (calls_within source c.args.at.calls)
+    (activation block c.args.at.first) (frame_in c.args.visible.now c.args.own.now) c.in-Err-arm_of.stop
+    (λ trees are. c.in-Err-arm_of.ensures source block c.args.k trees are)
+
+pub run_stmt-returns-in-Some : goal.run_stmt-returns-in-Some
+run_stmt-returns-in-Some t c =
+    λ source block tree program is.
+    let fits : FitsSigned w64 c.in-Ok-value.v = search rules in
+    case_runs_branch (subst (λ x. IsStmt source block c.args.self.now c.args.k x tree) c.in-Case.is is)
+    (calls_within source c.args.at.calls) (frame_in c.args.visible.now c.args.own.now) c.in-Ok-value.v c.in-Some.body
+    (λ e value. c.in-Ok-value.ensures source block e value) (λ trees are. subst (λ x. ChoosesBranch source block c.args.self.now c.args.k
+    (Some c.in-Some.body)
+    (branch_chosen (activation block c.args.at.first) x trees)) (to_z-of_z w64 c.in-Ok-value.v fits)
+    (c.in-Some.ensures source block c.args.k c.args.at.first trees are)) _ c.before-in-Some.result c.before-in-Some.ensures.same
+    (λ trees are. c.run_list-in-Some.ensures source block trees program are)
+
+pub run_stmt-returns-in-None : goal.run_stmt-returns-in-None
+run_stmt-returns-in-None t c =
+    λ source block tree program is.
+    let fits : FitsSigned w64 c.in-Ok-value.v = search rules in
+    case_runs_other (subst (λ x. IsStmt source block c.args.self.now c.args.k x tree) c.in-Case.is is) (calls_within source c.args.at.calls)
+    (frame_in c.args.visible.now c.args.own.now) c.in-Ok-value.v
+    (λ e value. c.in-Ok-value.ensures source block e value) (λ trees are. subst (λ x. branch_chosen
+    (activation block c.args.at.first) x trees ≡ None) (to_z-of_z w64 c.in-Ok-value.v fits)
+    (c.in-None.ensures source block c.args.k c.args.at.first trees are)) _ c.before-in-None.result c.before-in-None.ensures.same
+    (λ trees are. c.run_list-in-None.ensures source block trees program are)
+
+pub run_stmt-returns-in-Err-value : goal.run_stmt-returns-in-Err-value
+run_stmt-returns-in-Err-value t c =
+    λ source block tree program is.
+    case_stops (subst (λ x. IsStmt source block c.args.self.now c.args.k x tree) c.in-Case.is is) (calls_within source c.args.at.calls)
+    (frame_in c.args.visible.now c.args.own.now) c.in-Err-value.stop (λ e value. c.in-Err-value.ensures source block e value)
+
+pub run_stmt-returns-in-Ok-begin : goal.run_stmt-returns-in-Ok-begin
+run_stmt-returns-in-Ok-begin t c =
+    λ source block tree program is.
+    for_runs (subst (λ x. IsStmt source block c.args.self.now c.args.k x tree) c.in-For.is is) (calls_within source c.args.at.calls)
+    (frame_in c.args.visible.now c.args.own.now) (frame_in c.begin.new.visible c.begin.new.brief) c.in-Ok-begin.begun
+    (λ name at a b by counts. c.in-Ok-begin.ensures.value source block name at a b by program.types counts) _ c.before-in-Ok-begin.result
+    c.before-in-Ok-begin.ensures.same
+    (λ trees are. c.run_for.ensures source block trees program are)
+
+pub run_stmt-returns-in-Err-begin : goal.run_stmt-returns-in-Err-begin
+run_stmt-returns-in-Err-begin t c =
+    λ source block tree program is.
+    for_unbegun (subst (λ x. IsStmt source block c.args.self.now c.args.k x tree) c.in-For.is is) (calls_within source c.args.at.calls)
+    (frame_in c.args.visible.now c.args.own.now) c.in-Err-begin.stop
+    (λ name at a b by counts. c.in-Err-begin.ensures.value source block name at a b by program.types counts)
+
+pub run_stmt-returns-in-While : goal.run_stmt-returns-in-While
+run_stmt-returns-in-While t c =
+    λ source block tree program is.
+    while_runs (subst (λ x. IsStmt source block c.args.self.now c.args.k x tree) c.in-While.is is) (calls_within source c.args.at.calls)
+    (activation block c.args.at.first) (frame_in c.args.visible.now c.args.own.now) _ c.before-in-While.result
+    c.before-in-While.ensures.same
+    (λ e trees value are. c.run_while.ensures source block e trees program value are)
+
+pub run_stmt-returns-in-Repeat : goal.run_stmt-returns-in-Repeat
+run_stmt-returns-in-Repeat t c =
+    λ source block tree program is.
+    repeat_runs (subst (λ x. IsStmt source block c.args.self.now c.args.k x tree) c.in-Repeat.is is) (calls_within source c.args.at.calls)
+    (activation block c.args.at.first) (frame_in c.args.visible.now c.args.own.now) _ c.before-in-Repeat.result
+    c.before-in-Repeat.ensures.same
+    (λ e trees value are. c.run_repeat.ensures source block e trees program value are)
+
+pub run_stmt-returns-in-Err-run_call-2 : goal.run_stmt-returns-in-Err-run_call-2
+run_stmt-returns-in-Err-run_call-2 t c =
+    λ source block tree program is.
+    call_stops (subst (λ x. IsStmt source block c.args.self.now c.args.k x tree) c.in-Call.is is) (calls_within source c.args.at.calls)
+    (activation block c.args.at.first) (frame_in c.args.visible.now c.args.own.now) c.in-Err-run_call-2.stop
+    (λ site called. c.in-Err-run_call-2.ensures source block site program called)
+
+pub run_block-returns-in-Err : goal.run_block-returns-in-Err
+run_block-returns-in-Err t c =
+    λ source block site program b.
+    block_stops_in source block c.args.self.now c.args.at site c.args.started.now b program c.args.visible.now c.args.own.now
+    c.clear.new.cells (linked_in c.hand_in.new.visible c.args.own.now c.hand_in.new.inner) c.in-Err.stop
+    (c.clear.ensures ∙ ap (λ n. replicate n None) (c.split_at_mut-inner.ensures.front_len
+    ∙ c.width.ensures.same b.code.widest)) c.in-Err.ensures
+
+pub run_block-run_list-requires : goal.run_block-run_list-requires
+run_block-run_list-requires t c =
+    let front = c.split_at_mut-inner.ensures.front_len in
+    let back = c.split_at_mut-inner.ensures.back_len in
+    let width = c.width.ensures.within in
+    let most = c.requires.room.below in
+    let less : c.args.started.now.at.calls * 2 ^ 40 + 4 * c.args.started.now.code.body.end < t = omega
+    (arith, c.requires.calls, c.requires.short, c.decreases) in (
+      less,
+      record {
+        below = room_left c.args.started.now.at.calls c.args.at.calls c.args.self.now.widest _ _ c.width.result c.requires.calls most width
+            back;
+        scratch = omega (arith, c.requires.room.scratch, c.hand_in.auto.scratch);
+        first = c.requires.first;
+      },
+    )
+
+pub run_block-returns-in-Err-run_list : goal.run_block-returns-in-Err-run_list
+run_block-returns-in-Err-run_list t c =
+    λ source block site program b.
+    block_stops source block c.args.self.now c.args.at site c.args.started.now b program c.args.visible.now c.args.own.now c.clear.new.cells
+    (linked_in c.hand_in.new.visible c.args.own.now c.hand_in.new.inner) c.in-Err-run_list.stop
+    (c.clear.ensures ∙ ap (λ n. replicate n None) (c.split_at_mut-inner.ensures.front_len
+    ∙ c.width.ensures.same b.code.widest)) c.in-Ok.ensures
+    (λ callee trees are. c.in-Err-run_list.ensures source callee trees program are)
+
+pub run_block-returns-in-Err-hand_out : goal.run_block-returns-in-Err-hand_out
+run_block-returns-in-Err-hand_out t c =
+    λ source block site program b.
+    block_stops_out source block c.args.self.now c.args.at site c.args.started.now b program c.args.visible.now c.args.own.now
+    c.clear.new.cells (linked_in c.hand_in.new.visible c.args.own.now c.hand_in.new.inner)
+    (linked_in c.hand_out.new.visible c.hand_out.new.outer c.run_list.new.own)
+    c.in-Ok-run_list.field-0 (frame_in c.run_list.new.visible c.run_list.new.own) c.in-Err-hand_out.stop
+    (c.clear.ensures ∙ ap (λ n. replicate n None) (c.split_at_mut-inner.ensures.front_len
+    ∙ c.width.ensures.same b.code.widest)) c.in-Ok.ensures
+    (λ callee trees are. c.in-Ok-run_list.ensures source callee trees program are) c.in-Err-hand_out.ensures
+
+pub run_block-returns-in-Ok-hand_out : goal.run_block-returns-in-Ok-hand_out
+run_block-returns-in-Ok-hand_out t c =
+    λ source block site program b.
+    block_done source block c.args.self.now c.args.at site c.args.started.now b program c.args.visible.now c.args.own.now c.clear.new.cells
+    (linked_in c.hand_in.new.visible c.args.own.now c.hand_in.new.inner)
+    (linked_in c.hand_out.new.visible c.hand_out.new.outer c.run_list.new.own)
+    c.in-Ok-run_list.field-0 (frame_in c.run_list.new.visible c.run_list.new.own) c.value_at.result
+    (c.clear.ensures ∙ ap (λ n. replicate n None) (c.split_at_mut-inner.ensures.front_len
+    ∙ c.width.ensures.same b.code.widest)) c.in-Ok.ensures
+    (λ callee trees are. c.in-Ok-run_list.ensures source callee trees program are) c.in-Ok-hand_out.ensures c.value_at.ensures

@@ -1,0 +1,192 @@
+//! A program: the bodies of a project's blocks with their names found.
+ghost use Rattle.std.specs.Prelude.{◌≡◌, ◌≤◌};
+
+use pv_eval::{Expression, Target};
+use pv_machine::Place;
+use pv_word::Ty;
+
+/// A program has fewer statements.
+pub const MOST_STATEMENTS: u32 = 2_147_483_648;
+
+/// A part of an array: from the number `first` up to before `end`.
+#[derive(Clone, Copy)]
+pub struct Span {
+    pub first: u32,
+    pub end: u32,
+}
+
+/// Statements, one behind the other, as a part of the program's statements.
+#[derive(Clone, Copy)]
+pub struct List {
+    pub first: u32,
+    pub end: u32,
+}
+
+/// A loop that counts: the numbers of its first and last value and of its variable, and the place of the variable.
+#[derive(Clone, Copy)]
+pub struct Counting {
+    pub first: u32,
+    pub last: u32,
+    pub variable: u32,
+    pub variable_place: Place,
+    pub by: i64,
+}
+
+/// A statement. Values, targets and calls go by their numbers in the program; a loop has its place.
+#[derive(Clone, Copy)]
+pub enum Stmt {
+    Assign {
+        value: u32,
+        target: u32,
+    },
+    /// The value of a call goes to a target; the place is the call's.
+    AssignCall {
+        call: u32,
+        target: u32,
+        place: Place,
+    },
+    If {
+        arms: Span,
+        other: List,
+    },
+    Case {
+        selector: u32,
+        branches: Span,
+        other: List,
+    },
+    For {
+        counting: Counting,
+        body: List,
+        place: Place,
+    },
+    While {
+        condition: u32,
+        body: List,
+        place: Place,
+    },
+    Repeat {
+        body: List,
+        condition: u32,
+        place: Place,
+    },
+    Exit,
+    Continue,
+    Return,
+    Call(u32),
+    Empty,
+}
+
+/// A condition, and the statements behind it.
+#[derive(Clone, Copy)]
+pub struct Arm {
+    pub condition: u32,
+    pub body: List,
+}
+
+/// The values for which a branch of a CASE is chosen, and its statements.
+#[derive(Clone, Copy)]
+pub struct Branch {
+    pub choices: Span,
+    pub body: List,
+}
+
+/// The values from `low` to `high`.
+#[derive(Clone, Copy)]
+pub struct Choice {
+    pub low: i64,
+    pub high: i64,
+}
+
+/// The first visible cell of the instance on which a called block works.
+#[derive(Clone, Copy)]
+pub enum First {
+    /// So many cells behind the first one of the caller's instance.
+    Own(u16),
+    At(u16),
+}
+
+/// The cell of a parameter in a called block's activation.
+#[derive(Clone, Copy)]
+pub enum Slot {
+    /// The visible cell that stands so far behind the first one of the block's instance.
+    Own(u32),
+    /// A brief cell, of this type.
+    Brief(Ty, u32),
+    Nowhere,
+}
+
+/// A value of the caller that goes to a parameter.
+#[derive(Clone, Copy)]
+pub struct Inward {
+    pub value: u32,
+    pub to: Slot,
+}
+
+/// A parameter that goes to a target of the caller, or is read alone.
+#[derive(Clone, Copy)]
+pub struct Outward {
+    pub from: Slot,
+    pub to: Option<u32>,
+}
+
+/// A call: the number of the block, if one is run, the instance, what is handed in and out in its order, and the place of the call.
+#[derive(Clone, Copy)]
+pub struct Called {
+    pub block: Option<u32>,
+    pub first: First,
+    pub inward: Span,
+    pub outward: Span,
+    pub place: Place,
+}
+
+/// A block's body, how many brief cells it has, and which of them is the value of a function.
+#[derive(Clone, Copy)]
+pub struct Code {
+    pub body: List,
+    pub brief: u32,
+    pub value: u32,
+}
+
+/// A program.
+#[derive(Drop)]
+pub struct Program {
+    pub stmts: Vec<Stmt>,
+    pub arms: Vec<Arm>,
+    pub branches: Vec<Branch>,
+    pub choices: Vec<Choice>,
+    pub calls: Vec<Called>,
+    pub inward: Vec<Inward>,
+    pub outward: Vec<Outward>,
+    /// By the numbers of the project's blocks.
+    pub blocks: Vec<Code>,
+    pub values: Vec<Expression>,
+    pub targets: Vec<Target>,
+    /// The types of the visible cells.
+    pub types: Vec<Ty>,
+    /// The most turns that one entry into a loop takes.
+    pub bound: u32,
+    /// How many values are needed to evaluate any expression.
+    pub scratch: usize,
+    /// How many brief cells a block has at most.
+    pub widest: usize,
+}
+
+/// A block at work: the first visible cell of its instance, and how many calls may still stand behind one another.
+#[derive(Clone, Copy)]
+pub struct At {
+    pub first: u32,
+    pub calls: u32,
+}
+
+impl List {
+    /// What of the list stands before a statement of this number.
+    pub(crate) fn before(self, statement: u32) -> List
+        ensures same { self.end ≤ statement → result ≡ self }
+        ensures before { result.end ≤ statement }
+    {
+        List {
+            first: self.first,
+            end: self.end.min(statement),
+        }
+    }
+}

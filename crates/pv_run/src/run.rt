@@ -1,0 +1,411 @@
+//! Statements, loops and calls.
+ghost use Rattle.std.specs.Prelude.{◌≡◌, ◌*◌, ◌≤◌, length, slice_get, slice_index_or, replicate, Some, None, ◌+◌, ◌<◌, ◌^◌};
+ghost use Rattle.pv_mean.specs.Sources.{Source};
+ghost use Rattle.pv_mean.specs.Cells.{most_calls};
+ghost use Rattle.pv_mean.specs.Scans.{scan_from};
+ghost use Rattle.pv_eval.specs.Operands.{IsSpot};
+ghost use Rattle.pv_run.specs.declared.program.TheConstants.{MOST_STATEMENTS};
+ghost use Rattle.pv_run.specs.Code.{IsProgram};
+ghost use Rattle.pv_run.specs.Ends.{end_in};
+ghost use Rattle.pv_run.specs.Runs.{frame_in, HasRoom, RunsList, RunsStmt, RunsCall, RunsWhile, RunsRepeat, RunsFor, RunsBegun};
+
+use crate::callee::Started;
+use crate::counting::{Begun, is_on_the_way};
+use crate::program::{At, Counting, List, Program, Span, Stmt};
+use crate::stop::{Flow, Stop};
+use pv_eval::Trap;
+use pv_machine::{Place, TrapKind};
+
+/// How many calls may stand behind one another: a chain of calls has eight blocks at most.
+pub const MOST_CALLS: u32 = 7;
+
+fn value_at(inner: &[Option<i64>], n: u32) -> Option<i64>
+    ensures { result ≡ slice_index_or inner.now n None }
+{
+    match inner.get(n as usize) {
+        Some(v) => *v,
+        None => None,
+    }
+}
+
+/// Takes each cell's value away.
+fn clear(cells: &mut [Option<i64>])
+    ensures { cells.new ≡ replicate (length cells.old) None }
+{
+    for i in 0..cells.len() {
+        cells[i] = None;
+    }
+}
+
+impl Program {
+    /// How many brief cells a block has at work: as many as its code says.
+    fn width(&self, brief: u32) -> usize
+        ensures same { brief ≤ self.now.widest → result ≡ brief }
+        ensures within { result ≤ self.now.widest }
+    {
+        (brief as usize).min(self.widest)
+    }
+
+    /// Runs statements one behind the other.
+    #[cycle(run)]
+    fn run_list(
+        &self,
+        list: List,
+        at: At,
+        visible: &mut [i64],
+        own: &mut [Option<i64>],
+        below: &mut [Option<i64>],
+        scratch: &mut [i64],
+    ) -> Result<Flow, Stop>
+        requires { HasRoom self.now at (length below.old) (length scratch.old) }
+        ensures { RunsList self.now list at (frame_in visible.old own.old) result (frame_in visible.new own.new) }
+    {
+        for k in list.first..list.end {
+            let Some(stmt) = self.stmts.get(k as usize) else {
+                return Ok(Flow::Normal);
+            };
+            match self.run_stmt(k, stmt, at, visible, own, below, scratch) {
+                Ok(flow) => {
+                    if !flow.is_normal() {
+                        return Ok(flow);
+                    }
+                }
+                Err(stop) => return Err(stop),
+            }
+        }
+        Ok(Flow::Normal)
+    }
+
+    /// Runs a statement, the one of this number.
+    #[cycle(run)]
+    fn run_stmt(
+        &self,
+        k: u32,
+        stmt: &Stmt,
+        at: At,
+        visible: &mut [i64],
+        own: &mut [Option<i64>],
+        below: &mut [Option<i64>],
+        scratch: &mut [i64],
+    ) -> Result<Flow, Stop>
+        requires { HasRoom self.now at (length below.old) (length scratch.old) }
+        ensures { RunsStmt self.now k stmt.now at (frame_in visible.old own.old) result (frame_in visible.new own.new) }
+    {
+        match stmt {
+            Stmt::Assign { value, target } => match self.value(
+                *value, at.first, visible, own, scratch,
+            ) {
+                Ok(v) => self.store(*target, v, at.first, visible, own, scratch),
+                Err(stop) => Err(stop),
+            },
+            Stmt::AssignCall {
+                call,
+                target,
+                place,
+            } => {
+                match self.run_call(*call, at, visible, own, below, scratch) {
+                    Ok(Some(v)) => self.store(*target, v, at.first, visible, own, scratch),
+                    Ok(None) => Err(Stop::Trap(Trap {
+                        kind: TrapKind::Unset,
+                        place: *place,
+                    })),
+                    Err(stop) => Err(stop),
+                }
+            }
+            Stmt::If { arms, other } => match self.arm_of(*arms, at.first, visible, own, scratch) {
+                Ok(Some(body)) => self.run_list(body.before(k), at, visible, own, below, scratch),
+                Ok(None) => self.run_list(other.before(k), at, visible, own, below, scratch),
+                Err(stop) => Err(stop),
+            },
+            Stmt::Case {
+                selector,
+                branches,
+                other,
+            } => match self.value(*selector, at.first, visible, own, scratch) {
+                Ok(v) => match self.branch_of(*branches, v) {
+                    Some(body) => self.run_list(body.before(k), at, visible, own, below, scratch),
+                    None => self.run_list(other.before(k), at, visible, own, below, scratch),
+                },
+                Err(stop) => Err(stop),
+            },
+            Stmt::For {
+                counting,
+                body,
+                place,
+            } => match self.begin(counting, at.first, visible, own, scratch) {
+                Ok(begun) => self.run_for(
+                    body.before(k),
+                    &begun,
+                    counting,
+                    *place,
+                    at,
+                    visible,
+                    own,
+                    below,
+                    scratch,
+                ),
+                Err(stop) => Err(stop),
+            },
+            Stmt::While {
+                condition,
+                body,
+                place,
+            } => self.run_while(
+                body.before(k),
+                *condition,
+                *place,
+                at,
+                visible,
+                own,
+                below,
+                scratch,
+            ),
+            Stmt::Repeat {
+                body,
+                condition,
+                place,
+            } => self.run_repeat(
+                body.before(k),
+                *condition,
+                *place,
+                at,
+                visible,
+                own,
+                below,
+                scratch,
+            ),
+            Stmt::Exit => Ok(Flow::Exit),
+            Stmt::Continue => Ok(Flow::Continue),
+            Stmt::Return => Ok(Flow::Return),
+            Stmt::Call(call) => match self.run_call(*call, at, visible, own, below, scratch) {
+                Ok(_) => Ok(Flow::Normal),
+                Err(stop) => Err(stop),
+            },
+            Stmt::Empty => Ok(Flow::Normal),
+        }
+    }
+
+    /// Runs a WHILE.
+    #[cycle(run)]
+    fn run_while(
+        &self,
+        body: List,
+        condition: u32,
+        place: Place,
+        at: At,
+        visible: &mut [i64],
+        own: &mut [Option<i64>],
+        below: &mut [Option<i64>],
+        scratch: &mut [i64],
+    ) -> Result<Flow, Stop>
+        requires { HasRoom self.now at (length below.old) (length scratch.old) }
+        ensures { RunsWhile self.now body condition place at (frame_in visible.old own.old) result
+            (frame_in visible.new own.new) }
+    {
+        for turn in 0..self.bound {
+            match self.holds(condition, at.first, visible, own, scratch) {
+                Ok(true) => {}
+                Ok(false) => return Ok(Flow::Normal),
+                Err(stop) => return Err(stop),
+            }
+            match self.run_list(body, at, visible, own, below, scratch) {
+                Ok(flow) => {
+                    if let Some(end) = flow.behind_turn() {
+                        return Ok(end);
+                    }
+                }
+                Err(stop) => return Err(stop),
+            }
+        }
+        match self.holds(condition, at.first, visible, own, scratch) {
+            Ok(true) => Err(Stop::Over(place)),
+            Ok(false) => Ok(Flow::Normal),
+            Err(stop) => Err(stop),
+        }
+    }
+
+    /// Runs a REPEAT.
+    #[cycle(run)]
+    fn run_repeat(
+        &self,
+        body: List,
+        condition: u32,
+        place: Place,
+        at: At,
+        visible: &mut [i64],
+        own: &mut [Option<i64>],
+        below: &mut [Option<i64>],
+        scratch: &mut [i64],
+    ) -> Result<Flow, Stop>
+        requires { HasRoom self.now at (length below.old) (length scratch.old) }
+        ensures { RunsRepeat self.now body condition place at (frame_in visible.old own.old) result
+            (frame_in visible.new own.new) }
+    {
+        for turn in 0..self.bound {
+            match self.run_list(body, at, visible, own, below, scratch) {
+                Ok(flow) => {
+                    if let Some(end) = flow.behind_turn() {
+                        return Ok(end);
+                    }
+                }
+                Err(stop) => return Err(stop),
+            }
+            match self.holds(condition, at.first, visible, own, scratch) {
+                Ok(true) => return Ok(Flow::Normal),
+                Ok(false) => {}
+                Err(stop) => return Err(stop),
+            }
+        }
+        Err(Stop::Over(place))
+    }
+
+    /// Runs a FOR that has begun.
+    #[cycle(run)]
+    fn run_for(
+        &self,
+        body: List,
+        begun: &Begun,
+        counting: &Counting,
+        place: Place,
+        at: At,
+        visible: &mut [i64],
+        own: &mut [Option<i64>],
+        below: &mut [Option<i64>],
+        scratch: &mut [i64],
+    ) -> Result<Flow, Stop>
+        requires room { HasRoom self.now at (length below.old) (length scratch.old) }
+        requires spot { IsSpot begun.now.spot }
+        ensures { RunsFor self.now body begun.now counting.now.variable_place counting.now.by place at
+            (frame_in visible.old own.old) result (frame_in visible.new own.new) }
+    {
+        let mut count = i128::from(begun.count);
+        for turn in 0..self.bound {
+            if !is_on_the_way(counting, count, begun) {
+                return Ok(Flow::Normal);
+            }
+            match self.run_list(body, at, visible, own, below, scratch) {
+                Ok(flow) => {
+                    if let Some(end) = flow.behind_turn() {
+                        return Ok(end);
+                    }
+                }
+                Err(stop) => return Err(stop),
+            }
+            match self.step(begun, counting, at.first, visible, own) {
+                Ok(next) => count = next,
+                Err(stop) => return Err(stop),
+            }
+        }
+        if is_on_the_way(counting, count, begun) {
+            Err(Stop::Over(place))
+        } else {
+            Ok(Flow::Normal)
+        }
+    }
+
+    /// Runs a call, and answers the value of the function, if it has one.
+    #[cycle(run)]
+    fn run_call(
+        &self,
+        c: u32,
+        at: At,
+        visible: &mut [i64],
+        own: &mut [Option<i64>],
+        below: &mut [Option<i64>],
+        scratch: &mut [i64],
+    ) -> Result<Option<i64>, Stop>
+        requires { HasRoom self.now at (length below.old) (length scratch.old) }
+        ensures { RunsCall self.now c at (frame_in visible.old own.old) result (frame_in visible.new own.new) }
+    {
+        match self.started(c, at) {
+            Some(started) => self.run_block(&started, at, visible, own, below, scratch),
+            None => Ok(None),
+        }
+    }
+
+    /// Runs a called block: parameters in, its body, parameters out.
+    #[cycle(run)]
+    fn run_block(
+        &self,
+        started: &Started,
+        at: At,
+        visible: &mut [i64],
+        own: &mut [Option<i64>],
+        below: &mut [Option<i64>],
+        scratch: &mut [i64],
+    ) -> Result<Option<i64>, Stop>
+        requires room { HasRoom self.now at (length below.old) (length scratch.old) }
+        requires calls { at.calls ≡ started.now.at.calls + 1 }
+        requires short { started.now.code.body.end < MOST_STATEMENTS }
+        requires first { started.now.at.first + started.now.at.calls * 2 ^ 16 < 2 ^ 32 }
+        ensures { RunsBegun self.now started.now at (frame_in visible.old own.old) result (frame_in visible.new own.new) }
+    {
+        let Started {
+            call,
+            code,
+            at: inside,
+        } = *started;
+        let (inner, rest) = below.split_at_mut(self.width(code.brief));
+        clear(inner);
+        match self.hand_in(
+            call.inward,
+            at.first,
+            inside.first,
+            visible,
+            own,
+            inner,
+            scratch,
+        ) {
+            Ok(()) => {}
+            Err(stop) => return Err(stop),
+        }
+        match self.run_list(code.body, inside, visible, inner, rest, scratch) {
+            Ok(_) => {}
+            Err(stop) => return Err(stop),
+        }
+        match self.hand_out(
+            call.outward,
+            call.place,
+            at.first,
+            inside.first,
+            visible,
+            own,
+            inner,
+            scratch,
+        ) {
+            Ok(()) => Ok(value_at(inner, code.value)),
+            Err(stop) => Err(stop),
+        }
+    }
+
+    /// Runs the block of this number as the one that is entered, from visible cells with these values.
+    ///
+    /// `brief` has room for the brief cells of eight blocks, and `scratch` for the values of an expression; what they hold doesn't matter.
+    pub fn run(
+        &self,
+        block: u32,
+        visible: &mut [i64],
+        brief: &mut [Option<i64>],
+        scratch: &mut [i64],
+    ) -> Result<(), Stop>
+        requires brief { (most_calls + 1) * self.now.widest ≤ length brief.old }
+        requires scratch { self.now.scratch ≤ length scratch.old }
+        ensures { (source : Source) → IsProgram source self.now
+            → slice_get source.project.blocks block ≡ Some source.entry
+            → end_in (λ done. visible.new) result ≡ (scan_from source most_calls visible.old).end }
+    {
+        let Some(code) = self.blocks.get(block as usize) else {
+            return Ok(());
+        };
+        let (own, below) = brief.split_at_mut(self.width(code.brief));
+        clear(own);
+        let at = At {
+            first: 0,
+            calls: MOST_CALLS,
+        };
+        match self.run_list(code.body, at, visible, own, below, scratch) {
+            Ok(_) => Ok(()),
+            Err(stop) => Err(stop),
+        }
+    }
+}

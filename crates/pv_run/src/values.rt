@@ -1,0 +1,123 @@
+//! Values and targets of a program in a frame.
+ghost use Rattle.std.specs.Prelude.{◌≡◌, ◌≤◌, length, IfOk};
+ghost use Rattle.pv_tree.specs.Tree.{ExprTree, OperandTree, BlockTree};
+ghost use Rattle.pv_mean.specs.Sources.{Source};
+ghost use Rattle.pv_mean.specs.Endings.{end_of};
+ghost use Rattle.pv_mean.specs.Values.{value, locate};
+ghost use Rattle.pv_mean.specs.Statements.{store};
+ghost use Rattle.pv_eval.specs.Means.{activation};
+ghost use Rattle.pv_eval.specs.Operands.{IsSpot};
+ghost use Rattle.pv_eval.specs.Writes.{TypesOf};
+ghost use Rattle.pv_run.specs.Code.{IsValue, IsTarget};
+ghost use Rattle.pv_run.specs.Ends.{value_of, spot_end, ending_of};
+ghost use Rattle.pv_run.specs.Runs.{frame_in, Tests};
+
+use crate::program::Program;
+use crate::stop::{Flow, Stop};
+use pv_eval::{Room, Spot, write_spot};
+
+impl Program {
+    /// The value of this number.
+    pub(crate) fn value(
+        &self,
+        n: u32,
+        first: u32,
+        visible: &[i64],
+        brief: &[Option<i64>],
+        scratch: &mut [i64],
+    ) -> Result<i64, Stop>
+        requires { self.now.scratch ≤ length scratch.old }
+        ensures { (source : Source) (block : BlockTree) (e : ExprTree) → IsValue source block self.now n e
+            → value_of result ≡ end_of (value source (activation block first) (frame_in visible.now brief.now) e) }
+    {
+        let Some(expression) = self.values.get(n as usize) else {
+            return Ok(0);
+        };
+        if expression.len() > scratch.len() {
+            return Ok(0);
+        }
+        let room = Room {
+            first,
+            visible,
+            brief,
+        };
+        match expression.value(&room, scratch) {
+            Ok(v) => Ok(v),
+            Err(trap) => Err(Stop::Trap(trap)),
+        }
+    }
+
+    /// The spot of the target of this number.
+    pub(crate) fn locate(
+        &self,
+        n: u32,
+        first: u32,
+        visible: &[i64],
+        brief: &[Option<i64>],
+        scratch: &mut [i64],
+    ) -> Result<Spot, Stop>
+        requires { self.now.scratch ≤ length scratch.old }
+        ensures value { (source : Source) (block : BlockTree) (o : OperandTree) → IsTarget source block self.now n o
+            → spot_end result ≡ end_of (locate source (activation block first) (frame_in visible.now brief.now) o) }
+        ensures spot { IfOk result IsSpot }
+    {
+        let Some(target) = self.targets.get(n as usize) else {
+            return Ok(Spot::Nowhere);
+        };
+        if target.len() > scratch.len() {
+            return Ok(Spot::Nowhere);
+        }
+        let room = Room {
+            first,
+            visible,
+            brief,
+        };
+        match target.locate(&room, scratch) {
+            Ok(spot) => Ok(spot),
+            Err(trap) => Err(Stop::Trap(trap)),
+        }
+    }
+
+    /// Whether the condition of this number is true.
+    pub(crate) fn holds(
+        &self,
+        n: u32,
+        first: u32,
+        visible: &[i64],
+        brief: &[Option<i64>],
+        scratch: &mut [i64],
+    ) -> Result<bool, Stop>
+        requires { self.now.scratch ≤ length scratch.old }
+        ensures { Tests self.now n first (frame_in visible.now brief.now) result }
+    {
+        match self.value(n, first, visible, brief, scratch) {
+            Ok(v) => Ok(v == 1),
+            Err(stop) => Err(stop),
+        }
+    }
+
+    /// A value goes to the target of this number.
+    pub(crate) fn store(
+        &self,
+        n: u32,
+        v: i64,
+        first: u32,
+        visible: &mut [i64],
+        brief: &mut [Option<i64>],
+        scratch: &mut [i64],
+    ) -> Result<Flow, Stop>
+        requires { self.now.scratch ≤ length scratch.old }
+        ensures { (source : Source) (block : BlockTree) (o : OperandTree) → TypesOf source self.now.types.items
+            → IsTarget source block self.now n o
+            → ending_of result (frame_in visible.new brief.new)
+            ≡ store source (activation block first) o (frame_in visible.old brief.old) v }
+    {
+        match self.locate(n, first, visible, brief, scratch) {
+            Ok(spot) => {
+                write_spot(self.types.as_slice(), visible, brief, spot, v);
+                Ok(Flow::Normal)
+            }
+            Err(stop) => Err(stop),
+        }
+    }
+}
