@@ -6,7 +6,7 @@ use Rattle.pv_tree.specs.Lexemes.{Lexeme}
 use Rattle.pv_tree.specs.Expressions.{SpellsSteps, SpellsStep, SpellsOperand, IsFormedOperand, AreFormedSteps, IsFormedStep}
 use Rattle.pv_parse.specs.declared.action.Action.{Action}
 use Rattle.pv_parse.proofs.ChainRuns.{Whole, as_factor}
-use Rattle.pv_parse.proofs.ExprRuns.{Steps, OneStep, read_made, atom_made, paren_made, unary_made, binary_made, no_step, more_steps, field_step, index_step}
+use Rattle.pv_parse.proofs.ExprRuns.{Steps, OneStep, firm, read_made, atom_made, paren_made, unary_made, binary_made, no_step, more_steps, field_step, index_step}
 use Rattle.pv_parse.proofs.FunctionRuns.{Can, AllCan, std_made}
 
 -- steps can be made of each well-formed spelling of them
@@ -21,18 +21,21 @@ CanRead rest acts o = (ts : List Lexeme) → SpellsOperand o ts → IsFormedOper
 
 mutual
   pub can : (rest : Grammar) (acts : List Action) (e : ExprTree) → Can rest acts e
-  can rest acts (lit own value place) ts d f = as_factor rest acts (lit own value place) ts (atom_made rest acts own value place ts d)
+  can rest acts (lit own value place) ts d f = as_factor rest acts (lit own value place) ts (firm rest acts (lit own value place) ts (atom_made rest acts own value place ts d))
   can rest acts (read o) ts d f = as_factor rest acts (read o) ts (can_read rest acts o ts d f)
   can rest acts (unary op place e) ts d f =
-      as_factor rest acts (unary op place e) ts (unary_made rest acts op place e ts d f.0 (can rest acts e d.back d.behind f.1))
+      as_factor rest acts (unary op place e) ts
+      (firm rest acts (unary op place e) ts (unary_made rest acts op place e ts d f.0 (can rest acts e d.back d.behind f.1)))
   can rest acts (binary op place e r) ts d f =
       binary_made rest acts op place e r ts d f.0 f.1 (can rest acts e d.front d.in_front f.2) (can rest acts r d.behind.back d.behind.behind f.3)
   can rest acts (std function place args) ts d f =
-      as_factor rest acts (std function place args) ts (std_made rest acts function place args ts d (cans rest acts args) f)
+      as_factor rest acts (std function place args) ts
+      (firm rest acts (std function place args) ts (std_made rest acts function place args ts d (cans rest acts args) f))
   can rest acts (paren place e) ts d f =
-      as_factor rest acts (paren place e) ts (paren_made rest acts place e ts d (can rest acts e d.behind.front d.behind.in_front f))
+      as_factor rest acts (paren place e) ts
+      (firm rest acts (paren place e) ts (paren_made rest acts place e ts d (can rest acts e d.behind.front d.behind.in_front f)))
 
-  cans : (rest : Grammar) (acts : List Action) (es : ExprTrees) → AllCan rest acts es
+  pub cans : (rest : Grammar) (acts : List Action) (es : ExprTrees) → AllCan rest acts es
   cans rest acts no_exprs = tt
   cans rest acts (exprs e es) = (can rest acts e, cans rest acts es)
 

@@ -67,7 +67,7 @@ abbrev shade : Place → List Place → Shade
 shade first parts = record { first = first; parts = parts }
 
 -- the shade of a path with one step more
-stepped_shade : (first : Place) (below : List Shade) (xs : List StepTree) (step : StepTree) (inner : List Place) → inner ≡ merged (places_of_step step) []
+pub stepped_shade : (first : Place) (below : List Shade) (xs : List StepTree) (step : StepTree) (inner : List Place) → inner ≡ merged (places_of_step step) []
     → Some (shade first (merged (places_of_steps (steps_of xs)) inner) ∷ below) ≡ Some (shade first (places_of_steps (steps_of (xs ++ step ∷ []))) ∷ below)
 stepped_shade first below xs step inner e =
     ap (λ (z : List Place). Some (shade first z ∷ below))

@@ -4,6 +4,7 @@ use Rattle.std.proofs.Common.{◌≡◌, inl, inr, ℕ, ◌≤◌, Bool, true, f
 use Rattle.std.proofs.lemmas.List.{append-nil, append_assoc}
 use Rattle.pv_word.specs.declared.types.Ty.TheVariants as ty
 use Rattle.pv_machine.specs.declared.place.Place.{Place}
+use Rattle.pv_types.specs.declared.name.Name.{Name}
 use Rattle.pv_tree.specs.declared.expr.Root.{Root}
 use Rattle.pv_tree.specs.declared.expr.Root.TheVariants.{Local, Named}
 use Rattle.pv_tree.specs.declared.expr.UnaryOp.{UnaryOp}
@@ -12,7 +13,7 @@ use Rattle.pv_tree.specs.declared.expr.BinaryOp.TheVariants as o
 use Rattle.pv_tree.specs.Tree.{ExprTree, lit, read, unary, binary, paren, ExprTrees, no_exprs, exprs, operand, StepTree, field, index}
 use Rattle.pv_tree.specs.View.{steps_of}
 use Rattle.pv_tree.specs.Lexemes.{Lexeme, IsJoined, IsSign, IsWord, sign}
-use Rattle.pv_tree.specs.Words.{plain_name, quoted_name, SpellsWord}
+use Rattle.pv_tree.specs.Words.{plain_name, quoted_name, SpellsWord, SpellsFirm}
 use Rattle.pv_tree.specs.Literals.{number_type}
 use Rattle.pv_tree.specs.Expressions.{SpellsExpr, SpellsArguments, SpellsRoot, SpellsSteps, SpellsStep, IsFormedRoot, AreFormedSteps, IsFormedStep, IsBefore, AreFormedExprs, strength_of}
 use Rattle.pv_ll.specs.declared.table.Symbol.{Symbol}
@@ -26,11 +27,12 @@ use Rattle.pv_parse.specs.TokenTexts.{times_of, compare_of, truth_of, area_of}
 use Rattle.pv_parse.specs.Items.{Stack, PathTree, token, path, expr}
 use Rattle.pv_parse.specs.ExprDeeds.{rooted, stepped, function_expr}
 use Rattle.pv_parse.specs.Deeds.{expression_actions}
-use Rattle.pv_parse.proofs.Sorts.{Sure, lexemes, sure_making, Holds, IsFreeWord, Sort, Does, a_label, a_root, a_field, walks, an_expr, leads, root, walk, chain, on_path, on_expr, expression_sorts, meaning}
+use Rattle.pv_parse.proofs.Sure.{IsPrefix}
+use Rattle.pv_parse.proofs.Sorts.{Sure, lexemes, sure_making, Holds, IsFreeWord, Sort, Does, a_label, a_word, a_firm, a_root, a_field, walks, an_expr, leads, word, root, walk, chain, on_path, on_expr, expression_sorts, meaning}
 use Rattle.pv_parse.proofs.Forms.{last, parted, single, single_at, led, joined}
 use Rattle.pv_parse.proofs.ChainLaws.{on_lexemes, weaker, first_then, link_then, no_link, linked}
 use Rattle.pv_parse.proofs.TokenFacts as fact
-use Rattle.pv_parse.proofs.TokenFacts.{IsFunctionOf, IsPrefix}
+use Rattle.pv_parse.proofs.TokenFacts.{IsFunctionOf}
 
 -- a law in each grammar that begins with the productions of expressions
 abbrev pub Lawful : List Action → List Sort → ℕ → ℕ → List Symbol → Type 0
@@ -48,11 +50,11 @@ same_expr l m e ws us h a p =
 -- ---- words and names
 
 word_root : {s : Stack} (t : Sure) (ws : List Sure) → IsFreeWord t.lexeme → ws ≡ t ∷ []
-    → Does root s ws (path (rooted (Local (plain_name t.lexeme.bytes) false t.lexeme.place) t.lexeme.place) ∷ s)
+    → Does word s ws (path (rooted (Local (plain_name t.lexeme.bytes) false t.lexeme.place) t.lexeme.place) ∷ s)
 word_root {s} t ws h p =
-    subst (λ (z : List Sure). Does root s z (path (rooted (Local (plain_name t.lexeme.bytes) false t.lexeme.place) t.lexeme.place) ∷ s)) (sym p)
-    (a_root (Local (plain_name t.lexeme.bytes) false t.lexeme.place) t.lexeme.place
-    (single_at t.lexeme (record { is = record { kind = h.kind; unnumbered = h.unnumbered; names = refl }; at = refl })) h.free)
+    subst (λ (z : List Sure). Does word s z (path (rooted (Local (plain_name t.lexeme.bytes) false t.lexeme.place) t.lexeme.place) ∷ s)) (sym p)
+    (a_word (plain_name t.lexeme.bytes) t.lexeme.place
+    (single_at t.lexeme (record { kind = h.kind; unnumbered = h.unnumbered; names = refl })) h.free)
 
 pub word_1 : (acts : List Action) (sorts : List Sort) → Lawful acts sorts b.word_1 name.word b.word_1_body
 word_1 acts sorts s inner ws w (val (a_label t h) nil e) =
@@ -126,11 +128,11 @@ pub firm_name_1 : (acts : List Action) (sorts : List Sort) → Lawful acts sorts
 firm_name_1 acts sorts s inner ws w (tok {t = t} p nil) = record {
   after = path (rooted (Named (quoted_name t.lexeme.bytes)) t.lexeme.place) ∷ s;
   makes = refl;
-  mean = a_root (Named (quoted_name t.lexeme.bytes)) t.lexeme.place (inl (single_at t.lexeme (fact.quoted t p))) tt;
+  mean = a_firm (quoted_name t.lexeme.bytes) t.lexeme.place (inl (single_at t.lexeme (fact.quoted t p))) (fact.quoted_free t p);
 }
 
 pair_spelled : (t m : Sure) → IsPrefix t.lexeme → (q : m.kind ≡ n.number)
-    → SpellsRoot (Named (plain_name (t.lexeme.bytes ++ m.lexeme.bytes))) t.lexeme.place (t.lexeme ∷ m.lexeme ∷ [])
+    → SpellsFirm (plain_name (t.lexeme.bytes ++ m.lexeme.bytes)) t.lexeme.place (t.lexeme ∷ m.lexeme ∷ [])
 pair_spelled t m h q = inr (inr (record {
   prefix = t.lexeme;
   number = m.lexeme;
@@ -146,14 +148,14 @@ pub firm_name_2 : (acts : List Action) (sorts : List Sort) → Lawful acts sorts
 firm_name_2 acts sorts s inner ws w (tok {t = t} p (tok {t = m} q nil)) = record {
   after = path (rooted (Named (plain_name (t.lexeme.bytes ++ m.lexeme.bytes))) t.lexeme.place) ∷ s;
   makes = refl;
-  mean = a_root (Named (plain_name (t.lexeme.bytes ++ m.lexeme.bytes))) t.lexeme.place (pair_spelled t m (fact.prefix t p) q) tt;
+  mean = a_firm (plain_name (t.lexeme.bytes ++ m.lexeme.bytes)) t.lexeme.place (pair_spelled t m (fact.prefix t p) q) (fact.pair_free t m (fact.prefix t p) q);
 }
 
 pub firm_name_3 : (acts : List Action) (sorts : List Sort) → Lawful acts sorts b.firm_name_3 name.firm_name b.firm_name_3_body
 firm_name_3 acts sorts s inner ws w (tok {t = t} p nil) = record {
   after = path (rooted (Named (plain_name t.lexeme.bytes)) t.lexeme.place) ∷ s;
   makes = refl;
-  mean = a_root (Named (plain_name t.lexeme.bytes)) t.lexeme.place (inr (inl (single_at t.lexeme (fact.numbered t p)))) tt;
+  mean = a_firm (plain_name t.lexeme.bytes) t.lexeme.place (inr (inl (single_at t.lexeme (fact.numbered t p)))) (fact.numbered_free t p);
 }
 
 pub field_1 : (acts : List Action) (sorts : List Sort) → Lawful acts sorts b.field_1 name.field b.field_1_body
@@ -364,21 +366,25 @@ read_along : (r : Root) (p : Place) (path_ : List StepTree) (xs ys ws : List Lex
     → SpellsSteps (steps_of path_) ys → AreFormedSteps (steps_of path_) → Holds 7 (read (operand r (steps_of path_) p)) ws
 read_along r p path_ xs ys ws e h f g i = record { spelled = joined xs ys ws e h g; formed = (f, i); strong = omega arith }
 
+-- a word alone begins an operand
+pub word_begins : (n : Name) (p : Place) (ts : List Lexeme) → SpellsWord n p ts → SpellsRoot (Local n false p) p ts
+word_begins n p ts d = record { token = d.token; alone = d.alone; is = record { is = d.is; at = d.is.at } }
+
 pub word_read_1 : (acts : List Action) (sorts : List Sort) → Lawful acts sorts b.word_read_1 name.word_read b.word_read_1_body
-word_read_1 acts sorts s inner ws w (val {us = us} {ts = rest} (a_root r p h f) (val {us = vs} (walks _ _ before new after g i j) nil q) e) = record {
-  after = expr (read (operand r (steps_of after) p)) ∷ s;
+word_read_1 acts sorts s inner ws w (val {us = us} {ts = rest} (a_word x p h f) (val {us = vs} (walks _ _ before new after g i j) nil q) e) = record {
+  after = expr (read (operand (Local x false p) (steps_of after) p)) ∷ s;
   makes = refl;
-  mean = an_expr (read (operand r (steps_of after) p)) (read_along r p after (lexemes us) (lexemes vs) (lexemes ws)
-      (parted ws us vs (two ws us rest vs e q)) h f (subst (λ (z : List StepTree). SpellsSteps (steps_of z) (lexemes vs)) (sym j) g)
+  mean = an_expr (read (operand (Local x false p) (steps_of after) p)) (read_along (Local x false p) p after (lexemes us) (lexemes vs) (lexemes ws)
+      (parted ws us vs (two ws us rest vs e q)) (word_begins x p (lexemes us) h) f (subst (λ (z : List StepTree). SpellsSteps (steps_of z) (lexemes vs)) (sym j) g)
       (subst (λ (z : List StepTree). AreFormedSteps (steps_of z)) (sym j) i));
 }
 
 pub name_read_2 : (acts : List Action) (sorts : List Sort) → Lawful acts sorts b.name_read_2 name.name_read b.name_read_2_body
-name_read_2 acts sorts s inner ws w (val {us = us} {ts = rest} (a_root r p h f) (val {us = vs} (walks _ _ before new after g i j) nil q) e) = record {
-  after = expr (read (operand r (steps_of after) p)) ∷ s;
+name_read_2 acts sorts s inner ws w (val {us = us} {ts = rest} (a_firm x p h free) (val {us = vs} (walks _ _ before new after g i j) nil q) e) = record {
+  after = expr (read (operand (Named x) (steps_of after) p)) ∷ s;
   makes = refl;
-  mean = an_expr (read (operand r (steps_of after) p)) (read_along r p after (lexemes us) (lexemes vs) (lexemes ws)
-      (parted ws us vs (two ws us rest vs e q)) h f (subst (λ (z : List StepTree). SpellsSteps (steps_of z) (lexemes vs)) (sym j) g)
+  mean = an_expr (read (operand (Named x) (steps_of after) p)) (read_along (Named x) p after (lexemes us) (lexemes vs) (lexemes ws)
+      (parted ws us vs (two ws us rest vs e q)) h tt (subst (λ (z : List StepTree). SpellsSteps (steps_of z) (lexemes vs)) (sym j) g)
       (subst (λ (z : List StepTree). AreFormedSteps (steps_of z)) (sym j) i));
 }
 
@@ -565,7 +571,7 @@ function_5 acts sorts s inner ws w (tok {t = t} p (tok {t = d} q (tok {t = a1} i
 
 -- ---- steps
 
-steps_append : (xs ys : List StepTree) (us vs ws : List Lexeme) → SpellsSteps (steps_of xs) us → SpellsSteps (steps_of ys) vs → ws ≡ us ++ vs
+pub steps_append : (xs ys : List StepTree) (us vs ws : List Lexeme) → SpellsSteps (steps_of xs) us → SpellsSteps (steps_of ys) vs → ws ≡ us ++ vs
     → SpellsSteps (steps_of (xs ++ ys)) ws
 steps_append [] ys us vs ws g h p =
     subst (λ (z : List Lexeme). SpellsSteps (steps_of ys) z) (sym (p ∙ ap (λ (z : List Lexeme). z ++ vs) g)) h
@@ -573,7 +579,7 @@ steps_append (x ∷ xs) ys us vs ws g h p =
     joined g.front (g.back ++ vs) ws (p ∙ ap (λ (z : List Lexeme). z ++ vs) g.parts ∙ append_assoc g.front g.back vs) g.in_front
     (steps_append xs ys g.back vs (g.back ++ vs) g.behind h refl)
 
-formed_append : (xs ys : List StepTree) → AreFormedSteps (steps_of xs) → AreFormedSteps (steps_of ys) → AreFormedSteps (steps_of (xs ++ ys))
+pub formed_append : (xs ys : List StepTree) → AreFormedSteps (steps_of xs) → AreFormedSteps (steps_of ys) → AreFormedSteps (steps_of (xs ++ ys))
 formed_append [] ys g h = h
 formed_append (x ∷ xs) ys g h = (g.0, formed_append xs ys g.1 h)
 
@@ -590,7 +596,7 @@ steps_2 acts sorts s inner ws (on_path q below) nil =
     record { after = path q ∷ below; makes = refl; mean = walks q.root q.place q.steps [] q.steps refl tt (sym (append-nil q.steps)) }
 
 -- one step
-one_step : {s : Stack} (q : PathTree) (x : StepTree) (ws : List Sure) → SpellsStep x (lexemes ws) → IsFormedStep x
+pub one_step : {s : Stack} (q : PathTree) (x : StepTree) (ws : List Sure) → SpellsStep x (lexemes ws) → IsFormedStep x
     → Does walk (path q ∷ s) ws (path (stepped q x) ∷ s)
 one_step q x ws g i =
     walks q.root q.place q.steps (x ∷ []) (q.steps ++ x ∷ []) (joined (lexemes ws) [] (lexemes ws) (sym (append-nil (lexemes ws))) g refl) (i, tt) refl

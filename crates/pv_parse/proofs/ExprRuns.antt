@@ -8,6 +8,7 @@ use Rattle.pv_machine.specs.declared.place.Place.{Place}
 use Rattle.pv_types.specs.declared.name.Name.{Name as NameOf}
 use Rattle.pv_ll.specs.declared.table.Symbol.TheVariants.{Token, Name}
 use Rattle.pv_ll.specs.Grammar.{Grammar}
+use Rattle.pv_tree.specs.declared.expr.Area.{Area as AreaOf}
 use Rattle.pv_tree.specs.declared.expr.Root.{Root}
 use Rattle.pv_tree.specs.declared.expr.Root.TheVariants.{Local, Named, Area}
 use Rattle.pv_tree.specs.declared.expr.UnaryOp.{UnaryOp}
@@ -16,8 +17,8 @@ use Rattle.pv_tree.specs.declared.expr.BinaryOp.{BinaryOp}
 use Rattle.pv_tree.specs.Tree.{ExprTree, lit, read, unary, binary, paren, operand, StepTree, field, index, StepTrees, no_steps, steps}
 use Rattle.pv_tree.specs.View.{steps_of, list_of_steps}
 use Rattle.pv_tree.specs.Lexemes.{Lexeme, IsSign, IsOne}
-use Rattle.pv_tree.specs.Words.{plain_name, quoted_name, IsPlain, SpellsFirm}
-use Rattle.pv_tree.specs.Expressions.{SpellsExpr, SpellsStep, SpellsOperand, SpellsAtom, IsBefore, strength, strength_of, IsFormedRoot}
+use Rattle.pv_tree.specs.Words.{plain_name, quoted_name, IsPlain, IsFree, SpellsWord, SpellsFirm}
+use Rattle.pv_tree.specs.Expressions.{SpellsExpr, SpellsStep, SpellsOperand, SpellsAtom, IsBefore, strength, strength_of, SpellsRoot, IsFormedRoot}
 use Rattle.pv_parse.specs.declared.action.Action.{Action}
 use Rattle.pv_parse.specs.KindNumbers as n
 use Rattle.pv_parse.specs.Kinds.{kind_of}
@@ -36,14 +37,14 @@ use Rattle.pv_parse.proofs.ChainRuns.{Whole, Derived, between}
 -- ---- words and names
 
 -- a word that is a name, left as its token, by one of the productions
-abbrev WordMade : Grammar → List Action → Lexeme → Stack → Type 0
+abbrev pub WordMade : Grammar → List Action → Lexeme → Stack → Type 0
 WordMade rest acts t s =
     Gets rest acts (Name name.word ∷ []) (t ∷ []) s (path (rooted (Local (plain_name t.bytes) false t.place) t.place) ∷ s)
 
-serving : (m : ℕ) (t : Lexeme) → kind_of false t ≡ m → t.kind ≡ k.Word → Serves m t
+pub serving : (m : ℕ) (t : Lexeme) → kind_of false t ≡ m → t.kind ≡ k.Word → Serves m t
 serving m t e w = record { is = e; plain = kind.word_marks t w }
 
-word_made : (rest : Grammar) (acts : List Action) (t : Lexeme) (s : Stack) → t.kind ≡ k.Word → WordKind (kind_of false t) → WordMade rest acts t s
+pub word_made : (rest : Grammar) (acts : List Action) (t : Lexeme) (s : Stack) → t.kind ≡ k.Word → WordKind (kind_of false t) → WordMade rest acts t s
 word_made rest acts t s w (as_plain e) =
     by b.word_1 b.word_1_body refl (by b.label_word_1 b.label_word_1_body refl (pass n.plain t (serving n.plain t e w)) refl) refl
 word_made rest acts t s w (as_in_word e) =
@@ -67,8 +68,25 @@ word_made rest acts t s w (as_or_op e) = by b.word_3 b.word_3_body refl (pass n.
 word_made rest acts t s w (as_value_op e) = by b.word_4 b.word_4_body refl (pass n.value_op t (serving n.value_op t e w)) refl
 word_made rest acts t s w (as_free_op e) = by b.word_5 b.word_5_body refl (pass n.free_op t (serving n.free_op t e w)) refl
 
+-- a path without steps, by the name that makes one
+abbrev pub Rooted : Grammar → List Action → ℕ → Root → Place → List Lexeme → Type 0
+Rooted rest acts m root place ts = (s : Stack) → Gets rest acts (Name m ∷ []) ts s (path (rooted root place) ∷ s)
+
+pub renamed_path : (rest : Grammar) (acts : List Action) (m : ℕ) (ts : List Lexeme) (r q : Root) (p at : Place) → r ≡ q → p ≡ at → Rooted rest acts m r p ts
+    → Rooted rest acts m q at ts
+renamed_path rest acts m ts r q p at e f g =
+    subst (λ (z : Place). Rooted rest acts m q z ts) f (subst (λ (z : Root). Rooted rest acts m z p ts) e g)
+
+-- a name that is a word
+pub name_made : (rest : Grammar) (acts : List Action) (x : NameOf) (place : Place) (ts : List Lexeme) → SpellsWord x place ts → IsFree x
+    → Rooted rest acts name.word (Local x false place) place ts
+name_made rest acts x place ts d f =
+    renamed_path rest acts name.word ts (Local (plain_name d.token.bytes) false d.token.place) (Local x false place) d.token.place place
+    (ap (λ (z : NameOf). Local z false d.token.place) (sym d.is.is.names) ∙ ap (λ (z : Place). Local x false z) d.is.at) d.is.at
+    (λ s. on (sym d.alone) (word_made rest acts d.token s d.is.is.kind (kind-word d.token x d.is.is f)))
+
 -- a word directly behind `#` or `.`
-field_made : (rest : Grammar) (acts : List Action) (mark : ℕ) (t w : Lexeme) (s : Stack) (x : NameOf) → kind.Marks mark t → IsPlain x w
+pub field_made : (rest : Grammar) (acts : List Action) (mark : ℕ) (t w : Lexeme) (s : Stack) (x : NameOf) → kind.Marks mark t → IsPlain x w
     → Gets rest acts (Token mark ∷ Name name.field ∷ []) (t ∷ w ∷ []) s (path (rooted (Local (plain_name w.bytes) false w.place) w.place) ∷ token t ∷ s)
 field_made rest acts mark t w s x h p =
     elim (kind.marked_word x w p) [
@@ -78,17 +96,8 @@ field_made rest acts mark t w s x h p =
 
 -- ---- paths
 
--- a path without steps, by the name that makes one
-abbrev Rooted : Grammar → List Action → ℕ → Root → Place → List Lexeme → Type 0
-Rooted rest acts m root place ts = (s : Stack) → Gets rest acts (Name m ∷ []) ts s (path (rooted root place) ∷ s)
-
-renamed_path : (rest : Grammar) (acts : List Action) (m : ℕ) (ts : List Lexeme) (r q : Root) (p at : Place) → r ≡ q → p ≡ at → Rooted rest acts m r p ts
-    → Rooted rest acts m q at ts
-renamed_path rest acts m ts r q p at e f g =
-    subst (λ (z : Place). Rooted rest acts m q z ts) f (subst (λ (z : Root). Rooted rest acts m z p ts) e g)
-
 -- a quoted or a numbered name
-firm_made : (rest : Grammar) (acts : List Action) (x : NameOf) (place : Place) (ts : List Lexeme) → SpellsFirm x place ts
+pub firm_made : (rest : Grammar) (acts : List Action) (x : NameOf) (place : Place) (ts : List Lexeme) → SpellsFirm x place ts
     → Rooted rest acts name.firm_name (Named x) place ts
 firm_made rest acts x place ts (inl d) =
     renamed_path rest acts name.firm_name ts (Named (quoted_name d.token.bytes)) (Named x) d.token.place place (ap (λ z. Named z) (sym d.is.is.names)) d.is.at
@@ -146,18 +155,51 @@ index_step rest acts e place ts d g p s =
 
 -- ---- operands that are read
 
-steps_back : (l : StepTrees) → steps_of (list_of_steps l) ≡ l
+pub steps_back : (l : StepTrees) → steps_of (list_of_steps l) ≡ l
 steps_back no_steps = refl
 steps_back (steps x l) = ap (λ (z : StepTrees). steps x z) (steps_back l)
 
 -- what is read along a path, as the tree has it
-read_back : (r : Root) (l : StepTrees) (p : Place) (s : Stack)
+pub read_back : (r : Root) (l : StepTrees) (p : Place) (s : Stack)
     → ◌≡◌ {A = Stack} (expr (read (operand r (steps_of (list_of_steps l)) p)) ∷ s) (expr (read (operand r l p)) ∷ s)
 read_back r l p s = ap (λ (z : StepTrees). expr (read (operand r z p)) ∷ s) (steps_back l)
 
-pub read_made : (rest : Grammar) (acts : List Action) (r : Root) (l : StepTrees) (p : Place) (ts : List Lexeme) → (d : SpellsOperand (operand r l p) ts)
-    → IsFormedRoot r → Steps rest acts l d.back → Whole rest acts 7 (read (operand r l p)) ts
-read_made rest acts (Local x true at) l p ts d f g = λ s.
+-- among the factors that begin with no name
+abbrev pub Firm : Grammar → List Action → ExprTree → List Lexeme → Type 0
+Firm rest acts e ts = (s : Stack) → Gets rest acts (Name name.firm_factor ∷ []) ts s (expr e ∷ s)
+
+-- what stands there is a factor
+pub firm : (rest : Grammar) (acts : List Action) (e : ExprTree) (ts : List Lexeme)
+    → Firm rest acts e ts → Whole rest acts 7 e ts
+firm rest acts e ts g = λ s.
+    by b.factor_2 b.factor_2_body refl (by b.other_factor_2 b.other_factor_2_body refl (g s) refl) refl
+
+-- an address alone
+pub area_rooted : (rest : Grammar) (acts : List Action) (its : AreaOf) (bits byte bit : ℕ) (p : Place) (ts : List Lexeme)
+    → SpellsRoot (Area its bits byte bit) p ts → Rooted rest acts name.area (Area its bits byte bit) p ts
+area_rooted rest acts its bits byte bit p ts a s =
+    to (ap (λ (z : Root). path (rooted z a.token.place) ∷ s) (kind.area its bits byte bit a.token a.is.is)
+    ∙ ap (λ (z : Place). path (rooted (Area its bits byte bit) z) ∷ s) a.is.at)
+    (on (sym a.alone) (by b.area_1 b.area_1_body refl (pass n.address a.token (kind.address its bits byte bit a.token a.is.is)) refl))
+
+-- what an address begins is one of these
+pub area_made : (rest : Grammar) (acts : List Action) (its : AreaOf) (bits byte bit : ℕ) (l : StepTrees) (p : Place) (ts : List Lexeme)
+    → (d : SpellsOperand (operand (Area its bits byte bit) l p) ts) → Steps rest acts l d.back → Firm rest acts (read (operand (Area its bits byte bit) l p)) ts
+area_made rest acts its bits byte bit l p ts d g = λ s.
+    let a = d.in_front in
+    to (ap (λ (z : Root). expr (read (operand z (steps_of (list_of_steps l)) a.token.place)) ∷ s) (kind.area its bits byte bit a.token a.is.is)
+    ∙ ap (λ (z : Place). expr (read (operand (Area its bits byte bit) (steps_of (list_of_steps l)) z)) ∷ s) a.is.at
+    ∙ read_back (Area its bits byte bit) l p s)
+    (on (sym (d.parts ∙ ap (λ (z : List Lexeme). z ++ d.back) a.alone))
+    (by b.firm_factor_1 b.firm_factor_1_body refl
+    (then (by b.area_1 b.area_1_body refl (pass n.address a.token (kind.address its bits byte bit a.token a.is.is)) refl)
+    (g (rooted (area_of a.token.bytes) a.token.place) s)) refl))
+
+-- an operand that begins with `#`, and one that begins with another name
+pub hash_read_made : (rest : Grammar) (acts : List Action) (x : NameOf) (at : Place) (l : StepTrees) (p : Place) (ts : List Lexeme)
+    → (d : SpellsOperand (operand (Local x true at) l p) ts) → Steps rest acts l d.back → (s : Stack)
+    → Gets rest acts (Name name.name_read ∷ []) ts s (expr (read (operand (Local x true at) l p)) ∷ s)
+hash_read_made rest acts x at l p ts d g s =
     let hash = d.in_front.in_front in
     let w = d.in_front.behind in
     to (ap (λ (z : NameOf). expr (read (operand (Local z true w.token.place) (steps_of (list_of_steps l)) hash.token.place)) ∷ s) (sym w.is.is.names)
@@ -166,9 +208,21 @@ read_made rest acts (Local x true at) l p ts d f g = λ s.
     ∙ read_back (Local x true at) l p s)
     (on (sym (d.parts ∙ ap (λ (z : List Lexeme). z ++ d.back) (d.in_front.parts ∙ ap (λ (z : List Lexeme). z ++ d.in_front.back) hash.alone
     ∙ ap (λ (z : List Lexeme). hash.token ∷ z) w.alone)))
-    (by b.factor_2 b.factor_2_body refl (by b.other_factor_1 b.other_factor_1_body refl (by b.name_read_1 b.name_read_1_body refl
+    (by b.name_read_1 b.name_read_1_body refl
     (then (field_made rest acts n.hash hash.token w.token s x (kind.hash hash.token hash.is.is) w.is.is)
-    (g (rooted (Local (plain_name w.token.bytes) false w.token.place) w.token.place) (token hash.token ∷ s))) refl) refl) refl))
+    (g (rooted (Local (plain_name w.token.bytes) false w.token.place) w.token.place) (token hash.token ∷ s))) refl))
+
+pub firm_read_made : (rest : Grammar) (acts : List Action) (x : NameOf) (l : StepTrees) (p : Place) (ts : List Lexeme)
+    → (d : SpellsOperand (operand (Named x) l p) ts) → Steps rest acts l d.back → (s : Stack)
+    → Gets rest acts (Name name.name_read ∷ []) ts s (expr (read (operand (Named x) l p)) ∷ s)
+firm_read_made rest acts x l p ts d g s =
+    to (read_back (Named x) l p s) (on (sym d.parts)
+    (by b.name_read_2 b.name_read_2_body refl (then (firm_made rest acts x p d.front d.in_front s) (g (rooted (Named x) p) s)) refl))
+
+pub read_made : (rest : Grammar) (acts : List Action) (r : Root) (l : StepTrees) (p : Place) (ts : List Lexeme) → (d : SpellsOperand (operand r l p) ts)
+    → IsFormedRoot r → Steps rest acts l d.back → Whole rest acts 7 (read (operand r l p)) ts
+read_made rest acts (Local x true at) l p ts d f g = λ s.
+    by b.factor_2 b.factor_2_body refl (by b.other_factor_1 b.other_factor_1_body refl (hash_read_made rest acts x at l p ts d g s) refl) refl
 read_made rest acts (Local x false at) l p ts d f g = λ s.
     let w = d.in_front in
     to (ap (λ (z : NameOf). expr (read (operand (Local z false w.token.place) (steps_of (list_of_steps l)) w.token.place)) ∷ s) (sym w.is.is.is.names)
@@ -180,43 +234,27 @@ read_made rest acts (Local x false at) l p ts d f g = λ s.
     (then (word_made rest acts w.token s w.is.is.is.kind (kind-word w.token x w.is.is.is f))
     (g (rooted (Local (plain_name w.token.bytes) false w.token.place) w.token.place) s)) refl) refl))
 read_made rest acts (Named x) l p ts d f g = λ s.
-    to (read_back (Named x) l p s) (on (sym d.parts)
-    (by b.factor_2 b.factor_2_body refl (by b.other_factor_1 b.other_factor_1_body refl (by b.name_read_2 b.name_read_2_body refl
-    (then (firm_made rest acts x p d.front d.in_front s) (g (rooted (Named x) p) s)) refl) refl) refl))
-read_made rest acts (Area its bits byte bit) l p ts d f g = λ s.
-    let a = d.in_front in
-    to (ap (λ (z : Root). expr (read (operand z (steps_of (list_of_steps l)) a.token.place)) ∷ s) (kind.area its bits byte bit a.token a.is.is)
-    ∙ ap (λ (z : Place). expr (read (operand (Area its bits byte bit) (steps_of (list_of_steps l)) z)) ∷ s) a.is.at
-    ∙ read_back (Area its bits byte bit) l p s)
-    (on (sym (d.parts ∙ ap (λ (z : List Lexeme). z ++ d.back) a.alone))
-    (by b.factor_2 b.factor_2_body refl (by b.other_factor_2 b.other_factor_2_body refl (by b.firm_factor_1 b.firm_factor_1_body refl
-    (then (by b.area_1 b.area_1_body refl (pass n.address a.token (kind.address its bits byte bit a.token a.is.is)) refl)
-    (g (rooted (area_of a.token.bytes) a.token.place) s)) refl) refl) refl))
+    by b.factor_2 b.factor_2_body refl (by b.other_factor_1 b.other_factor_1_body refl (firm_read_made rest acts x l p ts d g s) refl) refl
+read_made rest acts (Area its bits byte bit) l p ts d f g = firm rest acts (read (operand (Area its bits byte bit) l p)) ts (area_made rest acts its bits byte bit l p ts d g)
 
 -- ---- factors
 
--- what stands among the factors that begin with no name
-pub firm : (rest : Grammar) (acts : List Action) (e : ExprTree) (ts : List Lexeme)
-    → ((s : Stack) → Gets rest acts (Name name.firm_factor ∷ []) ts s (expr e ∷ s)) → Whole rest acts 7 e ts
-firm rest acts e ts g = λ s.
-    by b.factor_2 b.factor_2_body refl (by b.other_factor_2 b.other_factor_2_body refl (g s) refl) refl
-
 pub atom_made : (rest : Grammar) (acts : List Action) (own : Option Ty) (value : ℤ) (place : Place) (ts : List Lexeme) → SpellsAtom own value place ts
-    → Whole rest acts 7 (lit own value place) ts
-atom_made rest acts own value place ts (inl d) = firm rest acts (lit own value place) ts (λ s.
+    → Firm rest acts (lit own value place) ts
+atom_made rest acts own value place ts (inl d) = (λ s.
     to (ap (λ (z : Option Ty). expr (lit z d.token.value d.token.place) ∷ s) (sym d.is.is.typed)
     ∙ ap (λ (z : ℤ). expr (lit own z d.token.place) ∷ s) d.is.is.valued
     ∙ ap (λ (z : Place). expr (lit own value z) ∷ s) d.is.at)
     (on (sym d.alone) (by b.firm_factor_2 b.firm_factor_2_body refl (pass n.number d.token (kind.number d.token d.is.is.kind)) refl)))
-atom_made rest acts own value place ts (inr d) = firm rest acts (lit own value place) ts (λ s.
+atom_made rest acts own value place ts (inr d) = (λ s.
     to (ap (λ (z : Option Ty). expr (lit z (truth_of d.token.bytes) d.token.place) ∷ s) (sym d.is.is.typed)
     ∙ ap (λ (z : ℤ). expr (lit own z d.token.place) ∷ s) (truth_is own value d.token d.is.is)
     ∙ ap (λ (z : Place). expr (lit own value z) ∷ s) d.is.at)
     (on (sym d.alone) (by b.firm_factor_3 b.firm_factor_3_body refl (pass n.truth d.token (kind.truth own value d.token d.is.is)) refl)))
 
 pub paren_made : (rest : Grammar) (acts : List Action) (place : Place) (e : ExprTree) (ts : List Lexeme) → (d : SpellsExpr (paren place e) ts)
-    → Derived rest acts e d.behind.front → Whole rest acts 7 (paren place e) ts
-paren_made rest acts place e ts d g = firm rest acts (paren place e) ts (λ s.
+    → Derived rest acts e d.behind.front → Firm rest acts (paren place e) ts
+paren_made rest acts place e ts d g = (λ s.
     let open_ = d.in_front in
     let close = d.behind.behind in
     to (ap (λ (z : Place). expr (paren z e) ∷ s) open_.is.at)
@@ -236,8 +274,8 @@ unary_by rest acts u.Not t e ts h g s =
     by b.firm_factor_8 b.firm_factor_8_body refl (then (pass n.not_word t (kind.not_word t h)) (g (token t ∷ s))) refl
 
 pub unary_made : (rest : Grammar) (acts : List Action) (op : UnaryOp) (place : Place) (e : ExprTree) (ts : List Lexeme) → (d : SpellsExpr (unary op place e) ts)
-    → 7 ≤ strength e → Derived rest acts e d.back → Whole rest acts 7 (unary op place e) ts
-unary_made rest acts op place e ts d h g = firm rest acts (unary op place e) ts (λ s.
+    → 7 ≤ strength e → Derived rest acts e d.back → Firm rest acts (unary op place e) ts
+unary_made rest acts op place e ts d h g = (λ s.
     let t = d.in_front in
     to (ap (λ (z : Place). expr (unary op z e) ∷ s) t.is.at)
     (on (sym (d.parts ∙ ap (λ (z : List Lexeme). z ++ d.back) t.alone))

@@ -24,8 +24,8 @@ use Rattle.pv_parse.proofs.TokenKinds.{Serves}
 use Rattle.pv_parse.proofs.KindOf.{kind_of_function}
 use Rattle.pv_parse.proofs.FunctionTexts.{function_is}
 use Rattle.pv_parse.proofs.Gets.{Gets, on, to, then, by, pass}
-use Rattle.pv_parse.proofs.ChainRuns.{Whole, Derived}
-use Rattle.pv_parse.proofs.ExprRuns.{firm}
+use Rattle.pv_parse.proofs.ChainRuns.{Derived}
+use Rattle.pv_parse.proofs.ExprRuns.{Firm}
 
 -- an expression can be made of each well-formed spelling of it
 abbrev pub Can : Grammar → List Action → ExprTree → Type 0
@@ -115,8 +115,8 @@ record Inner (rest : Grammar) (acts : List Action) (k : ℕ) (symbols : List Sym
 function_made : (rest : Grammar) (acts : List Action) (f : StdFunction) (place : Place) (args : ExprTrees) (ts : List Lexeme)
     → (d : SpellsExpr (std f place args) ts) → (k : ℕ) (symbols : List Symbol)
     → IsProduction (expression_productions ++ rest) k name.function (Token (kind_of_function f) ∷ Token n.paren_open ∷ (symbols ++ Token n.paren_close ∷ []))
-    → ((t begin c : Lexeme) (s : Stack) → Inner rest acts k symbols args d.behind.behind.front t begin c s) → Whole rest acts 7 (std f place args) ts
-function_made rest acts f place args ts d k symbols p made = firm rest acts (std f place args) ts (λ s.
+    → ((t begin c : Lexeme) (s : Stack) → Inner rest acts k symbols args d.behind.behind.front t begin c s) → Firm rest acts (std f place args) ts
+function_made rest acts f place args ts d k symbols p made = (λ s.
     let t = d.in_front in
     let begin = d.behind.in_front in
     let close = d.behind.behind.behind in
@@ -221,7 +221,7 @@ three_inner rest acts u v w h i j k e f g ts tell tell2 tell3 d can can2 can3 fo
 -- a function by its number of arguments, where they are as many as it has
 with_one : (rest : Grammar) (acts : List Action) (f : StdFunction) (place : Place) (args : ExprTrees) (ts : List Lexeme) → (d : SpellsExpr (std f place args) ts)
     → SpellsArguments true (None ∷ []) args d.behind.behind.front → AllCan rest acts args → AreFormedExprs args → kind_of_function f ≡ n.one_function
-    → Whole rest acts 7 (std f place args) ts
+    → Firm rest acts (std f place args) ts
 with_one rest acts f place no_exprs ts d e all formed k = absurd e
 with_one rest acts f place (exprs x (exprs y zs)) ts d e all formed k = absurd e.behind.behind.behind
 with_one rest acts f place (exprs x no_exprs) ts d e all formed k =
@@ -235,7 +235,7 @@ with_two : (rest : Grammar) (acts : List Action) (f : StdFunction) (v w : String
     → IsProduction (expression_productions ++ rest) k name.function (Token (kind_of_function f) ∷ Token n.paren_open ∷ (two_symbols i j ++ Token n.paren_close ∷ []))
     → ((e g : ExprTree) (t begin c a m o p q : Lexeme) (s : Stack) → reduce_by (expression_actions ++ acts) k (token c ∷ expr g ∷ token a ∷ token m ∷ token o
     ∷ expr e ∷ token p ∷ token q ∷ token begin ∷ token t ∷ s) ≡ Some (expr (function_expr t (exprs e (exprs g no_exprs))) ∷ s))
-    → Whole rest acts 7 (std f place args) ts
+    → Firm rest acts (std f place args) ts
 with_two rest acts f v w i j k place no_exprs ts d e all formed tell tell2 p r = absurd e
 with_two rest acts f v w i j k place (exprs x no_exprs) ts d e all formed tell tell2 p r = absurd e.behind.behind.behind
 with_two rest acts f v w i j k place (exprs x (exprs y (exprs z zs))) ts d e all formed tell tell2 p r =
@@ -252,7 +252,7 @@ with_three : (rest : Grammar) (acts : List Action) (f : StdFunction) (u v w : St
     → ((e f g : ExprTree) (t begin c a m o p q x y z : Lexeme) (s : Stack) → reduce_by (expression_actions ++ acts) k (token c ∷ expr g ∷ token a ∷ token m
     ∷ token o ∷ expr f ∷ token p ∷ token q ∷ token x ∷ expr e ∷ token y ∷ token z ∷ token begin ∷ token t ∷ s)
     ≡ Some (expr (function_expr t (exprs e (exprs f (exprs g no_exprs)))) ∷ s))
-    → Whole rest acts 7 (std f place args) ts
+    → Firm rest acts (std f place args) ts
 with_three rest acts f u v w h i j k place no_exprs ts d e all formed tell tell2 tell3 p r = absurd e
 with_three rest acts f u v w h i j k place (exprs x no_exprs) ts d e all formed tell tell2 tell3 p r = absurd e.behind.behind.behind
 with_three rest acts f u v w h i j k place (exprs x (exprs y no_exprs)) ts d e all formed tell tell2 tell3 p r =
@@ -264,7 +264,7 @@ with_three rest acts f u v w h i j k place (exprs x (exprs y (exprs z no_exprs))
     (three_inner rest acts u v w h i j k x y z d.behind.behind.front tell tell2 tell3 e all.0 all.1.0 all.1.1.0 formed.0 formed.1.0 formed.1.1.0 (r x y z))
 
 pub std_made : (rest : Grammar) (acts : List Action) (f : StdFunction) (place : Place) (args : ExprTrees) (ts : List Lexeme)
-    → SpellsExpr (std f place args) ts → AllCan rest acts args → AreFormedExprs args → Whole rest acts 7 (std f place args) ts
+    → SpellsExpr (std f place args) ts → AllCan rest acts args → AreFormedExprs args → Firm rest acts (std f place args) ts
 std_made rest acts (function.Convert from into) place args ts d all formed =
     with_one rest acts (function.Convert from into) place args ts d d.behind.behind.in_front all formed refl
 std_made rest acts function.Abs place args ts d all formed = with_one rest acts function.Abs place args ts d d.behind.behind.in_front all formed refl

@@ -14,6 +14,10 @@ pub mod Marks
 pub mod ExprMarks
 pub mod Following
 pub mod ExprFollows
+pub mod Sure
+pub mod Stacks
+pub mod CodeSorts
+pub mod DeclSorts
 pub mod Sorts
 pub mod Forms
 pub mod FunctionTexts
@@ -27,12 +31,13 @@ pub mod ChainRuns
 pub mod ExprRuns
 pub mod FunctionRuns
 pub mod Complete
+pub mod CodeShapes
+pub mod DeclShapes
 pub mod Shapes
 pub mod ExprSound
 pub mod Closed
 pub mod Readings
 pub mod Shading
-pub mod Answering
 mod Sound
 mod Witnesses
 pub mod ForCallers

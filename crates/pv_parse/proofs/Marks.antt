@@ -81,9 +81,9 @@ parts_behind at m q ts ps o (onward t us all_ a) h =
     omega (arith, o.0, below)
 
 -- the first of those that have so many above them
-record IsFirst (m : ℕ) (ps : List Part) (place : Place) : Type 0 where
-  there : HasPart ps (part m place)
-  least : (q : Place) → HasPart ps (part m q) → place.offset ≤ q.offset
+pub record IsFirst (m : ℕ) (ps : List Part) (place : Place) : Type 0 where
+  pub there : HasPart ps (part m place)
+  pub least : (q : Place) → HasPart ps (part m q) → place.offset ≤ q.offset
 
 -- what is behind a part that has not so many above it has the first of those that have
 first_behind : (m : ℕ) (p : Part) (more : List Part) (place : Place) → (p.above ≡ m → ⊥) → IsFirst m more place → IsFirst m (p ∷ more) place
@@ -112,7 +112,7 @@ first_by : (b : Bool) (m : ℕ) (p : Part) (more : List Part) (place : Place) �
 first_by true m p more place is e before others = first_itself m p more place (eqb-true p.above m is) (same_Some p.first place e) before
 first_by false m p more place is e before others = first_behind m p more place (eqb-false p.above m is) (others e)
 
-is_first : (at m : ℕ) (ts : List Lexeme) (ps : List Part) (place : Place) → LieInOrder at ts → Along ts ps → first_above m ps ≡ Some place → IsFirst m ps place
+pub is_first : (at m : ℕ) (ts : List Lexeme) (ps : List Part) (place : Place) → LieInOrder at ts → Along ts ps → first_above m ps ≡ Some place → IsFirst m ps place
 is_first at m ts ps place o (done _) e = absurd (cc (e))
 is_first at m ts ps place o (onward t us all_ a) e = is_first t.place.offset m us all_ place o.1 a e
 is_first at m ts ps place o (here t us p more at_ a) e =
@@ -127,7 +127,7 @@ none_by : (b : Bool) (m : ℕ) (p : Part) (more : List Part) → (p.above == m) 
 none_by true m p more is e others h = absurd (cc (e))
 none_by false m p more is e others h = elim h [ inl it ↦ eqb-false p.above m is it | inr later ↦ others e later ]
 
-none_above : (m : ℕ) (ps : List Part) → first_above m ps ≡ None → HasAbove ps m → ⊥
+pub none_above : (m : ℕ) (ps : List Part) → first_above m ps ≡ None → HasAbove ps m → ⊥
 none_above m [] e h = h
 none_above m (p ∷ ps) e h = none_by (p.above == m) m p ps refl e (λ f later. none_above m ps f later) h
 

@@ -39,13 +39,13 @@ sure_of [] (x ∷ kinds) h = absurd h
 sure_of (t ∷ ls) [] h = absurd h
 sure_of (t ∷ ls) (x ∷ kinds) h = record { lexeme = t; kind = x; has = h.0 } ∷ sure_of ls kinds h.1
 
-sure_lexemes : (ls : List Lexeme) (kinds : List ℕ) (h : HaveKinds ls kinds) → lexemes (sure_of ls kinds h) ≡ ls
+pub sure_lexemes : (ls : List Lexeme) (kinds : List ℕ) (h : HaveKinds ls kinds) → lexemes (sure_of ls kinds h) ≡ ls
 sure_lexemes [] [] h = refl
 sure_lexemes [] (x ∷ kinds) h = absurd h
 sure_lexemes (t ∷ ls) [] h = absurd h
 sure_lexemes (t ∷ ls) (x ∷ kinds) h = ap (λ (z : List Lexeme). t ∷ z) (sure_lexemes ls kinds h.1)
 
-sure_kinds : (ls : List Lexeme) (kinds : List ℕ) (h : HaveKinds ls kinds) → map (λ (t : Sure). t.kind) (sure_of ls kinds h) ≡ kinds
+pub sure_kinds : (ls : List Lexeme) (kinds : List ℕ) (h : HaveKinds ls kinds) → map (λ (t : Sure). t.kind) (sure_of ls kinds h) ≡ kinds
 sure_kinds [] [] h = refl
 sure_kinds [] (x ∷ kinds) h = absurd h
 sure_kinds (t ∷ ls) [] h = absurd h
@@ -101,16 +101,16 @@ sentence_of rest e ls r =
 
 -- ---- faults
 
-kinds_length : (marked : Bool) (ls : List Lexeme) → length (kinds_of marked ls) ≡ length ls
+pub kinds_length : (marked : Bool) (ls : List Lexeme) → length (kinds_of marked ls) ≡ length ls
 kinds_length marked [] = refl
 kinds_length marked (t ∷ ls) = ap suc (kinds_length (marks t) ls)
 
-kinds_take : (i : ℕ) (marked : Bool) (ls : List Lexeme) → kinds_of marked (take i ls) ≡ take i (kinds_of marked ls)
+pub kinds_take : (i : ℕ) (marked : Bool) (ls : List Lexeme) → kinds_of marked (take i ls) ≡ take i (kinds_of marked ls)
 kinds_take zero marked ls = refl
 kinds_take (suc i) marked [] = refl
 kinds_take (suc i) marked (t ∷ ls) = ap (λ (z : List ℕ). kind_of marked t ∷ z) (kinds_take i (marks t) ls)
 
-all_behind : {X : Type 0} (P : X → Type 0) (xs ys : List X) → All P (xs ++ ys) → All P ys
+pub all_behind : {X : Type 0} (P : X → Type 0) (xs ys : List X) → All P (xs ++ ys) → All P ys
 all_behind P [] ys h = h
 all_behind P (x ∷ xs) ys h = all_behind P xs ys (All-tail P x (xs ++ ys) h)
 

@@ -1,7 +1,8 @@
 -- The shades of a text that is an expression: those of its tree.
-use Rattle.std.proofs.Common.{◌≡◌, ℕ, ◌<◌, Bool, true, false, List, [], ◌∷◌, ◌++◌, refl, ap, ◌∙◌}
+use Rattle.std.proofs.Common.{◌≡◌, ℕ, ◌<◌, Bool, true, false, List, [], ◌∷◌, ◌++◌, refl, ap, ◌∙◌, sym}
 use Rattle.std.specs.Prelude.{slice_index_or, nat_lt}
 use Rattle.std.proofs.lemmas.Option.{slice_get_within}
+use Rattle.std.proofs.lemmas.Bool.{true≢false}
 use Rattle.pv_ll.specs.declared.table.Symbol.{Symbol}
 use Rattle.pv_ll.specs.declared.table.Symbol.TheVariants.{Name}
 use Rattle.pv_ll.specs.Grammar.{Grammar, Production, ◌⟶◌, IsProduction}
@@ -10,7 +11,7 @@ use Rattle.pv_tree.specs.Tree.{ExprTree}
 use Rattle.pv_tree.specs.Lexemes.{Lexeme}
 use Rattle.pv_tree.specs.Reading.{ReadAsExpression}
 use Rattle.pv_parse.specs.declared.action.Action.{Action}
-use Rattle.pv_parse.specs.declared.action.Action.TheVariants.{Keep, Expr}
+use Rattle.pv_parse.specs.declared.action.Action.TheVariants.{Keep, Expr, Decl, Block, Call, Stmt}
 use Rattle.pv_parse.specs.FrontNames as name
 use Rattle.pv_parse.specs.Front.{expression_productions}
 use Rattle.pv_parse.specs.ExprAnswers.{AreOthers}
@@ -27,16 +28,24 @@ use Rattle.pv_parse.proofs.Readings.{complete}
 abbrev pub is_followed : Action → Bool
 is_followed Keep = true
 is_followed (Expr action) = true
+is_followed (Decl action) = false
+is_followed (Block action) = false
+is_followed (Call action) = false
+is_followed (Stmt action) = false
 
 pub action_keeps : (action : Action) → is_followed action ≡ true → Keeps (deed action) (shading_of action)
 action_keeps Keep e s left h = seen s left h
 action_keeps (Expr action) e s left h = expr_keeps action s left h
+action_keeps (Decl action) e s left h = absurd (true≢false (sym e))
+action_keeps (Block action) e s left h = absurd (true≢false (sym e))
+action_keeps (Call action) e s left h = absurd (true≢false (sym e))
+action_keeps (Stmt action) e s left h = absurd (true≢false (sym e))
 
 -- the names of expressions
 abbrev pub is_of_expressions : ℕ → Bool
 is_of_expressions n = nat_lt n name.source
 
-alternative_followed : (acts : List Action) (k n : ℕ) (body : List Symbol) → IsProduction expression_productions k n body
+pub alternative_followed : (acts : List Action) (k n : ℕ) (body : List Symbol) → IsProduction expression_productions k n body
     → IsFollowed shade_of (making (expression_actions ++ acts)) (shade_making (expression_actions ++ acts)) is_of_expressions k body
 alternative_followed acts k n body p =
     let within : k < 75 = slice_get_within expression_productions k (n ⟶ body) p in

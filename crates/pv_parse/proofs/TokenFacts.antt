@@ -1,16 +1,15 @@
 -- What a token is that has a kind, as the laws of productions ask for it.
 use Prim.Native.String.{String}
-use Rattle.std.proofs.Common.{◌≡◌, ◌⊎◌, inl, inr, ℕ, true, List, [], ◌∷◌, Option, Some, None, refl, ap, sym, subst, ◌∙◌, arith}
+use Rattle.std.proofs.Common.{◌≡◌, ◌⊎◌, inl, inr, ℕ, true, List, [], ◌∷◌, ◌++◌, Option, Some, None, refl, ap, sym, subst, ◌∙◌, arith}
 use Rattle.std.specs.Prelude.{pos}
 use Rattle.pv_word.specs.declared.types.Ty.TheVariants as ty
 use Rattle.pv_lex.specs.declared.token.Kind.TheVariants as k
-use Rattle.pv_lex.specs.Shapes.{is_one_of}
 use Rattle.pv_tree.specs.declared.expr.BinaryOp.{BinaryOp}
 use Rattle.pv_tree.specs.declared.expr.BinaryOp.TheVariants as o
 use Rattle.pv_tree.specs.declared.expr.StdFunction.{StdFunction}
 use Rattle.pv_tree.specs.declared.expr.StdFunction.TheVariants as function
 use Rattle.pv_tree.specs.Lexemes.{Lexeme, IsSign, IsWord}
-use Rattle.pv_tree.specs.Words.{IsPlain, IsQuoted, IsNumbered, plain_name, quoted_name, prefixes, function_word}
+use Rattle.pv_tree.specs.Words.{IsFree, IsPlain, IsQuoted, IsNumbered, plain_name, quoted_name, function_word}
 use Rattle.pv_tree.specs.Literals.{IsTruth, IsAddress, bare_address, address_bits, address_byte, address_bit}
 use Rattle.pv_tree.specs.Expressions.{IsBetween, IsOfFunction, parameters_of}
 use Rattle.pv_parse.specs.KindNumbers as n
@@ -20,13 +19,13 @@ use Rattle.pv_parse.proofs.KindSpelled as by
 use Rattle.pv_parse.proofs.KindNames as names
 use Rattle.pv_parse.proofs.KindNames.{Plain}
 use Rattle.pv_parse.proofs.KindOf.{kind_of_function}
-use Rattle.pv_parse.proofs.KindPairs.{OneFunction, is-function}
+use Rattle.pv_parse.proofs.KindPairs.{OneFunction, is-function, pair-free}
 use Rattle.pv_parse.proofs.FunctionTexts.{function_is}
 use Rattle.pv_parse.proofs.OperatorTexts.{times_mul, times_div, compare_is, truth_is, letter_of}
-use Rattle.pv_parse.proofs.Sorts.{Sure, IsFreeWord}
+use Rattle.pv_parse.proofs.Sure.{Sure, IsFreeWord, IsPrefix}
 
 -- the token's own kind, by its number
-has : (t : Sure) (m : ℕ) → t.kind ≡ m → HasKind t.lexeme m
+pub has : (t : Sure) (m : ℕ) → t.kind ≡ m → HasKind t.lexeme m
 has t m p = subst (λ (z : ℕ). HasKind t.lexeme z) p t.has
 
 -- ---- names
@@ -84,15 +83,20 @@ quoted t p = (names.is-quoted t.lexeme (has t n.quoted p)).is
 pub numbered : (t : Sure) → t.kind ≡ n.numbered → IsNumbered (plain_name t.lexeme.bytes) t.lexeme
 numbered t p = (names.is-numbered t.lexeme (has t n.numbered p)).is
 
-pub record IsPrefix (t : Lexeme) : Type 0 where
-  pub word : t.kind ≡ k.Word
-  pub is_prefix : is_one_of prefixes t.bytes ≡ true
-
 pub prefix : (t : Sure) → t.kind ≡ n.number_prefix → IsPrefix t.lexeme
 prefix t p = let s = by.is-number-prefix t.lexeme (has t n.number_prefix p) in record { word = s.0; is_prefix = s.1 }
 
 pub number : (t : Sure) → t.kind ≡ n.number → t.lexeme.kind ≡ k.Number
 number t p = (names.is-number t.lexeme (has t n.number p)).is
+
+pub quoted_free : (t : Sure) → t.kind ≡ n.quoted → IsFree (quoted_name t.lexeme.bytes)
+quoted_free t p = (names.is-quoted t.lexeme (has t n.quoted p)).free
+
+pub numbered_free : (t : Sure) → t.kind ≡ n.numbered → IsFree (plain_name t.lexeme.bytes)
+numbered_free t p = (names.is-numbered t.lexeme (has t n.numbered p)).free
+
+pub pair_free : (t m : Sure) → IsPrefix t.lexeme → m.kind ≡ n.number → IsFree (plain_name (t.lexeme.bytes ++ m.lexeme.bytes))
+pair_free t m h p = pair-free t.lexeme.bytes m.lexeme.bytes h.is_prefix (names.is-number m.lexeme (has m n.number p)).some
 
 pub address : (t : Sure) → t.kind ≡ n.address
     → IsAddress (area_of_letter (bare_address t.lexeme.bytes)) (address_bits (bare_address t.lexeme.bytes)) (address_byte (bare_address t.lexeme.bytes))
@@ -114,6 +118,9 @@ comma t p = by.is-comma t.lexeme (has t n.comma p)
 
 pub assign : (t : Sure) → t.kind ≡ n.assign → IsSign ":=" t.lexeme
 assign t p = by.is-assign t.lexeme (has t n.assign p)
+
+pub arrow : (t : Sure) → t.kind ≡ n.arrow → IsSign "=>" t.lexeme
+arrow t p = by.is-arrow t.lexeme (has t n.arrow p)
 
 pub paren_open : (t : Sure) → t.kind ≡ n.paren_open → IsSign "(" t.lexeme
 paren_open t p = by.is-paren-open t.lexeme (has t n.paren_open p)

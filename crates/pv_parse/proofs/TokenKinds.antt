@@ -44,7 +44,7 @@ pub word_marks : (t : Lexeme) → t.kind ≡ k.Word → marks t ≡ false
 word_marks t e = by_kind k.Word t e refl
 
 -- a sign marks as its text does
-sign_marks : (text : String) (t : Lexeme) → IsSign text t → marks t ≡ marks_by k.Sign (codes text)
+pub sign_marks : (text : String) (t : Lexeme) → IsSign text t → marks t ≡ marks_by k.Sign (codes text)
 sign_marks text t h =
     ap (λ (z : Kind). marks_by z t.bytes) h.kind
     ∙ ap (λ (z : List ℕ). bytes_eq z (small (codes "#")) || bytes_eq z (small (codes "."))) (same-small t.bytes (codes text) h.bytes)
@@ -82,6 +82,9 @@ comma t h = record { is = of.kind-comma t false h; plain = sign_marks "," t h }
 
 pub assign : (t : Lexeme) → IsSign ":=" t → Serves n.assign t
 assign t h = record { is = of.kind-assign t false h; plain = sign_marks ":=" t h }
+
+pub arrow : (t : Lexeme) → IsSign "=>" t → Serves n.arrow t
+arrow t h = record { is = of.kind-arrow t false h; plain = sign_marks "=>" t h }
 
 pub paren_open : (t : Lexeme) → IsSign "(" t → Serves n.paren_open t
 paren_open t h = record { is = of.kind-paren-open t false h; plain = sign_marks "(" t h }

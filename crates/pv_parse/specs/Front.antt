@@ -4,8 +4,8 @@
 use Rattle.std.specs.Prelude.{[], ◌∷◌, ◌++◌}
 use Rattle.pv_ll.specs.declared.table.Symbol.TheVariants.{Token, Name}
 use Rattle.pv_ll.specs.Grammar.{Grammar, ◌⟶◌}
-use Rattle.pv_parse.specs.KindNumbers.{plain, quoted, number, address, number_prefix, numbered, free_word, free_prefix, free_numbered, in_word, in0_word, in1_word, in2_word, mn_word, mx_word, g_word, n_word, bit_op, or_op, value_op, free_op, assign, arrow, dots, paren_open, paren_close, bracket_open, bracket_close, colon, semicolon, comma, dot, hash, plus, minus, times, mod_word, compare_sign, equals, unequal, and_word, xor_word, or_word, not_word, truth, one_function, two_function, limit_function, sel_function, shift_function, simple_type, date_and_time, void_word, array_word, of_word, struct_word, end_struct, section_word, end_var, const_word, end_const, function_block, end_function_block, function_word, end_function, organization_block, end_organization_block, data_block, end_data_block, type_word, end_type}
-use Rattle.pv_parse.specs.FrontNames.{word, label_word, firm_name, field, expression, or_tail, or_link, xor_chain, xor_tail, xor_link, and_chain, and_tail, and_link, equal_chain, equal_tail, equal_link, compare_chain, compare_tail, compare_link, sum_chain, sum_tail, sum_link, product_chain, product_tail, product_link, factor, word_read, other_factor, name_read, firm_factor, function, steps, step, area, source, block, name, value_type, sections, section, constants, constant, declarations, declaration, more_words, start_value, declared_type, struct, maybe_semicolon, literal, integer, data_type, data_values, data_value, path_steps, path_step, second_name, maybe_number, more_arguments, argument_value, body, data_body}
+use Rattle.pv_parse.specs.KindNumbers.{plain, quoted, number, address, number_prefix, numbered, free_word, free_prefix, in_word, in0_word, in1_word, in2_word, mn_word, mx_word, g_word, n_word, bit_op, or_op, value_op, free_op, assign, arrow, dots, paren_open, paren_close, bracket_open, bracket_close, colon, semicolon, comma, dot, hash, plus, minus, times, mod_word, compare_sign, equals, unequal, and_word, xor_word, or_word, not_word, truth, one_function, two_function, limit_function, sel_function, shift_function, simple_type, date_and_time, void_word, array_word, of_word, struct_word, end_struct, section_word, end_var, const_word, end_const, begin_word, function_block, end_function_block, function_word, end_function, organization_block, end_organization_block, data_block, end_data_block, type_word, end_type}
+use Rattle.pv_parse.specs.FrontNames.{word, label_word, firm_name, field, expression, or_tail, or_link, xor_chain, xor_tail, xor_link, and_chain, and_tail, and_link, equal_chain, equal_tail, equal_link, compare_chain, compare_tail, compare_link, sum_chain, sum_tail, sum_link, product_chain, product_tail, product_link, factor, word_read, other_factor, name_read, firm_factor, function, steps, step, area, source, new_source, blocks, block, block_name, name, value_type, sections, section, section_head, const_head, constants, constant, declarations, first_word, declared_words, next_word, declared, type_head, declared_type, array_head, struct, struct_head, own_fields, own_head, start_value, maybe_semicolon, literal, integer, data_type, data_head, data_values, data_value, path_steps, path_step, plain_hash, quoted_hash, numbered_hash, first_argument, argument_value, more_arguments, next_argument, body, data_body}
 
 -- expressions and operands
 abbrev pub expression_productions : Grammar
@@ -90,37 +90,49 @@ expression_productions =
 -- blocks, declarations, values of data blocks, and what calls share
 abbrev pub declaration_productions : Grammar
 declaration_productions =
-    (source ⟶ Name block ∷ Name source ∷ []) ∷
-    (source ⟶ []) ∷
-    (block ⟶ Token function_block ∷ Name name ∷ Name sections ∷ Name body ∷ Token end_function_block ∷ []) ∷
-    (block ⟶ Token function_word ∷ Name name ∷ Token colon ∷ Name value_type ∷ Name sections ∷ Name body ∷ Token end_function ∷ []) ∷
-    (block ⟶ Token organization_block ∷ Name name ∷ Name sections ∷ Name body ∷ Token end_organization_block ∷ []) ∷
-    (block ⟶ Token data_block ∷ Name name ∷ Name data_type ∷ Name data_body ∷ Token end_data_block ∷ []) ∷
-    (block ⟶ Token type_word ∷ Name name ∷ Name struct ∷ Name maybe_semicolon ∷ Token end_type ∷ []) ∷
+    (source ⟶ Name new_source ∷ Name blocks ∷ []) ∷
+    (new_source ⟶ []) ∷
+    (blocks ⟶ Name block ∷ Name blocks ∷ []) ∷
+    (blocks ⟶ []) ∷
+    (block ⟶ Token function_block ∷ Name block_name ∷ Name sections ∷ Name body ∷ Token end_function_block ∷ []) ∷
+    (block ⟶ Token function_word ∷ Name block_name ∷ Token colon ∷ Name value_type ∷ Name sections ∷ Name body ∷ Token end_function ∷ []) ∷
+    (block ⟶ Token organization_block ∷ Name block_name ∷ Name sections ∷ Name body ∷ Token end_organization_block ∷ []) ∷
+    (block ⟶ Token data_block ∷ Name block_name ∷ Name data_type ∷ Name data_body ∷ Token end_data_block ∷ []) ∷
+    (block ⟶ Token type_word ∷ Name block_name ∷ Name own_fields ∷ Token end_type ∷ []) ∷
+    (block_name ⟶ Name name ∷ []) ∷
     (name ⟶ Name word ∷ []) ∷
     (name ⟶ Name firm_name ∷ []) ∷
     (value_type ⟶ Token simple_type ∷ []) ∷
     (value_type ⟶ Token void_word ∷ []) ∷
     (sections ⟶ Name section ∷ Name sections ∷ []) ∷
     (sections ⟶ []) ∷
-    (section ⟶ Token section_word ∷ Name declarations ∷ Token end_var ∷ []) ∷
-    (section ⟶ Token const_word ∷ Name constants ∷ Token end_const ∷ []) ∷
+    (section ⟶ Name section_head ∷ Name declarations ∷ Token end_var ∷ []) ∷
+    (section ⟶ Name const_head ∷ Name constants ∷ Token end_const ∷ []) ∷
+    (section_head ⟶ Token section_word ∷ []) ∷
+    (const_head ⟶ Token const_word ∷ []) ∷
     (constants ⟶ Name constant ∷ Name constants ∷ []) ∷
     (constants ⟶ []) ∷
     (constant ⟶ Name word ∷ Token assign ∷ Name literal ∷ Token semicolon ∷ []) ∷
-    (declarations ⟶ Name declaration ∷ Name declarations ∷ []) ∷
+    (declarations ⟶ Name first_word ∷ Name declared_words ∷ []) ∷
     (declarations ⟶ []) ∷
-    (declaration ⟶ Name word ∷ Name more_words ∷ Token colon ∷ Name declared_type ∷ Name start_value ∷ Token semicolon ∷ []) ∷
-    (more_words ⟶ Token comma ∷ Name word ∷ Name more_words ∷ []) ∷
-    (more_words ⟶ []) ∷
-    (start_value ⟶ Token assign ∷ Name literal ∷ []) ∷
-    (start_value ⟶ []) ∷
+    (first_word ⟶ Name word ∷ []) ∷
+    (declared_words ⟶ Name next_word ∷ Name declared_words ∷ []) ∷
+    (declared_words ⟶ Name declared ∷ Name declarations ∷ []) ∷
+    (next_word ⟶ Token comma ∷ Name word ∷ []) ∷
+    (declared ⟶ Name type_head ∷ Name declared_type ∷ Name start_value ∷ Token semicolon ∷ []) ∷
+    (type_head ⟶ Token colon ∷ []) ∷
     (declared_type ⟶ Token simple_type ∷ []) ∷
     (declared_type ⟶ Token date_and_time ∷ []) ∷
     (declared_type ⟶ Name name ∷ []) ∷
     (declared_type ⟶ Name struct ∷ []) ∷
-    (declared_type ⟶ Token array_word ∷ Token bracket_open ∷ Name integer ∷ Token dots ∷ Name integer ∷ Token bracket_close ∷ Token of_word ∷ Name declared_type ∷ []) ∷
-    (struct ⟶ Token struct_word ∷ Name declarations ∷ Token end_struct ∷ []) ∷
+    (declared_type ⟶ Name array_head ∷ Name declared_type ∷ []) ∷
+    (array_head ⟶ Token array_word ∷ Token bracket_open ∷ Name integer ∷ Token dots ∷ Name integer ∷ Token bracket_close ∷ Token of_word ∷ []) ∷
+    (struct ⟶ Name struct_head ∷ Name declarations ∷ Token end_struct ∷ []) ∷
+    (struct_head ⟶ Token struct_word ∷ []) ∷
+    (own_fields ⟶ Name own_head ∷ Name declarations ∷ Token end_struct ∷ Name maybe_semicolon ∷ []) ∷
+    (own_head ⟶ Token struct_word ∷ []) ∷
+    (start_value ⟶ Token assign ∷ Name literal ∷ []) ∷
+    (start_value ⟶ []) ∷
     (maybe_semicolon ⟶ Token semicolon ∷ []) ∷
     (maybe_semicolon ⟶ []) ∷
     (literal ⟶ Name integer ∷ []) ∷
@@ -128,7 +140,8 @@ declaration_productions =
     (integer ⟶ Token minus ∷ Token number ∷ []) ∷
     (integer ⟶ Token number ∷ []) ∷
     (data_type ⟶ Name name ∷ []) ∷
-    (data_type ⟶ Name struct ∷ Name maybe_semicolon ∷ []) ∷
+    (data_type ⟶ Name own_fields ∷ []) ∷
+    (data_head ⟶ Token begin_word ∷ []) ∷
     (data_values ⟶ Name data_value ∷ Name data_values ∷ []) ∷
     (data_values ⟶ []) ∷
     (data_value ⟶ Name word ∷ Name path_steps ∷ Token assign ∷ Name literal ∷ Token semicolon ∷ []) ∷
@@ -136,16 +149,15 @@ declaration_productions =
     (path_steps ⟶ []) ∷
     (path_step ⟶ Token dot ∷ Name field ∷ []) ∷
     (path_step ⟶ Token bracket_open ∷ Name integer ∷ Token bracket_close ∷ []) ∷
-    (second_name ⟶ Token free_word ∷ []) ∷
-    (second_name ⟶ Token free_prefix ∷ Name maybe_number ∷ []) ∷
-    (second_name ⟶ Token free_numbered ∷ []) ∷
-    (second_name ⟶ Token quoted ∷ []) ∷
-    (maybe_number ⟶ Token number ∷ []) ∷
-    (maybe_number ⟶ []) ∷
-    (more_arguments ⟶ Token comma ∷ Name word ∷ Name argument_value ∷ Name more_arguments ∷ []) ∷
-    (more_arguments ⟶ []) ∷
+    (plain_hash ⟶ []) ∷
+    (quoted_hash ⟶ []) ∷
+    (numbered_hash ⟶ Token number ∷ []) ∷
+    (first_argument ⟶ Name argument_value ∷ []) ∷
     (argument_value ⟶ Token assign ∷ Name expression ∷ []) ∷
     (argument_value ⟶ Token arrow ∷ Name expression ∷ []) ∷
+    (more_arguments ⟶ Name next_argument ∷ Name more_arguments ∷ []) ∷
+    (more_arguments ⟶ []) ∷
+    (next_argument ⟶ Token comma ∷ Name word ∷ Name argument_value ∷ []) ∷
     []
 
 -- the productions that have the same numbers in both languages

@@ -529,394 +529,478 @@ area_1 = 74
 abbrev pub area_1_body : List Symbol
 area_1_body = Token 3 ∷ []
 
--- source = block source
+-- source = new_source blocks
 abbrev pub source_1 : ℕ
 source_1 = 75
 
 abbrev pub source_1_body : List Symbol
-source_1_body = Name 35 ∷ Name 34 ∷ []
+source_1_body = Name 35 ∷ Name 36 ∷ []
 
--- source =
-abbrev pub source_2 : ℕ
-source_2 = 76
+-- new_source =
+abbrev pub new_source_1 : ℕ
+new_source_1 = 76
 
-abbrev pub source_2_body : List Symbol
-source_2_body = []
+abbrev pub new_source_1_body : List Symbol
+new_source_1_body = []
 
--- block = function_block name sections body end_function_block
+-- blocks = block blocks
+abbrev pub blocks_1 : ℕ
+blocks_1 = 77
+
+abbrev pub blocks_1_body : List Symbol
+blocks_1_body = Name 37 ∷ Name 36 ∷ []
+
+-- blocks =
+abbrev pub blocks_2 : ℕ
+blocks_2 = 78
+
+abbrev pub blocks_2_body : List Symbol
+blocks_2_body = []
+
+-- block = function_block block_name sections body end_function_block
 abbrev pub block_1 : ℕ
-block_1 = 77
+block_1 = 79
 
 abbrev pub block_1_body : List Symbol
-block_1_body = Token 63 ∷ Name 36 ∷ Name 38 ∷ Name 60 ∷ Token 64 ∷ []
+block_1_body = Token 63 ∷ Name 38 ∷ Name 41 ∷ Name 76 ∷ Token 64 ∷ []
 
--- block = function_word name colon value_type sections body end_function
+-- block = function_word block_name colon value_type sections body end_function
 abbrev pub block_2 : ℕ
-block_2 = 78
+block_2 = 80
 
 abbrev pub block_2_body : List Symbol
-block_2_body = Token 65 ∷ Name 36 ∷ Token 29 ∷ Name 37 ∷ Name 38 ∷ Name 60 ∷ Token 66 ∷ []
+block_2_body = Token 65 ∷ Name 38 ∷ Token 29 ∷ Name 40 ∷ Name 41 ∷ Name 76 ∷ Token 66 ∷ []
 
--- block = organization_block name sections body end_organization_block
+-- block = organization_block block_name sections body end_organization_block
 abbrev pub block_3 : ℕ
-block_3 = 79
+block_3 = 81
 
 abbrev pub block_3_body : List Symbol
-block_3_body = Token 67 ∷ Name 36 ∷ Name 38 ∷ Name 60 ∷ Token 68 ∷ []
+block_3_body = Token 67 ∷ Name 38 ∷ Name 41 ∷ Name 76 ∷ Token 68 ∷ []
 
--- block = data_block name data_type data_body end_data_block
+-- block = data_block block_name data_type data_body end_data_block
 abbrev pub block_4 : ℕ
-block_4 = 80
+block_4 = 82
 
 abbrev pub block_4_body : List Symbol
-block_4_body = Token 69 ∷ Name 36 ∷ Name 51 ∷ Name 61 ∷ Token 70 ∷ []
+block_4_body = Token 69 ∷ Name 38 ∷ Name 63 ∷ Name 77 ∷ Token 70 ∷ []
 
--- block = type_word name struct maybe_semicolon end_type
+-- block = type_word block_name own_fields end_type
 abbrev pub block_5 : ℕ
-block_5 = 81
+block_5 = 83
 
 abbrev pub block_5_body : List Symbol
-block_5_body = Token 71 ∷ Name 36 ∷ Name 47 ∷ Name 48 ∷ Token 72 ∷ []
+block_5_body = Token 71 ∷ Name 38 ∷ Name 57 ∷ Token 72 ∷ []
+
+-- block_name = name
+abbrev pub block_name_1 : ℕ
+block_name_1 = 84
+
+abbrev pub block_name_1_body : List Symbol
+block_name_1_body = Name 39 ∷ []
 
 -- name = word
 abbrev pub name_1 : ℕ
-name_1 = 82
+name_1 = 85
 
 abbrev pub name_1_body : List Symbol
 name_1_body = Name 0 ∷ []
 
 -- name = firm_name
 abbrev pub name_2 : ℕ
-name_2 = 83
+name_2 = 86
 
 abbrev pub name_2_body : List Symbol
 name_2_body = Name 2 ∷ []
 
 -- value_type = simple_type
 abbrev pub value_type_1 : ℕ
-value_type_1 = 84
+value_type_1 = 87
 
 abbrev pub value_type_1_body : List Symbol
 value_type_1_body = Token 51 ∷ []
 
 -- value_type = void_word
 abbrev pub value_type_2 : ℕ
-value_type_2 = 85
+value_type_2 = 88
 
 abbrev pub value_type_2_body : List Symbol
 value_type_2_body = Token 53 ∷ []
 
 -- sections = section sections
 abbrev pub sections_1 : ℕ
-sections_1 = 86
+sections_1 = 89
 
 abbrev pub sections_1_body : List Symbol
-sections_1_body = Name 39 ∷ Name 38 ∷ []
+sections_1_body = Name 42 ∷ Name 41 ∷ []
 
 -- sections =
 abbrev pub sections_2 : ℕ
-sections_2 = 87
+sections_2 = 90
 
 abbrev pub sections_2_body : List Symbol
 sections_2_body = []
 
--- section = section_word declarations end_var
+-- section = section_head declarations end_var
 abbrev pub section_1 : ℕ
-section_1 = 88
+section_1 = 91
 
 abbrev pub section_1_body : List Symbol
-section_1_body = Token 58 ∷ Name 42 ∷ Token 59 ∷ []
+section_1_body = Name 43 ∷ Name 47 ∷ Token 59 ∷ []
 
--- section = const_word constants end_const
+-- section = const_head constants end_const
 abbrev pub section_2 : ℕ
-section_2 = 89
+section_2 = 92
 
 abbrev pub section_2_body : List Symbol
-section_2_body = Token 60 ∷ Name 40 ∷ Token 61 ∷ []
+section_2_body = Name 44 ∷ Name 45 ∷ Token 61 ∷ []
+
+-- section_head = section_word
+abbrev pub section_head_1 : ℕ
+section_head_1 = 93
+
+abbrev pub section_head_1_body : List Symbol
+section_head_1_body = Token 58 ∷ []
+
+-- const_head = const_word
+abbrev pub const_head_1 : ℕ
+const_head_1 = 94
+
+abbrev pub const_head_1_body : List Symbol
+const_head_1_body = Token 60 ∷ []
 
 -- constants = constant constants
 abbrev pub constants_1 : ℕ
-constants_1 = 90
+constants_1 = 95
 
 abbrev pub constants_1_body : List Symbol
-constants_1_body = Name 41 ∷ Name 40 ∷ []
+constants_1_body = Name 46 ∷ Name 45 ∷ []
 
 -- constants =
 abbrev pub constants_2 : ℕ
-constants_2 = 91
+constants_2 = 96
 
 abbrev pub constants_2_body : List Symbol
 constants_2_body = []
 
 -- constant = word assign literal semicolon
 abbrev pub constant_1 : ℕ
-constant_1 = 92
+constant_1 = 97
 
 abbrev pub constant_1_body : List Symbol
-constant_1_body = Name 0 ∷ Token 22 ∷ Name 49 ∷ Token 30 ∷ []
+constant_1_body = Name 0 ∷ Token 22 ∷ Name 61 ∷ Token 30 ∷ []
 
--- declarations = declaration declarations
+-- declarations = first_word declared_words
 abbrev pub declarations_1 : ℕ
-declarations_1 = 93
+declarations_1 = 98
 
 abbrev pub declarations_1_body : List Symbol
-declarations_1_body = Name 43 ∷ Name 42 ∷ []
+declarations_1_body = Name 48 ∷ Name 49 ∷ []
 
 -- declarations =
 abbrev pub declarations_2 : ℕ
-declarations_2 = 94
+declarations_2 = 99
 
 abbrev pub declarations_2_body : List Symbol
 declarations_2_body = []
 
--- declaration = word more_words colon declared_type start_value semicolon
-abbrev pub declaration_1 : ℕ
-declaration_1 = 95
+-- first_word = word
+abbrev pub first_word_1 : ℕ
+first_word_1 = 100
 
-abbrev pub declaration_1_body : List Symbol
-declaration_1_body = Name 0 ∷ Name 44 ∷ Token 29 ∷ Name 46 ∷ Name 45 ∷ Token 30 ∷ []
+abbrev pub first_word_1_body : List Symbol
+first_word_1_body = Name 0 ∷ []
 
--- more_words = comma word more_words
-abbrev pub more_words_1 : ℕ
-more_words_1 = 96
+-- declared_words = next_word declared_words
+abbrev pub declared_words_1 : ℕ
+declared_words_1 = 101
 
-abbrev pub more_words_1_body : List Symbol
-more_words_1_body = Token 31 ∷ Name 0 ∷ Name 44 ∷ []
+abbrev pub declared_words_1_body : List Symbol
+declared_words_1_body = Name 50 ∷ Name 49 ∷ []
 
--- more_words =
-abbrev pub more_words_2 : ℕ
-more_words_2 = 97
+-- declared_words = declared declarations
+abbrev pub declared_words_2 : ℕ
+declared_words_2 = 102
 
-abbrev pub more_words_2_body : List Symbol
-more_words_2_body = []
+abbrev pub declared_words_2_body : List Symbol
+declared_words_2_body = Name 51 ∷ Name 47 ∷ []
 
--- start_value = assign literal
-abbrev pub start_value_1 : ℕ
-start_value_1 = 98
+-- next_word = comma word
+abbrev pub next_word_1 : ℕ
+next_word_1 = 103
 
-abbrev pub start_value_1_body : List Symbol
-start_value_1_body = Token 22 ∷ Name 49 ∷ []
+abbrev pub next_word_1_body : List Symbol
+next_word_1_body = Token 31 ∷ Name 0 ∷ []
 
--- start_value =
-abbrev pub start_value_2 : ℕ
-start_value_2 = 99
+-- declared = type_head declared_type start_value semicolon
+abbrev pub declared_1 : ℕ
+declared_1 = 104
 
-abbrev pub start_value_2_body : List Symbol
-start_value_2_body = []
+abbrev pub declared_1_body : List Symbol
+declared_1_body = Name 52 ∷ Name 53 ∷ Name 59 ∷ Token 30 ∷ []
+
+-- type_head = colon
+abbrev pub type_head_1 : ℕ
+type_head_1 = 105
+
+abbrev pub type_head_1_body : List Symbol
+type_head_1_body = Token 29 ∷ []
 
 -- declared_type = simple_type
 abbrev pub declared_type_1 : ℕ
-declared_type_1 = 100
+declared_type_1 = 106
 
 abbrev pub declared_type_1_body : List Symbol
 declared_type_1_body = Token 51 ∷ []
 
 -- declared_type = date_and_time
 abbrev pub declared_type_2 : ℕ
-declared_type_2 = 101
+declared_type_2 = 107
 
 abbrev pub declared_type_2_body : List Symbol
 declared_type_2_body = Token 52 ∷ []
 
 -- declared_type = name
 abbrev pub declared_type_3 : ℕ
-declared_type_3 = 102
+declared_type_3 = 108
 
 abbrev pub declared_type_3_body : List Symbol
-declared_type_3_body = Name 36 ∷ []
+declared_type_3_body = Name 39 ∷ []
 
 -- declared_type = struct
 abbrev pub declared_type_4 : ℕ
-declared_type_4 = 103
+declared_type_4 = 109
 
 abbrev pub declared_type_4_body : List Symbol
-declared_type_4_body = Name 47 ∷ []
+declared_type_4_body = Name 55 ∷ []
 
--- declared_type = array_word bracket_open integer dots integer bracket_close of_word declared_type
+-- declared_type = array_head declared_type
 abbrev pub declared_type_5 : ℕ
-declared_type_5 = 104
+declared_type_5 = 110
 
 abbrev pub declared_type_5_body : List Symbol
-declared_type_5_body = Token 54 ∷ Token 27 ∷ Name 50 ∷ Token 24 ∷ Name 50 ∷ Token 28 ∷ Token 55 ∷ Name 46 ∷ []
+declared_type_5_body = Name 54 ∷ Name 53 ∷ []
 
--- struct = struct_word declarations end_struct
+-- array_head = array_word bracket_open integer dots integer bracket_close of_word
+abbrev pub array_head_1 : ℕ
+array_head_1 = 111
+
+abbrev pub array_head_1_body : List Symbol
+array_head_1_body = Token 54 ∷ Token 27 ∷ Name 62 ∷ Token 24 ∷ Name 62 ∷ Token 28 ∷ Token 55 ∷ []
+
+-- struct = struct_head declarations end_struct
 abbrev pub struct_1 : ℕ
-struct_1 = 105
+struct_1 = 112
 
 abbrev pub struct_1_body : List Symbol
-struct_1_body = Token 56 ∷ Name 42 ∷ Token 57 ∷ []
+struct_1_body = Name 56 ∷ Name 47 ∷ Token 57 ∷ []
+
+-- struct_head = struct_word
+abbrev pub struct_head_1 : ℕ
+struct_head_1 = 113
+
+abbrev pub struct_head_1_body : List Symbol
+struct_head_1_body = Token 56 ∷ []
+
+-- own_fields = own_head declarations end_struct maybe_semicolon
+abbrev pub own_fields_1 : ℕ
+own_fields_1 = 114
+
+abbrev pub own_fields_1_body : List Symbol
+own_fields_1_body = Name 58 ∷ Name 47 ∷ Token 57 ∷ Name 60 ∷ []
+
+-- own_head = struct_word
+abbrev pub own_head_1 : ℕ
+own_head_1 = 115
+
+abbrev pub own_head_1_body : List Symbol
+own_head_1_body = Token 56 ∷ []
+
+-- start_value = assign literal
+abbrev pub start_value_1 : ℕ
+start_value_1 = 116
+
+abbrev pub start_value_1_body : List Symbol
+start_value_1_body = Token 22 ∷ Name 61 ∷ []
+
+-- start_value =
+abbrev pub start_value_2 : ℕ
+start_value_2 = 117
+
+abbrev pub start_value_2_body : List Symbol
+start_value_2_body = []
 
 -- maybe_semicolon = semicolon
 abbrev pub maybe_semicolon_1 : ℕ
-maybe_semicolon_1 = 106
+maybe_semicolon_1 = 118
 
 abbrev pub maybe_semicolon_1_body : List Symbol
 maybe_semicolon_1_body = Token 30 ∷ []
 
 -- maybe_semicolon =
 abbrev pub maybe_semicolon_2 : ℕ
-maybe_semicolon_2 = 107
+maybe_semicolon_2 = 119
 
 abbrev pub maybe_semicolon_2_body : List Symbol
 maybe_semicolon_2_body = []
 
 -- literal = integer
 abbrev pub literal_1 : ℕ
-literal_1 = 108
+literal_1 = 120
 
 abbrev pub literal_1_body : List Symbol
-literal_1_body = Name 50 ∷ []
+literal_1_body = Name 62 ∷ []
 
 -- literal = truth
 abbrev pub literal_2 : ℕ
-literal_2 = 109
+literal_2 = 121
 
 abbrev pub literal_2_body : List Symbol
 literal_2_body = Token 45 ∷ []
 
 -- integer = minus number
 abbrev pub integer_1 : ℕ
-integer_1 = 110
+integer_1 = 122
 
 abbrev pub integer_1_body : List Symbol
 integer_1_body = Token 35 ∷ Token 2 ∷ []
 
 -- integer = number
 abbrev pub integer_2 : ℕ
-integer_2 = 111
+integer_2 = 123
 
 abbrev pub integer_2_body : List Symbol
 integer_2_body = Token 2 ∷ []
 
 -- data_type = name
 abbrev pub data_type_1 : ℕ
-data_type_1 = 112
+data_type_1 = 124
 
 abbrev pub data_type_1_body : List Symbol
-data_type_1_body = Name 36 ∷ []
+data_type_1_body = Name 39 ∷ []
 
--- data_type = struct maybe_semicolon
+-- data_type = own_fields
 abbrev pub data_type_2 : ℕ
-data_type_2 = 113
+data_type_2 = 125
 
 abbrev pub data_type_2_body : List Symbol
-data_type_2_body = Name 47 ∷ Name 48 ∷ []
+data_type_2_body = Name 57 ∷ []
+
+-- data_head = begin_word
+abbrev pub data_head_1 : ℕ
+data_head_1 = 126
+
+abbrev pub data_head_1_body : List Symbol
+data_head_1_body = Token 62 ∷ []
 
 -- data_values = data_value data_values
 abbrev pub data_values_1 : ℕ
-data_values_1 = 114
+data_values_1 = 127
 
 abbrev pub data_values_1_body : List Symbol
-data_values_1_body = Name 53 ∷ Name 52 ∷ []
+data_values_1_body = Name 66 ∷ Name 65 ∷ []
 
 -- data_values =
 abbrev pub data_values_2 : ℕ
-data_values_2 = 115
+data_values_2 = 128
 
 abbrev pub data_values_2_body : List Symbol
 data_values_2_body = []
 
 -- data_value = word path_steps assign literal semicolon
 abbrev pub data_value_1 : ℕ
-data_value_1 = 116
+data_value_1 = 129
 
 abbrev pub data_value_1_body : List Symbol
-data_value_1_body = Name 0 ∷ Name 54 ∷ Token 22 ∷ Name 49 ∷ Token 30 ∷ []
+data_value_1_body = Name 0 ∷ Name 67 ∷ Token 22 ∷ Name 61 ∷ Token 30 ∷ []
 
 -- path_steps = path_step path_steps
 abbrev pub path_steps_1 : ℕ
-path_steps_1 = 117
+path_steps_1 = 130
 
 abbrev pub path_steps_1_body : List Symbol
-path_steps_1_body = Name 55 ∷ Name 54 ∷ []
+path_steps_1_body = Name 68 ∷ Name 67 ∷ []
 
 -- path_steps =
 abbrev pub path_steps_2 : ℕ
-path_steps_2 = 118
+path_steps_2 = 131
 
 abbrev pub path_steps_2_body : List Symbol
 path_steps_2_body = []
 
 -- path_step = dot field
 abbrev pub path_step_1 : ℕ
-path_step_1 = 119
+path_step_1 = 132
 
 abbrev pub path_step_1_body : List Symbol
 path_step_1_body = Token 32 ∷ Name 3 ∷ []
 
 -- path_step = bracket_open integer bracket_close
 abbrev pub path_step_2 : ℕ
-path_step_2 = 120
+path_step_2 = 133
 
 abbrev pub path_step_2_body : List Symbol
-path_step_2_body = Token 27 ∷ Name 50 ∷ Token 28 ∷ []
+path_step_2_body = Token 27 ∷ Name 62 ∷ Token 28 ∷ []
 
--- second_name = free_word
-abbrev pub second_name_1 : ℕ
-second_name_1 = 121
+-- plain_hash =
+abbrev pub plain_hash_1 : ℕ
+plain_hash_1 = 134
 
-abbrev pub second_name_1_body : List Symbol
-second_name_1_body = Token 6 ∷ []
+abbrev pub plain_hash_1_body : List Symbol
+plain_hash_1_body = []
 
--- second_name = free_prefix maybe_number
-abbrev pub second_name_2 : ℕ
-second_name_2 = 122
+-- quoted_hash =
+abbrev pub quoted_hash_1 : ℕ
+quoted_hash_1 = 135
 
-abbrev pub second_name_2_body : List Symbol
-second_name_2_body = Token 7 ∷ Name 57 ∷ []
+abbrev pub quoted_hash_1_body : List Symbol
+quoted_hash_1_body = []
 
--- second_name = free_numbered
-abbrev pub second_name_3 : ℕ
-second_name_3 = 123
+-- numbered_hash = number
+abbrev pub numbered_hash_1 : ℕ
+numbered_hash_1 = 136
 
-abbrev pub second_name_3_body : List Symbol
-second_name_3_body = Token 8 ∷ []
+abbrev pub numbered_hash_1_body : List Symbol
+numbered_hash_1_body = Token 2 ∷ []
 
--- second_name = quoted
-abbrev pub second_name_4 : ℕ
-second_name_4 = 124
+-- first_argument = argument_value
+abbrev pub first_argument_1 : ℕ
+first_argument_1 = 137
 
-abbrev pub second_name_4_body : List Symbol
-second_name_4_body = Token 1 ∷ []
-
--- maybe_number = number
-abbrev pub maybe_number_1 : ℕ
-maybe_number_1 = 125
-
-abbrev pub maybe_number_1_body : List Symbol
-maybe_number_1_body = Token 2 ∷ []
-
--- maybe_number =
-abbrev pub maybe_number_2 : ℕ
-maybe_number_2 = 126
-
-abbrev pub maybe_number_2_body : List Symbol
-maybe_number_2_body = []
-
--- more_arguments = comma word argument_value more_arguments
-abbrev pub more_arguments_1 : ℕ
-more_arguments_1 = 127
-
-abbrev pub more_arguments_1_body : List Symbol
-more_arguments_1_body = Token 31 ∷ Name 0 ∷ Name 59 ∷ Name 58 ∷ []
-
--- more_arguments =
-abbrev pub more_arguments_2 : ℕ
-more_arguments_2 = 128
-
-abbrev pub more_arguments_2_body : List Symbol
-more_arguments_2_body = []
+abbrev pub first_argument_1_body : List Symbol
+first_argument_1_body = Name 73 ∷ []
 
 -- argument_value = assign expression
 abbrev pub argument_value_1 : ℕ
-argument_value_1 = 129
+argument_value_1 = 138
 
 abbrev pub argument_value_1_body : List Symbol
 argument_value_1_body = Token 22 ∷ Name 4 ∷ []
 
 -- argument_value = arrow expression
 abbrev pub argument_value_2 : ℕ
-argument_value_2 = 130
+argument_value_2 = 139
 
 abbrev pub argument_value_2_body : List Symbol
 argument_value_2_body = Token 23 ∷ Name 4 ∷ []
+
+-- more_arguments = next_argument more_arguments
+abbrev pub more_arguments_1 : ℕ
+more_arguments_1 = 140
+
+abbrev pub more_arguments_1_body : List Symbol
+more_arguments_1_body = Name 75 ∷ Name 74 ∷ []
+
+-- more_arguments =
+abbrev pub more_arguments_2 : ℕ
+more_arguments_2 = 141
+
+abbrev pub more_arguments_2_body : List Symbol
+more_arguments_2_body = []
+
+-- next_argument = comma word argument_value
+abbrev pub next_argument_1 : ℕ
+next_argument_1 = 142
+
+abbrev pub next_argument_1_body : List Symbol
+next_argument_1_body = Token 31 ∷ Name 0 ∷ Name 73 ∷ []

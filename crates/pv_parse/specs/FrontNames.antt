@@ -107,83 +107,131 @@ area = 33
 abbrev pub source : ℕ
 source = 34
 
+abbrev pub new_source : ℕ
+new_source = 35
+
+abbrev pub blocks : ℕ
+blocks = 36
+
 abbrev pub block : ℕ
-block = 35
+block = 37
+
+abbrev pub block_name : ℕ
+block_name = 38
 
 abbrev pub name : ℕ
-name = 36
+name = 39
 
 abbrev pub value_type : ℕ
-value_type = 37
+value_type = 40
 
 abbrev pub sections : ℕ
-sections = 38
+sections = 41
 
 abbrev pub section : ℕ
-section = 39
+section = 42
+
+abbrev pub section_head : ℕ
+section_head = 43
+
+abbrev pub const_head : ℕ
+const_head = 44
 
 abbrev pub constants : ℕ
-constants = 40
+constants = 45
 
 abbrev pub constant : ℕ
-constant = 41
+constant = 46
 
 abbrev pub declarations : ℕ
-declarations = 42
+declarations = 47
 
-abbrev pub declaration : ℕ
-declaration = 43
+abbrev pub first_word : ℕ
+first_word = 48
 
-abbrev pub more_words : ℕ
-more_words = 44
+abbrev pub declared_words : ℕ
+declared_words = 49
 
-abbrev pub start_value : ℕ
-start_value = 45
+abbrev pub next_word : ℕ
+next_word = 50
+
+abbrev pub declared : ℕ
+declared = 51
+
+abbrev pub type_head : ℕ
+type_head = 52
 
 abbrev pub declared_type : ℕ
-declared_type = 46
+declared_type = 53
+
+abbrev pub array_head : ℕ
+array_head = 54
 
 abbrev pub struct : ℕ
-struct = 47
+struct = 55
+
+abbrev pub struct_head : ℕ
+struct_head = 56
+
+abbrev pub own_fields : ℕ
+own_fields = 57
+
+abbrev pub own_head : ℕ
+own_head = 58
+
+abbrev pub start_value : ℕ
+start_value = 59
 
 abbrev pub maybe_semicolon : ℕ
-maybe_semicolon = 48
+maybe_semicolon = 60
 
 abbrev pub literal : ℕ
-literal = 49
+literal = 61
 
 abbrev pub integer : ℕ
-integer = 50
+integer = 62
 
 abbrev pub data_type : ℕ
-data_type = 51
+data_type = 63
+
+abbrev pub data_head : ℕ
+data_head = 64
 
 abbrev pub data_values : ℕ
-data_values = 52
+data_values = 65
 
 abbrev pub data_value : ℕ
-data_value = 53
+data_value = 66
 
 abbrev pub path_steps : ℕ
-path_steps = 54
+path_steps = 67
 
 abbrev pub path_step : ℕ
-path_step = 55
+path_step = 68
 
-abbrev pub second_name : ℕ
-second_name = 56
+abbrev pub plain_hash : ℕ
+plain_hash = 69
 
-abbrev pub maybe_number : ℕ
-maybe_number = 57
+abbrev pub quoted_hash : ℕ
+quoted_hash = 70
 
-abbrev pub more_arguments : ℕ
-more_arguments = 58
+abbrev pub numbered_hash : ℕ
+numbered_hash = 71
+
+abbrev pub first_argument : ℕ
+first_argument = 72
 
 abbrev pub argument_value : ℕ
-argument_value = 59
+argument_value = 73
+
+abbrev pub more_arguments : ℕ
+more_arguments = 74
+
+abbrev pub next_argument : ℕ
+next_argument = 75
 
 abbrev pub body : ℕ
-body = 60
+body = 76
 
 abbrev pub data_body : ℕ
-data_body = 61
+data_body = 77

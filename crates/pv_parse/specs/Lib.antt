@@ -8,11 +8,22 @@ pub mod Front
 -- what private ones cite
 pub mod FrontBodies
 pub mod TokenTexts
+pub mod CodeItems
 pub mod Items
+pub mod CodeStack
+pub mod CallDeeds
+pub mod StmtDeeds
 pub mod ExprDeeds
+pub mod DeclItems
+pub mod DeclStack
+pub mod DeclTexts
+pub mod DeclDeeds
+pub mod BlockDeeds
 pub mod Deeds
 pub mod Shades
 pub mod ExprShades
+pub mod StmtShades
+pub mod DeclShades
 pub mod ItemShades
 pub mod Building
 pub mod ExprAnswers

@@ -15,11 +15,10 @@ ghost use Rattle.pv_parse.specs.Shades.{Shade, shade_of_token, shade_in, shades_
 ghost use Rattle.pv_parse.specs.ItemShades.{shading_of, shade_making};
 ghost use Rattle.pv_parse.specs.Building.{Taken, Built};
 
-use crate::action::Action;
-use crate::builder::action_at;
-use crate::expr_shades;
+use crate::action::{Action, action_at};
 use crate::shade::{Shaded, Shading, push, sink};
 use crate::stack::Stop;
+use crate::{decl_shades, expr_shades, stmt_shades};
 use pv_lex::Token;
 use pv_ll::{Language, Step, Symbol, Walk};
 use pv_machine::Place;
@@ -35,6 +34,10 @@ pub fn shading(action: Action) -> Shading
     match action {
         Action::Keep => Shading::Take(0),
         Action::Expr(action) => expr_shades::shading(action),
+        Action::Decl(action) => decl_shades::decl_shading(action),
+        Action::Block(action) => decl_shades::block_shading(action),
+        Action::Call(action) => stmt_shades::call_shading(action),
+        Action::Stmt(action) => stmt_shades::stmt_shading(action),
     }
 }
 

@@ -69,7 +69,7 @@ pub fn numbered_pair(alloc: Global, stack: &mut Vec<Item>) -> Result<(), Stop>
 }
 
 /// The name of a text in two parts.
-fn joined_name(alloc: Global, front: &[u8], back: &[u8]) -> Result<Name, AllocError>
+pub fn joined_name(alloc: Global, front: &[u8], back: &[u8]) -> Result<Name, AllocError>
     ensures { IfOk result (λ name. name ≡ plain_name (front.now ++ back.now)) }
 {
     let mut text = Vec::from_slice(alloc, front)?;
@@ -392,7 +392,7 @@ pub fn three(alloc: Global, stack: &mut Vec<Item>) -> Result<(), Stop>
 }
 
 /// What an alternative of expressions and operands does.
-pub fn act(alloc: Global, action: ExprAction, stack: &mut Vec<Item>) -> Result<(), Stop>
+pub fn act_on_expr(alloc: Global, action: ExprAction, stack: &mut Vec<Item>) -> Result<(), Stop>
     ensures { Leaves result (stack_of stack.new) (expr_deed action (stack_of stack.old)) }
 {
     match action {

@@ -1,9 +1,12 @@
 //! What lies on the stack while a tree is built: tokens that were passed, and the parts that were
 //! made of them.
 
+use crate::code_item::CodeItem;
+use crate::decl_item::DeclItem;
 use pv_lex::Kind;
 use pv_machine::Place;
 use pv_tree::{Expr, Operand};
+use pv_types::Literal;
 
 /// A token with its bytes.
 #[derive(Clone, Copy)]
@@ -23,4 +26,10 @@ pub enum Item<'a> {
     Path(Operand),
     /// An expression.
     Expr(Expr),
+    /// A literal of declarations, labels and BY.
+    Literal(Literal),
+    /// A part of a statement or of a call.
+    Code(CodeItem),
+    /// A part of a declaration or of a block.
+    Decl(DeclItem),
 }

@@ -1,9 +1,10 @@
-//! What the readers of SCL and of STL share: kinds of tokens, the front of the grammar, and what its
-//! alternatives make of the stack.
+//! What the readers of SCL and of STL share.
 #![tactic(auto)]
 
 mod action;
-mod builder;
+mod code_item;
+mod decl_item;
+mod decl_shades;
 mod depth;
 mod entries;
 mod expr_shades;
@@ -15,22 +16,24 @@ mod laws;
 mod look_up;
 mod numbers;
 mod outside;
-mod reading;
 mod role;
 mod shade;
 mod spot;
 mod stack;
+mod stmt_shades;
 mod texts;
 mod token_kinds;
 
-pub use action::{Action, ExprAction};
-pub use builder::build;
+pub use action::{Action, BlockAction, CallAction, DeclAction, ExprAction, StmtAction, action_at};
+pub use code_item::{CodeItem, Value};
+pub use decl_item::{Bounds, DeclItem, Fields, Heading};
 pub use depth::find_too_deep;
+pub use expressions::{act_on_expr, joined_name};
 pub use fault::{ParseFault, ReadFault};
 pub use item::{Item, Sliced};
 pub use laws::{fronts_have_front_kinds, kinds_have_witnesses, tokens_have_kinds};
-pub use numbers::area_of;
+pub use numbers::{area_of, number_type};
 pub use outside::first_outside;
-pub use reading::read_expression;
-pub use stack::Stop;
+pub use stack::{Stop, mistyped, pop_expr, pop_item, pop_path, pop_token, push, word_in};
+pub use texts::{is_text, truth_of};
 pub use token_kinds::{bytes_of, kinds};

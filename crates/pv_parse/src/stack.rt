@@ -1,7 +1,7 @@
 //! The stack on which a tree is built, its top last.
 ghost use Rattle.std.specs.Prelude.{◌≡◌, ◌∷◌, Some, None, OnOk, List};
 ghost use Rattle.pv_tree.specs.View.{expr_tree};
-ghost use Rattle.pv_parse.specs.Items.{stack_of, item_of, lexeme_of_slice, path_tree, token_on, path_on, expr_on, word_of, Pops, Finds};
+ghost use Rattle.pv_parse.specs.Items.{stack_of, item_of, lexeme_of_slice, path_tree, top_on, token_in, token_on, path_in, path_on, expr_in, expr_on, word_of, Pops, Finds};
 
 use crate::item::{Item, Sliced};
 use pv_machine::Place;
@@ -51,13 +51,47 @@ pub fn push<'a>(stack: &mut Vec<Item<'a>>, item: Item<'a>) -> Result<(), AllocEr
     Ok(())
 }
 
+/// Takes the item on top.
+pub fn pop_item<'a>(stack: &mut Vec<Item<'a>>) -> Result<Item<'a>, Stop>
+    ensures { Pops item_of result (stack_of stack.new) (top_on (stack_of stack.old)) }
+{
+    match stack.pop() {
+        Some(item) => Ok(item),
+        None => Err(Stop::Mistyped),
+    }
+}
+
+/// An item is another than what was asked for. It is dropped here, so that no proof above has a case for each part of it.
+pub fn mistyped(_item: Item) -> Stop
+    ensures { result ≡ Stop.Mistyped }
+{
+    Stop::Mistyped
+}
+
+fn token_in<'a>(item: Item<'a>) -> Result<Sliced<'a>, Stop>
+    ensures { Finds lexeme_of_slice result (token_in (item_of item.entry)) }
+{
+    match item {
+        Item::Token(token) => Ok(token),
+        other => Err(mistyped(other)),
+    }
+}
+
 /// Takes a token.
 pub fn pop_token<'a>(stack: &mut Vec<Item<'a>>) -> Result<Sliced<'a>, Stop>
     ensures { Pops lexeme_of_slice result (stack_of stack.new) (token_on (stack_of stack.old)) }
 {
-    match stack.pop() {
-        Some(Item::Token(token)) => Ok(token),
-        _ => Err(Stop::Mistyped),
+    let item = pop_item(stack)?;
+    let found = token_in(item)?;
+    Ok(found)
+}
+
+fn path_in(item: Item) -> Result<Operand, Stop>
+    ensures { Finds path_tree result (path_in (item_of item.entry)) }
+{
+    match item {
+        Item::Path(path) => Ok(path),
+        other => Err(mistyped(other)),
     }
 }
 
@@ -65,9 +99,17 @@ pub fn pop_token<'a>(stack: &mut Vec<Item<'a>>) -> Result<Sliced<'a>, Stop>
 pub fn pop_path<'a>(stack: &mut Vec<Item<'a>>) -> Result<Operand, Stop>
     ensures { Pops path_tree result (stack_of stack.new) (path_on (stack_of stack.old)) }
 {
-    match stack.pop() {
-        Some(Item::Path(path)) => Ok(path),
-        _ => Err(Stop::Mistyped),
+    let item = pop_item(stack)?;
+    let found = path_in(item)?;
+    Ok(found)
+}
+
+fn expr_in(item: Item) -> Result<Expr, Stop>
+    ensures { Finds expr_tree result (expr_in (item_of item.entry)) }
+{
+    match item {
+        Item::Expr(expr) => Ok(expr),
+        other => Err(mistyped(other)),
     }
 }
 
@@ -75,10 +117,9 @@ pub fn pop_path<'a>(stack: &mut Vec<Item<'a>>) -> Result<Operand, Stop>
 pub fn pop_expr<'a>(stack: &mut Vec<Item<'a>>) -> Result<Expr, Stop>
     ensures { Pops expr_tree result (stack_of stack.new) (expr_on (stack_of stack.old)) }
 {
-    match stack.pop() {
-        Some(Item::Expr(expr)) => Ok(expr),
-        _ => Err(Stop::Mistyped),
-    }
+    let item = pop_item(stack)?;
+    let found = expr_in(item)?;
+    Ok(found)
 }
 
 /// The name and the place of a word.

@@ -9,3 +9,9 @@ mod fit;
 mod parse;
 #[cfg(test)]
 mod scl_parse;
+#[cfg(test)]
+mod scl_places;
+#[cfg(test)]
+mod scl_sources;
+#[cfg(test)]
+mod scl_statements;

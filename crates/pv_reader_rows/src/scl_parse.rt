@@ -47,10 +47,97 @@ MAX(IN2 := a, IN1 := b)~Syntax 4|\
 MAX(IN1 := a)~Syntax 12|\
 a := b~Syntax 2|\
 x[1, 2]~Syntax 3|\
-a ** b~Outside 2|\
-a + 1.5~Outside 4|\
-REAL~Outside 0|\
-IF + string~Outside 5";
+a ** b~Outside 2+2|\
+a + 1.5~Outside 4+3|\
+REAL~Outside 0+4|\
+IF + string~Outside 5+6";
+
+/// More texts with their trees: each level to the left, names, numbers, addresses and functions.
+const MORE_TREES: &str = "\
+a * b / c MOD d DIV e~((((a * b) / c) MOD d) / e)|\
+a - b + c - d~(((a - b) + c) - d)|\
+a < b <= c > d >= e~((((a < b) <= c) > d) >= e)|\
+a = b < c <> d~((a = (b < c)) <> d)|\
+a AND b & c AND d~(((a AND b) AND c) AND d)|\
+a XOR b XOR c~((a XOR b) XOR c)|\
+a OR b OR c~((a OR b) OR c)|\
+a AND b XOR c OR d~(((a AND b) XOR c) OR d)|\
+a XOR b = c AND d~(a XOR ((b = c) AND d))|\
+NOT a AND b~((NOT a) AND b)|\
+NOT a * b~((NOT a) * b)|\
+-a + b~((- a) + b)|\
+a - -b~(a - (- b))|\
++a * - + b~((+ a) * (- (+ b)))|\
+a = NOT NOT b~(a = (NOT (NOT b)))|\
+(a - (b - c)) * -(d)~({(a - {(b - c)})} * (- {d}))|\
+a[b[c]][1].d[2 * e]~a[b[c]][1].d[(2 * e)]|\
+SEL(G := a = b, IN0 := c OR d, IN1 := NOT e)~SEL((a = b), (c OR d), (NOT e))|\
+min(in1 := ABS(a), IN2 := -1)~MIN(ABS(a), (- 1))|\
+shr(IN := B#16#F0, N := 4)~SHR(240, 4)|\
+BYTE_TO_BOOL(b) & dword_to_int(w)~(BYTE_TO_BOOL(b) AND DWORD_TO_INT(w))|\
+TIME_TO_DINT(T#1s500ms)~TIME_TO_DINT(1500)|\
+in + n * mx - g~((in + (n * mx)) - g)|\
+IN1.IN2[MN]~IN1.IN2[MN]|\
+an = x XOR SLW~((an = x) XOR SLW)|\
+RET_VAL + BOOL_TO_INT~(RET_VAL + BOOL_TO_INT)|\
+#mod.NOT.db[#or]~#mod.NOT.db[#or]|\
+# a . b~#a.b|\
+%IB 5 = qd8~(IB5 = QD8)|\
+I 0.7 OR i1.0~(I0.7 OR I1.0)|\
+MW 2.x[1]~MW2.x[1]|\
+FB 3.x + OB1~(FB3.x + OB1)|\
+DB 16#1.x~DB16#1.x|\
+2#101 + 8#17 + 16#f_F~((5 + 15) + 255)|\
+INT#-5 - DINT#7~(-5 - 7)|\
+a (* b ) *) + // c\n d~(a + d)|\
+{ x } a~a|\
+a.DBX0 OR #REAL~(a.DBX0 OR #REAL)|\
+DBX + PIW4x~(DBX + PIW4x)";
+
+/// More texts with the fault of each.
+const MORE_FAULTS: &str = "\
+* a~Syntax 0|\
+a AND OR b~Syntax 6|\
+a NOT b~Syntax 2|\
+a = = b~Syntax 4|\
+NOT~Syntax 3|\
+()~Syntax 1|\
+((a)~Syntax 4|\
+a[]~Syntax 2|\
+a[1~Syntax 3|\
+a.~Syntax 2|\
+a..b~Syntax 1|\
+a.1~Syntax 2|\
+.a~Syntax 0|\
+1 2~Syntax 2|\
+TRUE.x~Syntax 4|\
+##a~Syntax 1|\
+#\"a\"~Syntax 1|\
+#FB1~Syntax 1|\
+FB x~Syntax 3|\
+a;~Syntax 1|\
+a => b~Syntax 2|\
+f()~Syntax 1|\
+1 + f(2)~Syntax 5|\
+ABS()~Syntax 4|\
+ABS(IN := a)~Syntax 7|\
+ABS(a, b)~Syntax 5|\
+ABS a~Syntax 4|\
+MIN(a, b)~Syntax 4|\
+MIN(IN2 := a, IN1 := b)~Syntax 4|\
+MIN(IN1 => a, IN2 := b)~Syntax 8|\
+MAX(IN1 := a, IN1 := b)~Syntax 14|\
+SEL(G := a, IN1 := b, IN0 := c)~Syntax 12|\
+LIMIT(MN := 1, MX := 2, IN := 3)~Syntax 15|\
+SHL(N := 1, IN := a)~Syntax 4|\
+a MOD DIV b~Syntax 6|\
+a + THEN~Syntax 4|\
+NETWORK~Syntax 0|\
+bool~Syntax 0|\
+a.1.5~Outside 2+3|\
+) + POINTER~Outside 4+7|\
+DBX0 = 1~Outside 0+4|\
+a + 1.5E-3~Outside 4+6";
 
 /// Texts that nest: what is repeated, how often, what stands in the middle, what is repeated as often behind it, and the answer.
 /// 64 levels read. At more, the place is that of the first token of the first part that has 64 above it.
@@ -77,10 +164,10 @@ MAX(IN2 := a, IN1 := ~64~b~)~Syntax 4|\
 a.~2000~a~~reads|\
 (~2000~a~~Syntax 2001|\
 (~64~a b~)~Syntax 66|\
-(~64~real~)~Outside 64";
+(~64~real~)~Outside 64+4";
 
 /// The sign or the word of an operator.
-fn binary(op: BinaryOp) -> &'static str {
+pub fn binary(op: BinaryOp) -> &'static str {
     match op {
         BinaryOp::Mul => "*",
         BinaryOp::Div => "/",
@@ -99,7 +186,7 @@ fn binary(op: BinaryOp) -> &'static str {
     }
 }
 
-fn unary(op: UnaryOp) -> &'static str {
+pub fn unary(op: UnaryOp) -> &'static str {
     match op {
         UnaryOp::Plus => "+",
         UnaryOp::Minus => "-",
@@ -107,7 +194,7 @@ fn unary(op: UnaryOp) -> &'static str {
     }
 }
 
-fn function_word(rt: &HostRuntime, function: StdFunction) -> Result<String, Fail> {
+pub fn function_word(rt: &HostRuntime, function: StdFunction) -> Result<String, Fail> {
     let word = match function {
         StdFunction::Convert(from, to) => {
             let word = format!(in rt.alloc(); "{from:?}_to_{to:?}")?;
@@ -121,7 +208,7 @@ fn function_word(rt: &HostRuntime, function: StdFunction) -> Result<String, Fail
     Ok(word)
 }
 
-fn put(out: &mut Vec<u8>, text: &str) -> Result<(), Fail> {
+pub fn put(out: &mut Vec<u8>, text: &str) -> Result<(), Fail> {
     out.extend_from_slice(text.as_bytes())?;
     Ok(())
 }
@@ -150,7 +237,7 @@ fn put_area(
 }
 
 #[cycle(showing)]
-fn put_operand(rt: &HostRuntime, operand: &Operand, out: &mut Vec<u8>) -> Result<(), Fail> {
+pub fn put_operand(rt: &HostRuntime, operand: &Operand, out: &mut Vec<u8>) -> Result<(), Fail> {
     match &operand.root {
         Root::Local { name, hash, .. } => {
             if *hash {
@@ -183,7 +270,7 @@ fn put_operand(rt: &HostRuntime, operand: &Operand, out: &mut Vec<u8>) -> Result
 }
 
 #[cycle(showing)]
-fn put_tree(rt: &HostRuntime, e: &Expr, out: &mut Vec<u8>) -> Result<(), Fail> {
+pub fn put_tree(rt: &HostRuntime, e: &Expr, out: &mut Vec<u8>) -> Result<(), Fail> {
     match e {
         Expr::Lit { value, .. } => {
             let text = format!(in rt.alloc(); "{value}")?;
@@ -233,11 +320,11 @@ fn put_tree(rt: &HostRuntime, e: &Expr, out: &mut Vec<u8>) -> Result<(), Fail> {
     }
 }
 
-fn put_fault(rt: &HostRuntime, fault: ParseFault, out: &mut Vec<u8>) -> Result<(), Fail> {
+pub fn put_fault(rt: &HostRuntime, fault: ParseFault, out: &mut Vec<u8>) -> Result<(), Fail> {
     match fault {
-        ParseFault::Outside { place, .. } => {
+        ParseFault::Outside { place, len } => {
             let at = place.offset;
-            put(out, format!(in rt.alloc(); "Outside {at}")?.as_str())
+            put(out, format!(in rt.alloc(); "Outside {at}+{len}")?.as_str())
         }
         ParseFault::Syntax { place } => {
             let at = place.offset;
@@ -277,26 +364,36 @@ fn is_so(rt: &HostRuntime, row: &str) -> Result<bool, Fail> {
     }
 }
 
+/// The first row whose text isn't answered as it should be.
+fn first_wrong<'a>(rt: &HostRuntime, rows: &'a str) -> Result<Option<&'a str>, Fail> {
+    for row in rows.split('|') {
+        if !is_so(rt, row)? {
+            return Ok(Some(row));
+        }
+    }
+    Ok(None)
+}
+
 #[test]
 fn expressions_read_as_their_trees(rt: HostRuntime) -> Result<(), Fail> {
-    for row in TREES.split('|') {
-        let so = is_so(&rt, row)?;
-        assert!(rt; so, "{row}");
-    }
+    let wrong = first_wrong(&rt, TREES)?;
+    assert!(rt; wrong.is_none(), "{wrong:?}");
+    let wrong = first_wrong(&rt, MORE_TREES)?;
+    assert!(rt; wrong.is_none(), "{wrong:?}");
     Ok(())
 }
 
 #[test]
 fn faults_stand_at_their_tokens(rt: HostRuntime) -> Result<(), Fail> {
-    for row in FAULTS.split('|') {
-        let so = is_so(&rt, row)?;
-        assert!(rt; so, "{row}");
-    }
+    let wrong = first_wrong(&rt, FAULTS)?;
+    assert!(rt; wrong.is_none(), "{wrong:?}");
+    let wrong = first_wrong(&rt, MORE_FAULTS)?;
+    assert!(rt; wrong.is_none(), "{wrong:?}");
     Ok(())
 }
 
 /// So often the same text.
-fn put_often(text: &str, count: u64, out: &mut Vec<u8>) -> Result<(), Fail> {
+pub fn put_often(text: &str, count: u64, out: &mut Vec<u8>) -> Result<(), Fail> {
     for _ in 0..count {
         put(out, text)?;
     }

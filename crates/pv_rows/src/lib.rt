@@ -9,3 +9,5 @@ mod gates;
 mod pattern_rows;
 #[cfg(test)]
 mod readers;
+#[cfg(test)]
+mod statement_rows;

@@ -5,7 +5,8 @@
 //! DATE_AND_TIME (`p`) and a constant (`c`). Besides there are a function without a value (`V`), one of INT (`G`), and a data block with
 //! one field (`K`).
 use pv_lex::{Language, MAX_SOURCE, Place, tokens};
-use pv_rules::{Scope, Tables, Want, entries};
+use pv_names::{Scope, Tables, Want, entries};
+use pv_rules::pattern_breach;
 use pv_scl_parse::expression;
 use pv_tree::{Block, BlockKind, Body};
 use pv_types::{DeclType, Interface, Name, Section, Var};
@@ -194,7 +195,7 @@ fn answer(alloc: Global, scope: &Scope, text: &str) -> Result<String, Fail> {
     }
     let all = tokens(alloc, 0, Language::Scl, bytes)?;
     let e = expression(alloc, bytes, all.as_slice())?;
-    if let Some(breach) = scope.pattern_breach(alloc, &e)? {
+    if let Some(breach) = pattern_breach(scope, alloc, &e)? {
         let rule = breach.rule.number();
         let offset = breach.place.offset;
         out.push_str(format!(in alloc; "{rule} {offset}")?.as_str())?;

@@ -11,12 +11,12 @@ use Rattle.pv_tree.specs.Tree.{BlockTree, ExprTree}
 use Rattle.pv_tree.specs.View.{block_tree}
 use Rattle.pv_tree.specs.Projects.{symbol_tree, project_tree}
 use Rattle.pv_tree.specs.Scopes.{ProjectTree, SymbolTree, Scope}
-use Rattle.pv_rules.specs.Entries.{block_of}
-use Rattle.pv_rules.specs.Tables.{blocks_of, symbols_of, project_of}
+use Rattle.pv_names.specs.Entries.{block_of}
+use Rattle.pv_names.specs.Tables.{blocks_of, symbols_of, project_of}
 use Rattle.pv_rules.specs.Patterns.{AnswersPattern}
-use Rattle.pv_rules.specs.declared.entry.Entry.{Entry}
+use Rattle.pv_names.specs.declared.entry.Entry.{Entry}
 use Rattle.pv_rules.specs.declared.fault.RuleFault.{RuleFault}
-use Rattle.pv_rules.specs.declared.tables.Tables.{Tables}
+use Rattle.pv_names.specs.declared.tables.Tables.{Tables}
 
 abbrev project_with : List BlockTree → List SymbolTree → ProjectTree
 project_with bs ss = record { blocks = bs; symbols = ss }

@@ -5,7 +5,7 @@ use Rattle.pv_machine.specs.declared.place.Place.{Place}
 use Rattle.pv_tree.specs.Rules as tree
 use Rattle.pv_rules.specs.Names.{rule_of}
 use Rattle.pv_tree.specs.Least.{is_up_to as is_up_to_at}
-use Rattle.pv_rules.specs.Nearest.{is_before, IsNearest}
+use Rattle.pv_expr_rules.specs.Nearest.{is_before, IsNearest}
 use Rattle.pv_rules.specs.Least.{Breaches, is_up_to, IsFirst, lesser, least, breach_where, breach_at, breach_found, OfRule, AreNear, HasRule, BreaksWhere, Either}
 use Rattle.pv_rules.specs.declared.least.Found.{Found}
 use Rattle.pv_rules.specs.declared.fault.Breach.{Breach}

@@ -4,10 +4,10 @@ use Rattle.std.specs.Prelude.{◌⊎◌, Option, None}
 use Rattle.pv_machine.specs.declared.place.Place.{Place}
 use Rattle.pv_rules.specs.declared.calls.Link.{Link}
 use Rattle.pv_rules.specs.declared.calls.Links.{Links}
-use Rattle.pv_rules.specs.Graphs.{HasSome}
-use Rattle.pv_rules.specs.Nearest.{Nears, IsNearest}
+use Rattle.pv_expr_rules.specs.Members.{HasSome}
+use Rattle.pv_expr_rules.specs.Nearest.{Nears, IsNearest}
 use Rattle.pv_rules.specs.Links.{links_at, IsBackLink, HasBackLink}
-use Rattle.pv_rules.proofs.Nearing.{near_same, near_then, nearest_by}
+use Rattle.pv_expr_rules.proofs.ForCallers.{near_same, near_then, nearest_by}
 
 links_there : (all : List Links) (i : ℕ) (l : Links) → i < length all → l ≡ get_or all i l → links_at all i ≡ l.list.items
 links_there [] i l lt is = absurd (omega (arith, lt))

@@ -7,18 +7,18 @@ use Rattle.pv_tree.specs.Interfaces.{all_vars}
 use Rattle.pv_tree.specs.Parts.{Part, starts_of, path_of, reads_of_parts}
 use Rattle.pv_tree.specs.Rules.{Rule, BreaksInParts, misfit}
 use Rattle.pv_tree.specs.Rules.Misfits.{Misapplies, MisusesPath}
-use Rattle.pv_rules.specs.Nearest.{IsNearest, nearer_of}
-use Rattle.pv_rules.specs.Looks.{near_parts}
+use Rattle.pv_expr_rules.specs.Nearest.{IsNearest, nearer_of}
+use Rattle.pv_expr_rules.specs.Looks.{near_parts}
 use Rattle.pv_rules.specs.StartPieces.{piece_in, piece_place, within, parts_of_starts, InBlocks, MisfitsStart, HasOutsideStart, HasValue, BreaksInValues}
 use Rattle.pv_rules.specs.declared.on_starts.Piece.{Piece}
 use Rattle.pv_rules.specs.declared.on_starts.Piece.TheVariants as piece
-use Rattle.pv_rules.specs.declared.look.Look.{Look}
-use Rattle.pv_rules.specs.declared.look.Look.TheVariants as look
+use Rattle.pv_expr_rules.specs.declared.search.Look.{Look}
+use Rattle.pv_expr_rules.specs.declared.search.Look.TheVariants as look
 use Rattle.pv_rules.specs.declared.starts.StartLook.{StartLook}
 use Rattle.pv_rules.specs.declared.starts.StartLook.TheVariants as value
-use Rattle.pv_rules.proofs.NearestLists.{in_any}
-use Rattle.pv_rules.proofs.NearParts.{nearest_same, nearest_both, misapplied_any}
-use Rattle.pv_rules.proofs.NearIndexes.{misused_parts}
+use Rattle.pv_expr_rules.proofs.ForCallers.{in_any}
+use Rattle.pv_expr_rules.proofs.ForCallers.{nearest_same, nearest_both, misapplied_any}
+use Rattle.pv_expr_rules.proofs.ForCallers.{misused_parts}
 use Rattle.pv_rules.proofs.NearStarts.{misfit_vars, outside_vars, missing_starts, misused_starts, misfit_parts, outside_parts, beyond_starts}
 
 -- either, over a list

@@ -10,14 +10,14 @@ use Rattle.pv_tree.specs.Parts.{path_of_start, thing_of_path, indexes_of}
 use Rattle.pv_tree.specs.Rules.Misfits.{MisusesPath, MisstartsVar, MisstartsThing, MisstartsPart, start_misfits_type}
 use Rattle.pv_tree.specs.Rules.OutOfRange.{IsStartOutside, IsThingOutside, start_is_outside}
 use Rattle.pv_tree.specs.Rules.Arrays.{IsBeyond}
-use Rattle.pv_rules.specs.Nearest.{IsNearest}
-use Rattle.pv_rules.specs.Places.{place_where}
+use Rattle.pv_expr_rules.specs.Nearest.{IsNearest}
+use Rattle.pv_expr_rules.specs.Places.{place_where}
 use Rattle.pv_rules.specs.Starts.{start_at, near_vars, misfit_at, is_thing_outside, start_place, near_starts}
 use Rattle.pv_rules.specs.declared.starts.StartLook.TheVariants as look
-use Rattle.pv_rules.proofs.NearParts.{nearest_where}
-use Rattle.pv_rules.proofs.NearReads.{name_nearest}
-use Rattle.pv_rules.proofs.NearestLists.{in_any}
-use Rattle.pv_rules.proofs.NearIndexes.{misused_path, beyond_path}
+use Rattle.pv_expr_rules.proofs.ForCallers.{nearest_where}
+use Rattle.pv_expr_rules.proofs.ForCallers.{name_nearest}
+use Rattle.pv_expr_rules.proofs.ForCallers.{in_any}
+use Rattle.pv_expr_rules.proofs.ForCallers.{misused_path, beyond_path}
 
 -- ---- start values of declarations
 

@@ -13,9 +13,9 @@ use Rattle.pv_tree.specs.Rules.OutOfRange.{IsPartOutside}
 use Rattle.pv_tree.specs.Rules.Arrays.{IsBeyond}
 use Rattle.pv_tree.specs.Rules.Callable.{ReadsVoid}
 use Rattle.pv_tree.specs.Rules.Addresses.{is_wrong_operand}
-use Rattle.pv_rules.specs.Graphs.{HasSome}
-use Rattle.pv_rules.proofs.Nearing.{any_has, has_any}
-use Rattle.pv_rules.proofs.NearReads.{appended_to, appended_from, reads_to, reads_from, mapped_to, mapped_from}
+use Rattle.pv_expr_rules.specs.Members.{HasSome}
+use Rattle.pv_expr_rules.proofs.ForCallers.{any_has, has_any}
+use Rattle.pv_expr_rules.proofs.ForCallers.{appended_to, appended_from, reads_to, reads_from, mapped_to, mapped_from}
 
 -- what one of them breaks
 abbrev pub InPart : Rule → Scope → Place → Part → Type 0

@@ -13,18 +13,18 @@ use Rattle.pv_tree.specs.Types.{sort_of}
 use Rattle.pv_tree.specs.Parts.{Part, parts_of, reads_of_parts, path_of, indexes_of}
 use Rattle.pv_tree.specs.Rules.Misfits.{Misapplies, MisusesPath}
 use Rattle.pv_tree.specs.Rules.PatternRule.{DividesAt, IsMovingIndex, IsNoPattern}
-use Rattle.pv_rules.specs.Nearest.{IsNearest, nearer_of}
-use Rattle.pv_rules.specs.Places.{place_where}
-use Rattle.pv_rules.specs.Looks.{near_parts}
-use Rattle.pv_rules.specs.declared.look.Look.TheVariants as look
+use Rattle.pv_expr_rules.specs.Nearest.{IsNearest, nearer_of}
+use Rattle.pv_expr_rules.specs.Places.{place_where}
+use Rattle.pv_expr_rules.specs.Looks.{near_parts}
+use Rattle.pv_expr_rules.specs.declared.search.Look.TheVariants as look
 use Rattle.pv_rules.specs.Least.{IsFirst, least, breach_found, HasRule}
 use Rattle.pv_rules.specs.declared.least.Found.{Found}
 use Rattle.pv_rules.specs.declared.fault.Breach.{Breach}
 use Rattle.pv_rules.specs.declared.fault.Rule.{Rule}
 use Rattle.pv_rules.specs.declared.fault.Rule.TheVariants.{MissingName, Misfit, OutOfRange, BeyondBounds, NotCallable, WrongAddress, NoPattern}
 use Rattle.pv_rules.proofs.FirstLaws.{first_of_all}
-use Rattle.pv_rules.proofs.NearParts.{nearest_both, nearest_where, misapplied_any}
-use Rattle.pv_rules.proofs.NearIndexes.{misused_parts, moving_parts, divides_parts}
+use Rattle.pv_expr_rules.proofs.ForCallers.{nearest_both, nearest_where, misapplied_any}
+use Rattle.pv_expr_rules.proofs.ForCallers.{misused_parts, moving_parts, divides_parts}
 
 -- ---- two looks at one expression
 

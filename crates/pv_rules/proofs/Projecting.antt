@@ -13,15 +13,16 @@ use Rattle.pv_tree.specs.Scopes.{ProjectTree}
 use Rattle.pv_tree.specs.Interfaces.{all_types, names_of_vars, IsLater}
 use Rattle.pv_tree.specs.Rules.Arrays.{IsWrongType, IsWrongArray}
 use Rattle.pv_tree.specs.Rules.DoubledNames.{DoublesField, DoublesName, IsDoubledName}
-use Rattle.pv_rules.specs.Graphs.{HasSome}
-use Rattle.pv_rules.specs.Nearest.{Nears, IsNearest}
-use Rattle.pv_rules.specs.Doubles.{IsLaterBehind, name_of_var, name_of_block}
+use Rattle.pv_expr_rules.specs.Members.{HasSome}
+use Rattle.pv_expr_rules.specs.Nearest.{Nears, IsNearest}
+use Rattle.pv_expr_rules.specs.Members.{IsLaterBehind}
+use Rattle.pv_rules.specs.Doubles.{name_of_var, name_of_block}
 use Rattle.pv_tree.specs.Rules.Misfits.{MisplacesDate}
 use Rattle.pv_tree.specs.Interfaces.{all_vars}
 use Rattle.pv_rules.specs.OnDeclarations.{IsMisplacedDate}
 use Rattle.pv_rules.specs.BlockLists.{HasWrongArrayIn, MisplacesDateIn, DoublesNameIn}
-use Rattle.pv_rules.proofs.Nearing.{any_has, has_any, near_same, near_then, nearest_by}
-use Rattle.pv_rules.proofs.Doubling.{later_is, is_later}
+use Rattle.pv_expr_rules.proofs.ForCallers.{any_has, has_any, near_same, near_then, nearest_by}
+use Rattle.pv_expr_rules.proofs.ForCallers.{later_is, is_later}
 
 pub some_each : {X : Type 0} {P Q : X → Type 0} (xs : List X) → ((x : X) → P x → Q x) → HasSome P xs → HasSome Q xs
 some_each [] f h = absurd h

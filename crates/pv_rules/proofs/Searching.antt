@@ -4,8 +4,10 @@ use Rattle.std.specs.Prelude.{◌⊎◌, ◌↔◌, slice_index_or, nat_le, nat_
 use Rattle.std.specs.List.{list_all}
 use Rattle.std.proofs.lemmas.Bool.{true≢false, leb-true, ltb-true}
 use Rattle.pv_rules.specs.declared.graph.Targets.{Targets}
-use Rattle.pv_rules.specs.Graphs.{HasSome, Has, lists_of, next_of, Leads, here, by, LeadFrom, Marks, all_marked}
-use Rattle.pv_rules.proofs.Marking.{has_front, has_behind, has_either, IsSeen, unseen, grown_all}
+use Rattle.pv_expr_rules.specs.Members.{HasSome, Has}
+use Rattle.pv_rules.specs.Graphs.{lists_of, next_of, Leads, here, by, LeadFrom, Marks, all_marked}
+use Rattle.pv_expr_rules.proofs.ForCallers.{has_front, has_behind, has_either}
+use Rattle.pv_rules.proofs.Marking.{IsSeen, unseen, grown_all}
 
 pub record IsSearch (g : List (List ℕ)) (starts : List ℕ) (m : Marks) : Type 0 where
   pub length_is : length m.seen ≡ length g

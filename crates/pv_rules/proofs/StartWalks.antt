@@ -6,9 +6,9 @@ use Rattle.pv_machine.specs.declared.place.Place.{Place}
 use Rattle.pv_tree.specs.Tree.{StartTree}
 use Rattle.pv_tree.specs.Scopes.{Scope}
 use Rattle.pv_tree.specs.Parts.{parts_of_operand}
-use Rattle.pv_rules.specs.declared.look.Look.{Look}
-use Rattle.pv_rules.specs.Looks.{near_parts}
-use Rattle.pv_rules.proofs.Looking.{near_append}
+use Rattle.pv_expr_rules.specs.declared.search.Look.{Look}
+use Rattle.pv_expr_rules.specs.Looks.{near_parts}
+use Rattle.pv_expr_rules.proofs.ForCallers.{near_append}
 
 -- those that are left, as they are seen
 pub rest_more : {X Y : Type 0} (f : X → Y) (xs : List X) (i j : ℕ) (x : X) → i < length xs → x ≡ get_or xs i x → j ≡ i + 1

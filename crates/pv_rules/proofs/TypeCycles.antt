@@ -11,22 +11,23 @@ use Rattle.pv_tree.specs.Tree.{PlacedName, BlockTree}
 use Rattle.pv_tree.specs.Scopes.{ProjectTree, has_key, is_type, block_where, type_named}
 use Rattle.pv_tree.specs.Interfaces.{types_in, types_in_vars, all_types}
 use Rattle.pv_tree.specs.Rules.MissingTypes.{names_in, names_in_vars, name_of_kind, named_types, named_within, Holds, at_once, within, IsMissingOrEndless, IsMissingType}
-use Rattle.pv_rules.specs.Graphs.{HasSome, Has, next_of, Leads, here, by, LeadFrom}
+use Rattle.pv_expr_rules.specs.Members.{HasSome, Has}
+use Rattle.pv_rules.specs.Graphs.{next_of, Leads, here, by, LeadFrom}
 use Rattle.pv_rules.specs.TypeNumbers.{type_number, numbers_of_type, targets_in, types_graph, IsWrongNumber, IsWrongName, NamesWrongType, HasWrongType}
-use Rattle.pv_rules.proofs.Marking.{has_front, has_behind, has_either}
+use Rattle.pv_expr_rules.proofs.ForCallers.{has_front, has_behind, has_either}
 use Rattle.pv_rules.proofs.Searching.{some_of, of_some}
 use Rattle.std.specs.Prelude.{◌↔◌, slice_index_or}
 use Rattle.pv_tree.specs.View.{block_tree}
 use Rattle.pv_tree.specs.declared.block.Block.{Block}
-use Rattle.pv_rules.specs.Nearest.{Nears, IsNearest}
-use Rattle.pv_rules.specs.Firsts.{number_in, first_number, FindsFirsts}
+use Rattle.pv_expr_rules.specs.Nearest.{Nears, IsNearest}
+use Rattle.pv_names.specs.Firsts.{number_in, first_number, FindsFirsts}
 use Rattle.pv_rules.specs.TypeNames.{NumbersTypes}
 use Rattle.pv_rules.specs.declared.types.TypeNames.{TypeNames}
 use Rattle.pv_rules.specs.declared.graph.Targets.{Targets}
 use Rattle.pv_rules.specs.Graphs.{lists_of}
 use Rattle.pv_rules.proofs.Searching.{nodes_counted}
-use Rattle.pv_rules.proofs.Nearing.{any_has, has_any, nearest_by, near_then, all_taken}
-use Rattle.pv_rules.proofs.Doubling.{has_contains, contains_has}
+use Rattle.pv_expr_rules.proofs.ForCallers.{any_has, has_any, nearest_by, near_then, all_taken}
+use Rattle.pv_expr_rules.proofs.ForCallers.{has_contains, contains_has}
 use Rattle.pv_rules.proofs.Projecting.{some_each}
 
 -- ---- a name and the number of its type

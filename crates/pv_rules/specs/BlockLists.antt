@@ -5,7 +5,7 @@ use Rattle.pv_tree.specs.Tree.{BlockTree}
 use Rattle.pv_tree.specs.Interfaces.{all_types, all_vars, names_of_vars, IsLater}
 use Rattle.pv_tree.specs.Rules.Arrays.{IsWrongType}
 use Rattle.pv_tree.specs.Rules.DoubledNames.{DoublesField}
-use Rattle.pv_rules.specs.Graphs.{HasSome}
+use Rattle.pv_expr_rules.specs.Members.{HasSome}
 use Rattle.pv_rules.specs.OnDeclarations.{IsMisplacedDate}
 
 abbrev pub HasWrongArrayIn : Place → BlockTree → Type 0

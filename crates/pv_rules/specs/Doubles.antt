@@ -5,17 +5,12 @@ use Rattle.pv_machine.specs.declared.place.Place.{Place}
 use Rattle.pv_types.specs.declared.declaration.Var.{Var}
 use Rattle.pv_tree.specs.declared.block.Block.{Block}
 use Rattle.pv_tree.specs.Tree.{PlacedName}
-use Rattle.pv_rules.specs.Graphs.{Has}
+use Rattle.pv_expr_rules.specs.Members.{Has}
 use Rattle.pv_rules.specs.declared.doubled.Names.{Names}
 
 -- the name of this key was met
 abbrev pub IsMet : Names → List ℕ → Type 0
 IsMet names key = is_some (lookup (bytes_eq key) names.seen.entries) ≡ true
-
--- one of the names at this place has a key of those before it
-abbrev pub IsLaterBehind : List (List ℕ) → List PlacedName → Place → Type 0
-IsLaterBehind keys [] at = ⊥
-IsLaterBehind keys (n ∷ more) at = (Has keys n.0.key × (n.1 ≡ at)) ⊎ IsLaterBehind (keys ++ n.0.key ∷ []) more at
 
 -- a list of names has been met, one by one
 pub record AreMet (names : Names) (all : List PlacedName) : Type 0 where

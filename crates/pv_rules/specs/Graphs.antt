@@ -1,13 +1,7 @@
 -- Graphs: for each node, counted from 0, the nodes that it leads to at once; and the search from nodes, step by step.
-use Rattle.std.specs.Prelude.{◌≡◌, ◌⊎◌, ℕ, ◌≤◌, List, [], ◌∷◌, ◌++◌, map, Bool as Truth, true, not, if◌then◌else◌, slice_index_or, slice_set}
+use Rattle.std.specs.Prelude.{ℕ, ◌≤◌, List, [], ◌∷◌, ◌++◌, map, Bool as Truth, true, not, if◌then◌else◌, slice_index_or, slice_set}
+use Rattle.pv_expr_rules.specs.Members.{HasSome, Has}
 use Rattle.pv_rules.specs.declared.graph.Targets.{Targets}
-
-abbrev pub HasSome : {X : Type 0} → (X → Type 0) → List X → Type 0
-HasSome P [] = ⊥
-HasSome P (x ∷ xs) = P x ⊎ HasSome P xs
-
-abbrev pub Has : {X : Type 0} → List X → X → Type 0
-Has xs x = HasSome (λ y. y ≡ x) xs
 
 abbrev pub lists_of : List Targets → List (List ℕ)
 lists_of targets = map (λ t. t.list.items) targets

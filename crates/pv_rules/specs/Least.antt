@@ -8,8 +8,8 @@ use Rattle.pv_rules.specs.Names.{rule_of}
 use Rattle.pv_rules.specs.declared.fault.Breach.{Breach}
 use Rattle.pv_rules.specs.declared.fault.Rule.{Rule}
 use Rattle.pv_rules.specs.declared.least.Found.{Found}
-use Rattle.pv_rules.specs.Graphs.{HasSome}
-use Rattle.pv_rules.specs.Nearest.{IsNearest}
+use Rattle.pv_expr_rules.specs.Members.{HasSome}
+use Rattle.pv_expr_rules.specs.Nearest.{IsNearest}
 
 -- a comes before b, or is the same
 abbrev pub is_up_to : Breach → Breach → Truth

@@ -11,8 +11,8 @@ use Rattle.pv_tree.specs.Rules.{Rule, BreaksInParts}
 use Rattle.pv_tree.specs.Rules.Misfits.{MisusesPath, MisstartsVar, MisstartsPart, start_misfits_type}
 use Rattle.pv_tree.specs.Rules.OutOfRange.{IsStartOutside, IsThingOutside, start_is_outside}
 use Rattle.pv_tree.specs.Rules.Arrays.{IsBeyond}
-use Rattle.pv_rules.specs.NearestIn.{nearest_in}
-use Rattle.pv_rules.specs.Looks.{near_parts}
+use Rattle.pv_expr_rules.specs.NearestIn.{nearest_in}
+use Rattle.pv_expr_rules.specs.Looks.{near_parts}
 use Rattle.pv_rules.specs.Starts.{near_vars, near_starts}
 use Rattle.pv_rules.specs.declared.starts.StartLook.{StartLook}
 use Rattle.pv_rules.specs.declared.starts.StartLook.TheVariants as value

@@ -10,11 +10,11 @@ use Rattle.pv_tree.specs.Things.{Thing, part, constant, a_block, no_name, no_arr
 use Rattle.pv_tree.specs.Parts.{path_of_start, thing_of_path}
 use Rattle.pv_tree.specs.Rules.Misfits.{start_misfits_type}
 use Rattle.pv_tree.specs.Rules.OutOfRange.{is_outside, start_is_outside}
-use Rattle.pv_rules.specs.NearestIn.{nearest_in}
-use Rattle.pv_rules.specs.Places.{place_where}
-use Rattle.pv_rules.specs.Operands.{name_at}
-use Rattle.pv_rules.specs.Indexes.{index_at, misused_at}
-use Rattle.pv_rules.specs.declared.indexes.IndexFault.TheVariants as index
+use Rattle.pv_expr_rules.specs.NearestIn.{nearest_in}
+use Rattle.pv_expr_rules.specs.Places.{place_where}
+use Rattle.pv_expr_rules.specs.Operands.{name_at}
+use Rattle.pv_expr_rules.specs.Indexes.{index_at, misused_at}
+use Rattle.pv_expr_rules.specs.declared.indexes.IndexFault.TheVariants as index
 use Rattle.pv_rules.specs.declared.starts.StartLook.{StartLook}
 use Rattle.pv_rules.specs.declared.starts.StartLook.TheVariants.{Missing, Misused, Misfit, Outside, Beyond}
 

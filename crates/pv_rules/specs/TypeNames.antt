@@ -2,7 +2,7 @@
 use Rattle.std.specs.Prelude.{◌≡◌, List, map}
 use Rattle.pv_tree.specs.Tree.{BlockTree}
 use Rattle.pv_tree.specs.Scopes.{is_type}
-use Rattle.pv_rules.specs.Firsts.{FindsFirsts}
+use Rattle.pv_names.specs.Firsts.{FindsFirsts}
 use Rattle.pv_rules.specs.Graphs.{lists_of}
 use Rattle.pv_rules.specs.TypeNumbers.{types_graph}
 use Rattle.pv_rules.specs.declared.types.TypeNames.{TypeNames}

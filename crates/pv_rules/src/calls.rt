@@ -1,11 +1,12 @@
-//! Calls that form a cycle, and chains of calls that are too long, by the numbers of the blocks that they run.
+//! Calls that form a cycle, by the numbers of the blocks that they run.
 ghost use Rattle.std.specs.Prelude.{◌≡◌, ◌<◌, IfOk, OnOk, map, length};
-ghost use Rattle.pv_rules.specs.Graphs.{HasSome, lists_of, Leads};
-ghost use Rattle.pv_rules.specs.Nearest.{Nears, IsNearest};
-ghost use Rattle.pv_rules.specs.Links.{links_graph, links_at, IsBackLink, HasBackLink};
+ghost use Rattle.pv_expr_rules.specs.Members.{HasSome};
+ghost use Rattle.pv_rules.specs.Graphs.{lists_of, Leads};
+ghost use Rattle.pv_expr_rules.specs.Nearest.{Nears, IsNearest};
+ghost use Rattle.pv_rules.specs.Links.{links_graph, IsBackLink, HasBackLink};
 
 use crate::graph::{Graph, Targets};
-use crate::nearest::is_nearer;
+use pv_expr_rules::is_nearer;
 use pv_machine::Place;
 use std::alloc::{AllocError, Global};
 
@@ -30,16 +31,24 @@ fn targets_of_links(alloc: Global, links: &[Link]) -> Result<Vec<usize>, AllocEr
 }
 
 /// Which block runs which.
-fn graph_of(alloc: Global, all: &[Links]) -> Result<Graph, AllocError>
-    ensures graph { IfOk result (λ g. lists_of g.next.items ≡ links_graph all.now) }
-    ensures len { IfOk result (λ g. length g.next.items ≡ length all.now) }
+fn targets_of_all(alloc: Global, all: &[Links]) -> Result<Vec<Targets>, AllocError>
+    ensures graph { IfOk result (λ v. lists_of v.items ≡ links_graph all.now) }
+    ensures len { IfOk result (λ v. length v.items ≡ length all.now) }
 {
     let mut next = Vec::new(alloc);
     for links in all {
         let list = targets_of_links(alloc, links.list.as_slice())?;
         next.push(Targets { list })?;
     }
-    Graph::new(alloc, next)
+    Ok(next)
+}
+
+/// The graph of which block runs which.
+fn graph_of(alloc: Global, all: &[Links]) -> Result<Graph, AllocError>
+    ensures graph { IfOk result (λ g. lists_of g.next.items ≡ links_graph all.now) }
+    ensures len { IfOk result (λ g. length g.next.items ≡ length all.now) }
+{
+    Graph::new(alloc, targets_of_all(alloc, all)?)
 }
 
 /// Looks at a call of a block.

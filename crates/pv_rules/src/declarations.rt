@@ -8,12 +8,13 @@ ghost use Rattle.pv_tree.specs.Scopes.{is_ob};
 ghost use Rattle.pv_tree.specs.Things.{is_date};
 ghost use Rattle.pv_tree.specs.Rules.Arrays.{is_array, is_wrong_array, IsWrongType};
 ghost use Rattle.pv_tree.specs.Rules.Misfits.{is_temporary};
-ghost use Rattle.pv_rules.specs.Graphs.{HasSome};
-ghost use Rattle.pv_rules.specs.Nearest.{Nears};
+ghost use Rattle.pv_expr_rules.specs.Members.{HasSome};
+ghost use Rattle.pv_expr_rules.specs.Nearest.{Nears};
 ghost use Rattle.pv_rules.specs.OnDeclarations.{IsMisplacedDate};
 
-use crate::nearest::nearer;
+use pv_expr_rules::nearer;
 use pv_machine::Place;
+use pv_names::is_date;
 use pv_tree::BlockKind;
 use pv_types::{DeclType, Section, Var};
 use pv_word::Ty;
@@ -70,17 +71,6 @@ pub(crate) fn wrong_arrays(types: &[&DeclType], nearest: Option<Place>) -> Optio
         nearest = wrong_array(*ty, nearest);
     }
     nearest
-}
-
-/// Whether a type is DATE_AND_TIME, or an array of it.
-pub(crate) fn is_date(ty: &DeclType) -> bool
-    ensures { result ≡ is_date (type_tree ty.now) }
-{
-    match ty {
-        DeclType::Unread => true,
-        DeclType::Array { of, .. } => is_date(of),
-        DeclType::Plain(_) | DeclType::Struct(_) | DeclType::Named(_, _) => false,
-    }
 }
 
 /// Whether a block is an organization block.

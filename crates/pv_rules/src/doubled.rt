@@ -6,13 +6,14 @@ ghost use Rattle.pv_types.specs.View.{type_tree, var_trees};
 ghost use Rattle.pv_tree.specs.Tree.{PlacedName};
 ghost use Rattle.pv_tree.specs.Interfaces.{names_of_vars, IsLater};
 ghost use Rattle.pv_tree.specs.Rules.DoubledNames.{DoublesField};
-ghost use Rattle.pv_rules.specs.Graphs.{HasSome};
-ghost use Rattle.pv_rules.specs.Nearest.{Nears};
-ghost use Rattle.pv_rules.specs.Doubles.{IsLaterBehind, AreMet, IsMet, name_of_block, name_of_var};
+ghost use Rattle.pv_expr_rules.specs.Members.{HasSome};
+ghost use Rattle.pv_expr_rules.specs.Nearest.{Nears};
+ghost use Rattle.pv_expr_rules.specs.Members.{IsLaterBehind};
+ghost use Rattle.pv_rules.specs.Doubles.{AreMet, IsMet, name_of_block, name_of_var};
 
-use crate::nearest::nearer;
 use indexmap::IndexMap;
 use pv_edge::Text;
+use pv_expr_rules::nearer;
 use pv_machine::Place;
 use pv_tree::Block;
 use pv_types::{DeclType, Name, Var};

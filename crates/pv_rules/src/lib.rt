@@ -5,50 +5,25 @@
 //! puts two answers together, so that each rule is looked for by a function of its own, on each part of a block by itself.
 #![tactic(auto)]
 
-mod blocks;
 mod calls;
 mod declarations;
 mod doubled;
-mod entry;
 mod fault;
-mod firsts;
-mod function;
 mod gathered;
 mod graph;
-mod indexes;
 mod joining;
 mod least;
-mod literal;
-mod look;
-mod misfit;
-mod nearest;
 mod numbers;
 mod on_declarations;
 mod on_starts;
-mod operand;
-mod operator;
 mod pattern_expression;
-mod scope;
-mod sort;
 mod starts;
-mod tables;
-mod thing;
 mod types;
-mod typing;
 
-pub use blocks::entries;
-pub use entry::Entry;
 pub use fault::{Breach, Rule, RuleFault};
-pub use firsts::Firsts;
-pub use indexes::IndexFault;
-pub use literal::{Written, literal_of};
-pub use look::Look;
-pub use pattern_expression::check_expression;
-pub use scope::Scope;
-pub use sort::{Number, Sort, Want};
-pub use tables::Tables;
-pub use thing::{Held, Thing};
-pub use typing::first_place;
+pub use pattern_expression::{
+    beyond_in, check_expression, misfit_in, no_pattern_in, pattern_breach,
+};
 
 #[cfg(test)]
 mod tests;

@@ -8,8 +8,8 @@ ghost use Rattle.pv_tree.specs.Interfaces.{names_of_vars, IsLater};
 ghost use Rattle.pv_tree.specs.Rules.Arrays.{IsWrongArray};
 ghost use Rattle.pv_tree.specs.Rules.Misfits.{MisplacesDate};
 ghost use Rattle.pv_tree.specs.Rules.DoubledNames.{DoublesField, IsDoubledName};
-ghost use Rattle.pv_rules.specs.Graphs.{HasSome};
-ghost use Rattle.pv_rules.specs.Nearest.{Nears, IsNearest};
+ghost use Rattle.pv_expr_rules.specs.Members.{HasSome};
+ghost use Rattle.pv_expr_rules.specs.Nearest.{Nears, IsNearest};
 ghost use Rattle.pv_rules.specs.BlockLists.{HasWrongArrayIn, MisplacesDateIn, DoublesNameIn};
 
 use crate::declarations::{misplaced_dates, wrong_arrays};

@@ -3,19 +3,18 @@
 ghost use Rattle.std.specs.Prelude.{◌≡◌, IfOk, None};
 ghost use Rattle.pv_tree.specs.Parts.{starts_of};
 ghost use Rattle.pv_tree.specs.Rules.{missing_name, misfit, out_of_range, beyond_bounds, not_callable, wrong_address};
-ghost use Rattle.pv_rules.specs.InScope.{scope_of};
-ghost use Rattle.pv_rules.specs.Looks.{near_parts};
-ghost use Rattle.pv_rules.specs.Nearest.{IsNearest};
+ghost use Rattle.pv_names.specs.InScope.{scope_of};
+ghost use Rattle.pv_expr_rules.specs.Looks.{near_parts};
+ghost use Rattle.pv_expr_rules.specs.Nearest.{IsNearest};
 ghost use Rattle.pv_rules.specs.Starts.{near_starts};
 ghost use Rattle.pv_rules.specs.StartPieces.{piece_in, piece_place, parts_of_starts, InBlocks, MisfitsStart, HasOutsideStart, HasValue, BreaksInValues};
-ghost use Rattle.pv_rules.specs.Tables.{project_of};
+ghost use Rattle.pv_names.specs.Tables.{project_of};
 
 use crate::gathered::Gathered;
-use crate::look::{Look, nearer_of};
-use crate::scope::Scope;
-use crate::starts::{StartLook, outside_starts};
-use crate::tables::Tables;
+use crate::starts::{StartLook, look_in_starts, misfit_starts, outside_starts, starts_place};
+use pv_expr_rules::{Look, nearer_of};
 use pv_machine::Place;
+use pv_names::{Scope, Tables};
 use pv_tree::Body;
 use std::alloc::{AllocError, Global};
 
@@ -32,47 +31,49 @@ pub enum Piece {
     Index(Look),
 }
 
-impl<'p> Scope<'p> {
-    /// The nearest place in the values that the block gives to its parts.
-    fn value_in_block(&self, alloc: Global, what: StartLook) -> Result<Option<Place>, AllocError>
-        ensures { let scope = scope_of self.now in IfOk result (λ o. o
-            ≡ near_starts what scope (starts_of scope.block.body) None) }
-    {
-        match &self.entry.block.body {
-            Body::Starts(list) => self.starts_place(alloc, what, list.as_slice(), None),
-            Body::Scl(_) => Ok(None),
-            Body::Stl(_) => Ok(None),
-        }
+/// The nearest place in the values that the block gives to its parts.
+fn value_in_block(
+    scope: &Scope,
+    alloc: Global,
+    what: StartLook,
+) -> Result<Option<Place>, AllocError>
+    ensures { let scope = scope_of scope.now in IfOk result (λ o. o
+        ≡ near_starts what scope (starts_of scope.block.body) None) }
+{
+    match &scope.entry.block.body {
+        Body::Starts(list) => starts_place(scope, alloc, what, list.as_slice(), None),
+        Body::Scl(_) => Ok(None),
+        Body::Stl(_) => Ok(None),
     }
+}
 
-    /// The nearest place in the indexes of the parts to which the block gives values.
-    fn index_in_block(&self, alloc: Global, what: Look) -> Result<Option<Place>, AllocError>
-        ensures { let scope = scope_of self.now in IfOk result (λ o. o
-            ≡ near_parts what scope (parts_of_starts scope (starts_of scope.block.body)) None) }
-    {
-        match &self.entry.block.body {
-            Body::Starts(list) => self.look_in_starts(alloc, what, list.as_slice(), None),
-            Body::Scl(_) => Ok(None),
-            Body::Stl(_) => Ok(None),
-        }
+/// The nearest place in the indexes of the parts to which the block gives values.
+fn index_in_block(scope: &Scope, alloc: Global, what: Look) -> Result<Option<Place>, AllocError>
+    ensures { let scope = scope_of scope.now in IfOk result (λ o. o
+        ≡ near_parts what scope (parts_of_starts scope (starts_of scope.block.body)) None) }
+{
+    match &scope.entry.block.body {
+        Body::Starts(list) => look_in_starts(scope, alloc, what, list.as_slice(), None),
+        Body::Scl(_) => Ok(None),
+        Body::Stl(_) => Ok(None),
     }
+}
 
-    /// The nearest place in the block.
-    fn piece_in_block(&self, alloc: Global, what: Piece) -> Result<Option<Place>, AllocError>
-        ensures { IfOk result (λ o. o ≡ piece_in what (scope_of self.now)) }
-    {
-        match what {
-            Piece::MisfitStart => {
-                let gathered = Gathered::of(alloc, self.entry.block.interface.vars.as_slice())?;
-                Ok(self.misfit_starts(gathered.vars.as_slice(), None))
-            }
-            Piece::OutsideStart => {
-                let gathered = Gathered::of(alloc, self.entry.block.interface.vars.as_slice())?;
-                Ok(outside_starts(gathered.vars.as_slice(), None))
-            }
-            Piece::Value(look) => self.value_in_block(alloc, look),
-            Piece::Index(look) => self.index_in_block(alloc, look),
+/// The nearest place in the block.
+fn piece_in_block(scope: &Scope, alloc: Global, what: Piece) -> Result<Option<Place>, AllocError>
+    ensures { IfOk result (λ o. o ≡ piece_in what (scope_of scope.now)) }
+{
+    match what {
+        Piece::MisfitStart => {
+            let gathered = Gathered::of(alloc, scope.entry.block.interface.vars.as_slice())?;
+            Ok(misfit_starts(scope, gathered.vars.as_slice(), None))
         }
+        Piece::OutsideStart => {
+            let gathered = Gathered::of(alloc, scope.entry.block.interface.vars.as_slice())?;
+            Ok(outside_starts(gathered.vars.as_slice(), None))
+        }
+        Piece::Value(look) => value_in_block(scope, alloc, look),
+        Piece::Index(look) => index_in_block(scope, alloc, look),
     }
 }
 
@@ -87,7 +88,7 @@ pub(crate) fn nearest_piece<'p>(
     let mut best = None;
     for entry in tables.entries() {
         let scope = Scope { tables, entry };
-        let found = scope.piece_in_block(alloc, what)?;
+        let found = piece_in_block(&scope, alloc, what)?;
         best = nearer_of(best, found);
     }
     Ok(best)

@@ -7,21 +7,21 @@ ghost use Rattle.pv_tree.specs.Parts as parts;
 ghost use Rattle.pv_tree.specs.Rules.Misfits.{start_misfits_type};
 ghost use Rattle.pv_tree.specs.Rules.OutOfRange as range;
 ghost use Rattle.pv_tree.specs.View.{start_tree, operand_tree};
-ghost use Rattle.pv_rules.specs.InScope.{scope_of};
-ghost use Rattle.pv_rules.specs.Views.{held_tree, thing_tree};
-ghost use Rattle.pv_rules.specs.Looks.{near_parts};
-ghost use Rattle.pv_rules.specs.Operands.{name_at};
+ghost use Rattle.pv_names.specs.InScope.{scope_of};
+ghost use Rattle.pv_names.specs.Views.{held_tree, thing_tree};
+ghost use Rattle.pv_expr_rules.specs.Looks.{near_parts};
+ghost use Rattle.pv_expr_rules.specs.Operands.{name_at};
 ghost use Rattle.pv_rules.specs.Starts.{start_at, near_vars, misfit_at, is_thing_outside, start_place, near_starts};
 
-use crate::indexes::IndexFault;
-use crate::literal::{Written, is_outside, type_of_literal};
-use crate::look::{Look, nearer_of};
-use crate::misfit::where_is;
-use crate::scope::Scope;
-use crate::sort::{Number, Want, holds, is_whole_number, widens};
-use crate::thing::{Held, Thing, level_of};
-use crate::typing::root_place;
+use pv_expr_rules::{
+    IndexFault, Look, index_behind, look_in_operand, misused_behind, nearer_of, thing_behind,
+    where_is,
+};
 use pv_machine::Place;
+use pv_names::{
+    Held, Number, Scope, Thing, Want, Written, holds, is_outside, is_whole_number, level_of,
+    root_place, type_of_literal, widens,
+};
 use pv_tree::{Operand, Root};
 use pv_types::{Literal, Var};
 use pv_word::Ty;
@@ -134,141 +134,142 @@ pub(crate) fn outside_starts(vars: &[&Var], nearest: Option<Place>) -> Option<Pl
     best
 }
 
-impl<'p> Scope<'p> {
-    /// Whether a start value doesn't fit a type; arrays, structures and named types take none.
-    fn misfits_held(&self, ty: Held, literal: &Literal) -> bool
-        ensures { result ≡ start_misfits_type (scope_of self.now) (held_tree ty.entry) literal.now }
-    {
-        match ty {
-            Held::Plain(ty) => misfits_type(ty, literal),
-            Held::Array { .. } => true,
-            Held::Struct(_) => true,
-            Held::Named(name, _) => match self.find_type(name) {
-                Some(_) => true,
-                None => false,
-            },
-            Held::Unread => true,
-        }
+/// Whether a start value doesn't fit a type; arrays, structures and named types take none.
+fn misfits_held(scope: &Scope, ty: Held, literal: &Literal) -> bool
+    ensures { result ≡ start_misfits_type (scope_of scope.now) (held_tree ty.entry) literal.now }
+{
+    match ty {
+        Held::Plain(ty) => misfits_type(ty, literal),
+        Held::Array { .. } => true,
+        Held::Struct(_) => true,
+        Held::Named(name, _) => match scope.find_type(name) {
+            Some(_) => true,
+            None => false,
+        },
+        Held::Unread => true,
     }
+}
 
-    /// The place of a start value that doesn't fit.
-    fn misfit_start(&self, var: &Var) -> Option<Place>
-        ensures { result ≡ start_at (start_misfits_type (scope_of self.now)) (var_tree var.now) }
-    {
-        match &var.start {
-            Some(literal) => where_is(self.misfits_held(level_of(&var.ty), literal), literal.place),
-            None => None,
-        }
+/// The place of a start value that doesn't fit.
+fn misfit_start(scope: &Scope, var: &Var) -> Option<Place>
+    ensures { result ≡ start_at (start_misfits_type (scope_of scope.now)) (var_tree var.now) }
+{
+    match &var.start {
+        Some(literal) => where_is(
+            misfits_held(scope, level_of(&var.ty), literal),
+            literal.place,
+        ),
+        None => None,
     }
+}
 
-    /// The nearest start value that doesn't fit.
-    pub(crate) fn misfit_starts(&self, vars: &[&Var], nearest: Option<Place>) -> Option<Place>
-        ensures { result ≡ near_vars (start_misfits_type (scope_of self.now))
-            (map (λ v. var_tree v.now) vars.now) nearest }
-    {
-        let mut best = nearest;
-        for var in vars {
-            best = nearer_of(best, self.misfit_start(*var));
-        }
-        best
+/// The nearest start value that doesn't fit.
+pub(crate) fn misfit_starts(scope: &Scope, vars: &[&Var], nearest: Option<Place>) -> Option<Place>
+    ensures { result ≡ near_vars (start_misfits_type (scope_of scope.now))
+        (map (λ v. var_tree v.now) vars.now) nearest }
+{
+    let mut best = nearest;
+    for var in vars {
+        best = nearer_of(best, misfit_start(scope, *var));
     }
+    best
+}
 
-    /// What the first name of a part of a data block means.
-    fn start_thing(&self, root: &Root) -> Thing<'p>
-        ensures { thing_tree result ≡ parts.start_thing (scope_of self.now) root.now }
-    {
-        match root {
-            Root::Local { name, place, .. } => self.field_of_block(self.entry, name, *place),
-            Root::Named(_) => Thing::Untold,
-            Root::Area { .. } => Thing::Untold,
-        }
+/// What the first name of a part of a data block means.
+fn start_thing<'p>(scope: &Scope<'p>, root: &Root) -> Thing<'p>
+    ensures { thing_tree result ≡ parts.start_thing (scope_of scope.now) root.now }
+{
+    match root {
+        Root::Local { name, place, .. } => scope.field_of_block(scope.entry, name, *place),
+        Root::Named(_) => Thing::Untold,
+        Root::Area { .. } => Thing::Untold,
     }
+}
 
-    /// What a part of a data block is.
-    fn thing_of_start(&self, operand: &Operand) -> Thing<'p>
-        ensures { let scope = scope_of self.now in thing_tree result ≡ parts.thing_of_path scope
-            (parts.path_of_start scope (operand_tree operand.now)) }
-    {
-        let from = self.start_thing(&operand.root);
-        let name = root_place(&operand.root, operand.place);
-        self.thing_behind(from, name, operand.steps.as_slice())
-    }
+/// What a part of a data block is.
+fn thing_of_start<'p>(scope: &Scope<'p>, operand: &Operand) -> Thing<'p>
+    ensures { let scope = scope_of scope.now in thing_tree result ≡ parts.thing_of_path scope
+        (parts.path_of_start scope (operand_tree operand.now)) }
+{
+    let from = start_thing(scope, &operand.root);
+    let name = root_place(&operand.root, operand.place);
+    thing_behind(scope, from, name, operand.steps.as_slice())
+}
 
-    /// The place where a value doesn't fit the part that it is for.
-    fn misfit_of_thing(&self, thing: Thing, literal: &Literal) -> Option<Place>
-        ensures { result ≡ misfit_at (scope_of self.now) literal.now (thing_tree thing.entry) }
-    {
-        match thing {
-            Thing::Part(ty) => where_is(self.misfits_held(ty, literal), literal.place),
-            Thing::Constant(_) => None,
-            Thing::Block(_) => None,
-            Thing::NoName(_) => None,
-            Thing::NoArray(_) => None,
-            Thing::ADate(_) => None,
-            Thing::Untold => None,
-        }
+/// The place where a value doesn't fit the part that it is for.
+fn misfit_of_thing(scope: &Scope, thing: Thing, literal: &Literal) -> Option<Place>
+    ensures { result ≡ misfit_at (scope_of scope.now) literal.now (thing_tree thing.entry) }
+{
+    match thing {
+        Thing::Part(ty) => where_is(misfits_held(scope, ty, literal), literal.place),
+        Thing::Constant(_) => None,
+        Thing::Block(_) => None,
+        Thing::NoName(_) => None,
+        Thing::NoArray(_) => None,
+        Thing::ADate(_) => None,
+        Thing::Untold => None,
     }
+}
 
-    /// Where a value that a data block gives to a part breaks the rule.
-    fn start_place(
-        &self,
-        alloc: Global,
-        what: StartLook,
-        start: &(Operand, Literal),
-    ) -> Result<Option<Place>, AllocError>
-        ensures { IfOk result (λ o. o ≡ start_place what (scope_of self.now) (start_tree start.now)) }
-    {
-        let operand = &start.0;
-        let literal = &start.1;
-        let from = self.start_thing(&operand.root);
-        let name = root_place(&operand.root, operand.place);
-        let steps = operand.steps.as_slice();
-        match what {
-            StartLook::Missing => Ok(missing_of(self.thing_of_start(operand))),
-            StartLook::Misused => self.misused_behind(alloc, from, name, steps),
-            StartLook::Misfit => Ok(self.misfit_of_thing(self.thing_of_start(operand), literal)),
-            StartLook::Outside => Ok(where_is(
-                is_outside_thing(self.thing_of_start(operand), literal),
-                literal.place,
-            )),
-            StartLook::Beyond => { self.index_behind(alloc, IndexFault::Beyond, from, name, steps) }
-        }
+/// Where a value that a data block gives to a part breaks the rule.
+fn start_place(
+    scope: &Scope,
+    alloc: Global,
+    what: StartLook,
+    start: &(Operand, Literal),
+) -> Result<Option<Place>, AllocError>
+    ensures { IfOk result (λ o. o ≡ start_place what (scope_of scope.now) (start_tree start.now)) }
+{
+    let operand = &start.0;
+    let literal = &start.1;
+    let from = start_thing(scope, &operand.root);
+    let name = root_place(&operand.root, operand.place);
+    let steps = operand.steps.as_slice();
+    match what {
+        StartLook::Missing => Ok(missing_of(thing_of_start(scope, operand))),
+        StartLook::Misused => misused_behind(scope, alloc, from, name, steps),
+        StartLook::Misfit => Ok(misfit_of_thing(scope, thing_of_start(scope, operand), literal)),
+        StartLook::Outside => Ok(where_is(
+            is_outside_thing(thing_of_start(scope, operand), literal),
+            literal.place,
+        )),
+        StartLook::Beyond => { index_behind(scope, alloc, IndexFault::Beyond, from, name, steps) }
     }
+}
 
-    /// The nearest place, with those of the values that a data block gives to its parts.
-    pub(crate) fn starts_place(
-        &self,
-        alloc: Global,
-        what: StartLook,
-        starts: &[(Operand, Literal)],
-        nearest: Option<Place>,
-    ) -> Result<Option<Place>, AllocError>
-        ensures { IfOk result (λ new. new
-            ≡ near_starts what (scope_of self.now) (map start_tree starts.now) nearest) }
-    {
-        let mut best = nearest;
-        for start in starts {
-            let found = self.start_place(alloc, what, start)?;
-            best = nearer_of(best, found);
-        }
-        Ok(best)
+/// The nearest place, with those of the values that a data block gives to its parts.
+pub(crate) fn starts_place(
+    scope: &Scope,
+    alloc: Global,
+    what: StartLook,
+    starts: &[(Operand, Literal)],
+    nearest: Option<Place>,
+) -> Result<Option<Place>, AllocError>
+    ensures { IfOk result (λ new. new
+        ≡ near_starts what (scope_of scope.now) (map start_tree starts.now) nearest) }
+{
+    let mut best = nearest;
+    for start in starts {
+        let found = start_place(scope, alloc, what, start)?;
+        best = nearer_of(best, found);
     }
+    Ok(best)
+}
 
-    /// The nearest place, with those of the indexes in the parts of a data block that are given values.
-    pub(crate) fn look_in_starts(
-        &self,
-        alloc: Global,
-        what: Look,
-        starts: &[(Operand, Literal)],
-        nearest: Option<Place>,
-    ) -> Result<Option<Place>, AllocError>
-        ensures { let scope = scope_of self.now in IfOk result (λ new. new ≡ near_parts what scope
-            (flat_map (λ v. parts.parts_of_operand scope v.0) (map start_tree starts.now)) nearest) }
-    {
-        let mut best = nearest;
-        for start in starts {
-            best = self.look_in_operand(alloc, what, &start.0, best)?;
-        }
-        Ok(best)
+/// The nearest place, with those of the indexes in the parts of a data block that are given values.
+pub(crate) fn look_in_starts(
+    scope: &Scope,
+    alloc: Global,
+    what: Look,
+    starts: &[(Operand, Literal)],
+    nearest: Option<Place>,
+) -> Result<Option<Place>, AllocError>
+    ensures { let scope = scope_of scope.now in IfOk result (λ new. new ≡ near_parts what scope
+        (flat_map (λ v. parts.parts_of_operand scope v.0) (map start_tree starts.now)) nearest) }
+{
+    let mut best = nearest;
+    for start in starts {
+        best = look_in_operand(scope, alloc, what, &start.0, best)?;
     }
+    Ok(best)
 }

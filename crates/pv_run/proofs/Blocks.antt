@@ -1,7 +1,7 @@
 -- A called block: its cells at the start, its body, and the call as a whole.
 use Rattle.std.proofs.Common.{◌≡◌, ℕ, zero, suc, ◌+◌, ◌*◌, ◌<◌, ◌≤◌, ℤ, List, [], ◌∷◌, ◌++◌, length, drop, Option, Some, None, Ok, Err, refl, sym, ap, subst, ◌∙◌, arith}
 use Rattle.std.proofs.Math.ListN.{replicate, set}
-use Rattle.std.specs.Prelude.{slice_index_or, slice_get}
+use Rattle.std.specs.Prelude.{slice_index_or}
 use Rattle.pv_tree.specs.Tree.{BodyTree, scl, stl, starts, no_stmts, BlockTree}
 use Rattle.pv_tree.specs.Callees.{CallSite}
 use Rattle.pv_mean.specs.Cells.{most_calls}
@@ -24,10 +24,10 @@ use Rattle.pv_run.specs.declared.stop.Flow.{Flow}
 use Rattle.pv_run.specs.declared.stop.Flow.TheVariants as flow
 use Rattle.pv_run.specs.Ends.{stop_end, stop_ending, flow_ending}
 use Rattle.pv_run.specs.Handing.{handed_in, handed_out}
-use Rattle.pv_run.specs.Code.{RunsBody, IsCode, IsProgram, AreStmts, no_stmt}
+use Rattle.pv_run.specs.Code.{code_at, RunsBody, IsCode, IsProgram, AreStmts, no_stmt}
 use Rattle.pv_run.specs.Runs.{frame_in, linked_in, HandsIn, HandsOut, Begins}
 use Rattle.pv_run.proofs.Calling.{call_stops_in, call_stops_body, call_stops_out, call_done, calls_block}
-use Rattle.pv_run.proofs.Lists.{the_one}
+use Rattle.pv_run.proofs.Lists.{not_both}
 use Rattle.pv_run.proofs.Statements.{Ran}
 use Rattle.pv_run.proofs.Handing.{all_in}
 
@@ -70,8 +70,7 @@ pub body_runs : (source : Source) (calls : Calls) (p : Program) (block : BlockTr
     → RunsBody source block p l body → Ran source block p calls (activation block first) frame l r
     → body_end r ≡ run_code source calls (activation block first) body frame
 body_runs source calls p block first l (scl trees) frame r is ran = ap body_end (ran trees is)
-body_runs source calls p block first l (stl instructions) frame r is ran =
-    ap body_end (ran no_stmts (subst (λ m. AreStmts source block p l.first m no_stmts) is no_stmt))
+body_runs source calls p block first l (stl instructions) frame r is ran = absurd is
 body_runs source calls p block first l (starts values) frame r is ran =
     ap body_end (ran no_stmts (subst (λ m. AreStmts source block p l.first m no_stmts) is no_stmt))
 
@@ -217,27 +216,24 @@ seen_stop : (s : Stop) → visible_end (body_end (stop_ending s)) ≡ stop_end s
 seen_stop (stop.Trap t) = refl
 seen_stop (stop.Over place) = refl
 
-code_there : (source : Source) (p : Program) (n : ℕ) → IsProgram source p → slice_get source.project.blocks n ≡ Some source.entry
-    → (c : Code) → slice_get p.blocks.items n ≡ Some c → IsCode source p source.entry c
-code_there source p n program at c is =
-    let found = program.code n source.entry at in
-    subst (λ x. IsCode source p source.entry x) (the_one (slice_get p.blocks.items n) found.0 c found.1 is) found.2
+pub entry_made : (source : Source) (p : Program) → IsProgram source p → code_at p p.entry ≡ None → ⊥
+entry_made source p program missing = not_both (code_at p p.entry) program.entered.0 program.entered.1 missing
 
-pub entry_done : (source : Source) (p : Program) (n : ℕ) → IsProgram source p → slice_get source.project.blocks n ≡ Some source.entry
-    → (c : Code) → slice_get p.blocks.items n ≡ Some c → (visible : List ℤ) (own : List (Option ℤ))
+pub entry_done : (source : Source) (p : Program) → IsProgram source p
+    → (c : Code) → code_at p p.entry ≡ Some c → (visible : List ℤ) (own : List (Option ℤ))
     → (own_is : c.brief ≤ p.widest → own ≡ replicate c.brief None) → (f : Flow) (after : Frame)
     → Ran source source.entry p (calls_within source most_calls) (activation source.entry 0) (frame_in visible own) c.body
     (flow_ending f after)
     → ended after.visible ≡ (scan_from source most_calls visible).end
-entry_done source p n program at c is visible own own_is f after ran =
-    let code = code_there source p n program at c is in
+entry_done source p program c is visible own own_is f after ran =
+    let code = program.code p.entry source.entry c program.entry is in
     sym (seen_end f after) ∙ entered source p program c code visible own (own_is code.widest) (flow_ending f after) ran
 
-pub entry_stops : (source : Source) (p : Program) (n : ℕ) → IsProgram source p → slice_get source.project.blocks n ≡ Some source.entry
-    → (c : Code) → slice_get p.blocks.items n ≡ Some c → (visible : List ℤ) (own : List (Option ℤ))
+pub entry_stops : (source : Source) (p : Program) → IsProgram source p
+    → (c : Code) → code_at p p.entry ≡ Some c → (visible : List ℤ) (own : List (Option ℤ))
     → (own_is : c.brief ≤ p.widest → own ≡ replicate c.brief None) → (s : Stop)
     → Ran source source.entry p (calls_within source most_calls) (activation source.entry 0) (frame_in visible own) c.body (stop_ending s)
     → stop_end s ≡ (scan_from source most_calls visible).end
-entry_stops source p n program at c is visible own own_is s ran =
-    let code = code_there source p n program at c is in
+entry_stops source p program c is visible own own_is s ran =
+    let code = program.code p.entry source.entry c program.entry is in
     sym (seen_stop s) ∙ entered source p program c code visible own (own_is code.widest) (stop_ending s) ran

@@ -12,7 +12,7 @@ use Rattle.pv_run.specs.declared.program.Called.{Called}
 use Rattle.pv_run.specs.declared.program.Code.{Code}
 use Rattle.pv_run.specs.declared.program.Program.{Program}
 use Rattle.pv_run.specs.declared.program.At.{At}
-use Rattle.pv_run.specs.Code.{first_of, RunsSo, IsCall, IsCode, IsProgram}
+use Rattle.pv_run.specs.Code.{first_of, code_at, RunsSo, IsCall, IsProgram}
 use Rattle.pv_run.specs.Runs.{Begins}
 use Rattle.pv_run.proofs.Lists.{the_one, not_both}
 
@@ -39,15 +39,14 @@ runs_none source block p c (suc n) first site frame call is at e =
 
 code_missing : (source : Source) (block : BlockTree) (p : Program) (call : Called) (site : CallSite) (n : ℕ) (c : Callee)
     → IsProgram source p
-    → RunsSo source block p call site (Some n) c → slice_get p.blocks.items n ≡ None → ⊥
-code_missing source block p call site n (runs b) program r e =
-    let code = program.code n b r.number in not_both (slice_get p.blocks.items n) code.0 code.1 e
+    → RunsSo source block p call site (Some n) c → code_at p n ≡ None → ⊥
+code_missing source block p call site n (runs b) program r e = not_both (code_at p n) r.made.0 r.made.1 e
 code_missing source block p call site n (not_declared place) program r e = r
 code_missing source block p call site n (not_callable place) program r e = r
 code_missing source block p call site n unknown program r e = r
 
 pub no_code : (source : Source) (block : BlockTree) (p : Program) (c n : ℕ) (site : CallSite) (call : Called) → IsProgram source p
-    → IsCall source block p c site → slice_get p.calls.items c ≡ Some call → call.block ≡ Some n → slice_get p.blocks.items n ≡ None → ⊥
+    → IsCall source block p c site → slice_get p.calls.items c ≡ Some call → call.block ≡ Some n → code_at p n ≡ None → ⊥
 no_code source block p c n site call program is at e missing =
     let same = the_one (slice_get p.calls.items c) is.call call is.at at in
     code_missing source block p is.call site n (callee_of (record { project = source.project; block = block }) site) program
@@ -56,18 +55,17 @@ no_code source block p c n site call program is at e missing =
 
 begins_with : (source : Source) (block : BlockTree) (p : Program) (at inside : At) (call : Called) (site : CallSite) (n : ℕ) (c : Callee)
     → callee_of (record { project = source.project; block = block }) site ≡ c → IsProgram source p
-    → RunsSo source block p call site (Some n) c → (code : Code) → slice_get p.blocks.items n ≡ Some code
+    → RunsSo source block p call site (Some n) c → (code : Code) → code_at p n ≡ Some code
     → inside.first ≡ first_of at.first call.first
     → Begins source block p at site (record { call = call; code = code; at = inside })
-begins_with source block p at inside call site n (runs b) e program r code is first =
-    let found = program.code n b r.number in record {
-      callee = b;
-      number = n;
-      is = e;
-      runs_block = r;
-      code = subst (λ x. IsCode source p b x) (the_one (slice_get p.blocks.items n) found.0 code found.1 is) found.2;
-      first = first ∙ r.first at.first;
-    }
+begins_with source block p at inside call site n (runs b) e program r code is first = record {
+  callee = b;
+  number = n;
+  is = e;
+  runs_block = r;
+  code = program.code n b code r.number is;
+  first = first ∙ r.first at.first;
+}
 begins_with source block p at inside call site n (not_declared place) e program r code is first = absurd r
 begins_with source block p at inside call site n (not_callable place) e program r code is first = absurd r
 begins_with source block p at inside call site n unknown e program r code is first = absurd r
@@ -75,7 +73,7 @@ begins_with source block p at inside call site n unknown e program r code is fir
 pub begins : (source : Source) (block : BlockTree) (p : Program) (c n : ℕ) (at inside : At) (site : CallSite) (call : Called)
     → IsProgram source p
     → IsCall source block p c site → slice_get p.calls.items c ≡ Some call → call.block ≡ Some n
-    → (code : Code) → slice_get p.blocks.items n ≡ Some code → inside.first ≡ first_of at.first call.first
+    → (code : Code) → code_at p n ≡ Some code → inside.first ≡ first_of at.first call.first
     → Begins source block p at site (record { call = call; code = code; at = inside })
 begins source block p c n at inside site call program is found e code there first =
     let same = the_one (slice_get p.calls.items c) is.call call is.at found in

@@ -1,5 +1,5 @@
 -- What a program's arrays mean: values, targets, statements, calls and blocks.
-use Rattle.std.specs.Prelude.{◌≡◌, ℕ, ◌+◌, ◌<◌, ◌≤◌, List, [], ◌∷◌, length, slice_get, Option, Some, None}
+use Rattle.std.specs.Prelude.{◌≡◌, ℕ, ◌+◌, ◌<◌, ◌≤◌, List, [], ◌∷◌, length, slice_get, slice_index_or, Option, Some, None}
 use Rattle.pv_machine.specs.declared.place.Place.{Place}
 use Rattle.pv_types.specs.declared.name.Name.{Name}
 use Rattle.pv_types.specs.declared.declaration.Literal.{Literal}
@@ -35,6 +35,10 @@ use Rattle.pv_run.specs.declared.program.Called.{Called}
 use Rattle.pv_run.specs.declared.program.Code.{Code}
 use Rattle.pv_run.specs.declared.program.Program.{Program}
 use Rattle.pv_run.specs.Handing.{Handed, handed_in, handed_out, argument_of}
+
+-- the code of the block of this number, if there is one
+abbrev pub code_at : Program → ℕ → Option Code
+code_at p n = slice_index_or p.blocks.items n None
 
 -- ---- expressions and operands
 
@@ -116,10 +120,11 @@ pub data AreOutward (source : Source) (block : BlockTree) (p : Program) (site : 
       → AreOutward source block p site callee (n + 1) m more
       → AreOutward source block p site callee n m (h ∷ more)
 
--- a call that runs a block of the project
+-- a call that runs a block of the project, of which there is code
 pub record RunsBlock (source : Source) (block : BlockTree) (p : Program) (call : Called)
     (site : CallSite) (n : ℕ) (callee : BlockTree) : Type 0 where
   pub number : slice_get source.project.blocks n ≡ Some callee
+  pub made : (c : Code) × (code_at p n ≡ Some c)
   pub first : (k : ℕ) → first_of k call.first ≡ instance_first source (activation block k) site.call
   pub inward : AreInward source block p site callee call.inward.first call.inward.end
       (handed_in source callee)
@@ -241,10 +246,10 @@ mutual
 
 -- ---- blocks
 
--- a body of SCL; every other does nothing yet
+-- a body of SCL; there is no code of one of STL yet
 abbrev pub RunsBody : Source → BlockTree → Program → code.List → BodyTree → Type 0
 RunsBody source block p l (scl trees) = AreStmts source block p l.first l.end trees
-RunsBody source block p l (stl instructions) = l.first ≡ l.end
+RunsBody source block p l (stl instructions) = ⊥
 RunsBody source block p l (starts values) = l.first ≡ l.end
 
 pub record IsCode (source : Source) (p : Program) (block : BlockTree) (c : Code) : Type 0 where
@@ -254,9 +259,11 @@ pub record IsCode (source : Source) (p : Program) (block : BlockTree) (c : Code)
   pub value : c.value ≡ value_number source block
   pub body : RunsBody source block p c.body block.body
 
--- the program of a source
+-- the program of a source: of the block that is entered there is code, and where there is code of a block it is that block's
 pub record IsProgram (source : Source) (p : Program) : Type 0 where
   pub types : TypesOf source p.types.items
   pub bound : source.bound ≡ p.bound
-  pub code : (n : ℕ) (block : BlockTree) → slice_get source.project.blocks n ≡ Some block
-      → (c : Code) × (slice_get p.blocks.items n ≡ Some c) × IsCode source p block c
+  pub entry : slice_get source.project.blocks p.entry ≡ Some source.entry
+  pub entered : (c : Code) × (code_at p p.entry ≡ Some c)
+  pub code : (n : ℕ) (block : BlockTree) (c : Code) → slice_get source.project.blocks n ≡ Some block
+      → code_at p n ≡ Some c → IsCode source p block c

@@ -43,7 +43,7 @@ impl Program {
         let Some(n) = call.block else {
             return None;
         };
-        let Some(code) = self.blocks.get(n as usize) else {
+        let Some(code) = self.code(n) else {
             return None;
         };
         if code.body.end >= MOST_STATEMENTS {
@@ -51,7 +51,7 @@ impl Program {
         }
         Some(Started {
             call: *call,
-            code: *code,
+            code,
             at: At {
                 first: first_of(call.first, at.first),
                 calls: at.calls - 1,

@@ -1,5 +1,6 @@
 //! A program: the bodies of a project's blocks with their names found.
 ghost use Rattle.std.specs.Prelude.{◌≡◌, ◌≤◌};
+ghost use Rattle.pv_run.specs.Code.{code_at};
 
 use pv_eval::{Expression, Target};
 use pv_machine::Place;
@@ -157,8 +158,10 @@ pub struct Program {
     pub calls: Vec<Called>,
     pub inward: Vec<Inward>,
     pub outward: Vec<Outward>,
-    /// By the numbers of the project's blocks.
-    pub blocks: Vec<Code>,
+    /// By the numbers of the project's blocks: of the one that is entered, and of those that calls lead to from there.
+    pub blocks: Vec<Option<Code>>,
+    /// The number of the block that is entered.
+    pub entry: u32,
     pub values: Vec<Expression>,
     pub targets: Vec<Target>,
     /// The types of the visible cells.
@@ -167,7 +170,7 @@ pub struct Program {
     pub bound: u32,
     /// How many values are needed to evaluate any expression.
     pub scratch: usize,
-    /// How many brief cells a block has at most.
+    /// How many brief cells one of these blocks has at most.
     pub widest: usize,
 }
 
@@ -187,6 +190,18 @@ impl List {
         List {
             first: self.first,
             end: self.end.min(statement),
+        }
+    }
+}
+
+impl Program {
+    /// The code of the block of this number, if there is one.
+    pub(crate) fn code(&self, n: u32) -> Option<Code>
+        ensures { result ≡ code_at self.now n }
+    {
+        match self.blocks.get(n as usize) {
+            Some(code) => *code,
+            None => None,
         }
     }
 }

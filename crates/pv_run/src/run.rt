@@ -1,5 +1,5 @@
 //! Statements, loops and calls.
-ghost use Rattle.std.specs.Prelude.{◌≡◌, ◌*◌, ◌≤◌, length, slice_get, slice_index_or, replicate, Some, None, ◌+◌, ◌<◌, ◌^◌};
+ghost use Rattle.std.specs.Prelude.{◌≡◌, ◌*◌, ◌≤◌, length, slice_index_or, replicate, None, ◌+◌, ◌<◌, ◌^◌};
 ghost use Rattle.pv_mean.specs.Sources.{Source};
 ghost use Rattle.pv_mean.specs.Cells.{most_calls};
 ghost use Rattle.pv_mean.specs.Scans.{scan_from};
@@ -378,12 +378,11 @@ impl Program {
         }
     }
 
-    /// Runs the block of this number as the one that is entered, from visible cells with these values.
+    /// Runs the block that is entered, from visible cells with these values. Where it stops, no clause says what is left in them.
     ///
     /// `brief` has room for the brief cells of eight blocks, and `scratch` for the values of an expression; what they hold doesn't matter.
     pub fn run(
         &self,
-        block: u32,
         visible: &mut [i64],
         brief: &mut [Option<i64>],
         scratch: &mut [i64],
@@ -391,10 +390,9 @@ impl Program {
         requires brief { (most_calls + 1) * self.now.widest ≤ length brief.old }
         requires scratch { self.now.scratch ≤ length scratch.old }
         ensures { (source : Source) → IsProgram source self.now
-            → slice_get source.project.blocks block ≡ Some source.entry
             → end_in (λ done. visible.new) result ≡ (scan_from source most_calls visible.old).end }
     {
-        let Some(code) = self.blocks.get(block as usize) else {
+        let Some(code) = self.code(self.entry) else {
             return Ok(());
         };
         let (own, below) = brief.split_at_mut(self.width(code.brief));

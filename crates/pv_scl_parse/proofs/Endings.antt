@@ -31,8 +31,8 @@ sound_front (t ∷ a) b h = (h.0, sound_front a b h.1)
 
 -- all but the last, which ends the text
 pub record Ends (text : List ℕ) (tokens inner : List Token) : Type 0 where
-  last : Token
-  parts : tokens ≡ inner ++ last ∷ []
+  pub last : Token
+  pub parts : tokens ≡ inner ++ last ∷ []
   ends : last.kind ≡ End
 
 pub ends : (file : ℕ) (text : List ℕ) (tokens inner : List Token) → AreTokens Scl file text tokens → inner ≡ take (length tokens - 1) tokens
@@ -63,7 +63,7 @@ kinds_before file text tokens inner are e =
     have-kinds false (lexemes_of text inner)
     (sound_front (lexemes_of text inner) (lexeme_of text e.last ∷ []) (subst (λ ts. AreSound ts) (parted text tokens inner e) (tokens-sound Scl file text tokens are)))
 
-stands : (f : Token → Lexeme) (xs : List Token) (i : ℕ) (d : Token) → i < length xs → slice_get (map f xs) i ≡ Some (f (get_or xs i d))
+pub stands : (f : Token → Lexeme) (xs : List Token) (i : ℕ) (d : Token) → i < length xs → slice_get (map f xs) i ≡ Some (f (get_or xs i d))
 stands f [] i d lt = absurd (omega (arith, lt))
 stands f (x ∷ xs) zero d lt = refl
 stands f (x ∷ xs) (suc i) d lt = stands f xs i d (omega (arith, lt))

@@ -5,10 +5,11 @@ ghost use Rattle.pv_lex.specs.declared.token.Language.TheVariants.{Scl};
 ghost use Rattle.pv_lex.specs.Tokens.{AreTokens};
 ghost use Rattle.pv_scl_parse.specs.Answers.{AnswersExpression};
 
-use crate::actions::expression_actions;
+use crate::actions::scl_actions;
 use crate::table::scl_expression;
 use pv_lex::{Language, Token};
-use pv_parse::{ParseFault, ReadFault, first_outside, read_expression};
+use pv_parse::{ParseFault, ReadFault, first_outside};
+use pv_source_parse::read_expression;
 use pv_tree::Expr;
 use std::alloc::Global;
 
@@ -27,7 +28,7 @@ pub fn expression(alloc: Global, text: &[u8], tokens: &[Token]) -> Result<Expr, 
     }
     let (inner, _end) = tokens.split_at(tokens.len() - 1);
     let language = scl_expression();
-    let fault = match read_expression(alloc, &language, expression_actions(), text, inner)? {
+    let fault = match read_expression(alloc, &language, scl_actions(), text, inner)? {
         Ok(expression) => return Ok(expression),
         Err(fault) => fault,
     };

@@ -7,7 +7,7 @@ ghost use Rattle.pv_scl_parse.specs.SclGrammar.{scl_grammar};
 use pv_ll::{Alternative, Language, Rule, Symbol};
 
 // Written by tools/grammar_files.py from crates/pv_scl_parse/grammar/scl.txt.
-const RULES: [Rule; 104] = [
+const RULES: [Rule; 134] = [
     // word
     Rule {
         nullable: false,
@@ -319,9 +319,27 @@ const RULES: [Rule; 104] = [
         nullable: true,
         first: 0xaa8000000000000000,
         follow: 0x800000000000000000000000,
-        weight: 2,
+        weight: 4,
         from: 75,
+        to: 76,
+    },
+    // new_source
+    Rule {
+        nullable: true,
+        first: 0x0,
+        follow: 0x800000aa8000000000000000,
+        weight: 1,
+        from: 76,
         to: 77,
+    },
+    // blocks
+    Rule {
+        nullable: true,
+        first: 0xaa8000000000000000,
+        follow: 0x800000000000000000000000,
+        weight: 2,
+        from: 77,
+        to: 79,
     },
     // block
     Rule {
@@ -329,8 +347,17 @@ const RULES: [Rule; 104] = [
         first: 0xaa8000000000000000,
         follow: 0x800000aa8000000000000000,
         weight: 1,
-        from: 77,
-        to: 82,
+        from: 79,
+        to: 84,
+    },
+    // block_name
+    Rule {
+        nullable: false,
+        first: 0x1ffe33,
+        follow: 0x4a1421155000002601ffe3b,
+        weight: 4,
+        from: 84,
+        to: 85,
     },
     // name
     Rule {
@@ -338,8 +365,8 @@ const RULES: [Rule; 104] = [
         first: 0x1ffe33,
         follow: 0x84a1425155000002605ffe3b,
         weight: 3,
-        from: 82,
-        to: 84,
+        from: 85,
+        to: 87,
     },
     // value_type
     Rule {
@@ -347,26 +374,44 @@ const RULES: [Rule; 104] = [
         first: 0x28000000000000,
         follow: 0x4a1420454000002401ffe3b,
         weight: 1,
-        from: 84,
-        to: 86,
+        from: 87,
+        to: 89,
     },
     // sections
     Rule {
         nullable: true,
         first: 0x1400000000000000,
         follow: 0x4a1421540000002401ffe3b,
-        weight: 2,
-        from: 86,
-        to: 88,
+        weight: 3,
+        from: 89,
+        to: 91,
     },
     // section
     Rule {
         nullable: false,
         first: 0x1400000000000000,
         follow: 0x4a1421554000002401ffe3b,
+        weight: 2,
+        from: 91,
+        to: 93,
+    },
+    // section_head
+    Rule {
+        nullable: false,
+        first: 0x400000000000000,
+        follow: 0x8000000001ffe01,
         weight: 1,
-        from: 88,
-        to: 90,
+        from: 93,
+        to: 94,
+    },
+    // const_head
+    Rule {
+        nullable: false,
+        first: 0x1000000000000000,
+        follow: 0x20000000001ffe01,
+        weight: 1,
+        from: 94,
+        to: 95,
     },
     // constants
     Rule {
@@ -374,8 +419,8 @@ const RULES: [Rule; 104] = [
         first: 0x1ffe01,
         follow: 0x2000000000000000,
         weight: 4,
-        from: 90,
-        to: 92,
+        from: 95,
+        to: 97,
     },
     // constant
     Rule {
@@ -383,8 +428,8 @@ const RULES: [Rule; 104] = [
         first: 0x1ffe01,
         follow: 0x20000000001ffe01,
         weight: 3,
-        from: 92,
-        to: 93,
+        from: 97,
+        to: 98,
     },
     // declarations
     Rule {
@@ -392,35 +437,53 @@ const RULES: [Rule; 104] = [
         first: 0x1ffe01,
         follow: 0xa00000000000000,
         weight: 4,
-        from: 93,
-        to: 95,
+        from: 98,
+        to: 100,
     },
-    // declaration
+    // first_word
     Rule {
         nullable: false,
         first: 0x1ffe01,
-        follow: 0xa000000001ffe01,
+        follow: 0xa0000000,
         weight: 3,
-        from: 95,
-        to: 96,
+        from: 100,
+        to: 101,
     },
-    // more_words
+    // declared_words
     Rule {
-        nullable: true,
+        nullable: false,
+        first: 0xa0000000,
+        follow: 0xa00000000000000,
+        weight: 3,
+        from: 101,
+        to: 103,
+    },
+    // next_word
+    Rule {
+        nullable: false,
         first: 0x80000000,
-        follow: 0x20000000,
+        follow: 0xa0000000,
         weight: 1,
-        from: 96,
-        to: 98,
+        from: 103,
+        to: 104,
     },
-    // start_value
+    // declared
     Rule {
-        nullable: true,
-        first: 0x400000,
-        follow: 0x40000000,
+        nullable: false,
+        first: 0x20000000,
+        follow: 0xa000000001ffe01,
+        weight: 2,
+        from: 104,
+        to: 105,
+    },
+    // type_head
+    Rule {
+        nullable: false,
+        first: 0x20000000,
+        follow: 0x1580000001ffe33,
         weight: 1,
-        from: 98,
-        to: 100,
+        from: 105,
+        to: 106,
     },
     // declared_type
     Rule {
@@ -428,17 +491,62 @@ const RULES: [Rule; 104] = [
         first: 0x1580000001ffe33,
         follow: 0x40400000,
         weight: 4,
-        from: 100,
-        to: 105,
+        from: 106,
+        to: 111,
+    },
+    // array_head
+    Rule {
+        nullable: false,
+        first: 0x40000000000000,
+        follow: 0x1580000001ffe33,
+        weight: 1,
+        from: 111,
+        to: 112,
     },
     // struct
     Rule {
         nullable: false,
         first: 0x100000000000000,
-        follow: 0x1404000000040400000,
+        follow: 0x40400000,
+        weight: 2,
+        from: 112,
+        to: 113,
+    },
+    // struct_head
+    Rule {
+        nullable: false,
+        first: 0x100000000000000,
+        follow: 0x2000000001ffe01,
         weight: 1,
-        from: 105,
-        to: 106,
+        from: 113,
+        to: 114,
+    },
+    // own_fields
+    Rule {
+        nullable: false,
+        first: 0x100000000000000,
+        follow: 0x1404000000000000000,
+        weight: 2,
+        from: 114,
+        to: 115,
+    },
+    // own_head
+    Rule {
+        nullable: false,
+        first: 0x100000000000000,
+        follow: 0x2000000001ffe01,
+        weight: 1,
+        from: 115,
+        to: 116,
+    },
+    // start_value
+    Rule {
+        nullable: true,
+        first: 0x400000,
+        follow: 0x40000000,
+        weight: 1,
+        from: 116,
+        to: 118,
     },
     // maybe_semicolon
     Rule {
@@ -446,8 +554,8 @@ const RULES: [Rule; 104] = [
         first: 0x40000000,
         follow: 0x1404000000000000000,
         weight: 1,
-        from: 106,
-        to: 108,
+        from: 118,
+        to: 120,
     },
     // literal
     Rule {
@@ -455,8 +563,8 @@ const RULES: [Rule; 104] = [
         first: 0x200800000004,
         follow: 0x8000000000000e1000000,
         weight: 2,
-        from: 108,
-        to: 110,
+        from: 120,
+        to: 122,
     },
     // integer
     Rule {
@@ -464,8 +572,8 @@ const RULES: [Rule; 104] = [
         first: 0x800000004,
         follow: 0x8000000000000f1000000,
         weight: 1,
-        from: 110,
-        to: 112,
+        from: 122,
+        to: 124,
     },
     // data_type
     Rule {
@@ -473,8 +581,17 @@ const RULES: [Rule; 104] = [
         first: 0x1000000001ffe33,
         follow: 0x404000000000000000,
         weight: 4,
-        from: 112,
-        to: 114,
+        from: 124,
+        to: 126,
+    },
+    // data_head
+    Rule {
+        nullable: false,
+        first: 0x4000000000000000,
+        follow: 0x4000000000001ffe01,
+        weight: 1,
+        from: 126,
+        to: 127,
     },
     // data_values
     Rule {
@@ -482,8 +599,8 @@ const RULES: [Rule; 104] = [
         first: 0x1ffe01,
         follow: 0x400000000000000000,
         weight: 4,
-        from: 114,
-        to: 116,
+        from: 127,
+        to: 129,
     },
     // data_value
     Rule {
@@ -491,8 +608,8 @@ const RULES: [Rule; 104] = [
         first: 0x1ffe01,
         follow: 0x4000000000001ffe01,
         weight: 3,
-        from: 116,
-        to: 117,
+        from: 129,
+        to: 130,
     },
     // path_steps
     Rule {
@@ -500,8 +617,8 @@ const RULES: [Rule; 104] = [
         first: 0x108000000,
         follow: 0x400000,
         weight: 2,
-        from: 117,
-        to: 119,
+        from: 130,
+        to: 132,
     },
     // path_step
     Rule {
@@ -509,35 +626,44 @@ const RULES: [Rule; 104] = [
         first: 0x108000000,
         follow: 0x108400000,
         weight: 1,
-        from: 119,
-        to: 121,
+        from: 132,
+        to: 134,
     },
-    // second_name
+    // plain_hash
+    Rule {
+        nullable: true,
+        first: 0x0,
+        follow: 0xffd4a400000,
+        weight: 1,
+        from: 134,
+        to: 135,
+    },
+    // quoted_hash
+    Rule {
+        nullable: true,
+        first: 0x0,
+        follow: 0x102000000,
+        weight: 1,
+        from: 135,
+        to: 136,
+    },
+    // numbered_hash
     Rule {
         nullable: false,
-        first: 0x1c2,
-        follow: 0x2000000,
-        weight: 1,
-        from: 121,
-        to: 125,
-    },
-    // maybe_number
-    Rule {
-        nullable: true,
         first: 0x4,
-        follow: 0x2000000,
+        follow: 0x102000000,
         weight: 1,
-        from: 125,
-        to: 127,
+        from: 136,
+        to: 137,
     },
-    // more_arguments
+    // first_argument
     Rule {
-        nullable: true,
-        first: 0x80000000,
-        follow: 0x4000000,
-        weight: 1,
-        from: 127,
-        to: 129,
+        nullable: false,
+        first: 0xc00000,
+        follow: 0x84000000,
+        weight: 2,
+        from: 137,
+        to: 138,
     },
     // argument_value
     Rule {
@@ -545,35 +671,71 @@ const RULES: [Rule; 104] = [
         first: 0xc00000,
         follow: 0x84000000,
         weight: 1,
-        from: 129,
-        to: 131,
+        from: 138,
+        to: 140,
+    },
+    // more_arguments
+    Rule {
+        nullable: true,
+        first: 0x80000000,
+        follow: 0x4000000,
+        weight: 2,
+        from: 140,
+        to: 142,
+    },
+    // next_argument
+    Rule {
+        nullable: false,
+        first: 0x80000000,
+        follow: 0x84000000,
+        weight: 1,
+        from: 142,
+        to: 143,
     },
     // body
     Rule {
         nullable: true,
         first: 0x4a1420040000002401ffe3b,
         follow: 0x150000000000000000,
-        weight: 6,
-        from: 131,
-        to: 133,
+        weight: 8,
+        from: 143,
+        to: 145,
     },
     // data_body
     Rule {
         nullable: true,
         first: 0x4000000000000000,
         follow: 0x400000000000000000,
-        weight: 1,
-        from: 133,
-        to: 135,
+        weight: 2,
+        from: 145,
+        to: 147,
     },
     // list
     Rule {
         nullable: true,
         first: 0x4a1420000000002401ffe3b,
         follow: 0x150b8150000000000000000,
+        weight: 7,
+        from: 147,
+        to: 148,
+    },
+    // new_list
+    Rule {
+        nullable: true,
+        first: 0x0,
+        follow: 0x5f1fa1500000002401ffe3b,
+        weight: 1,
+        from: 148,
+        to: 149,
+    },
+    // items
+    Rule {
+        nullable: true,
+        first: 0x4a1420000000002401ffe3b,
+        follow: 0x150b8150000000000000000,
         weight: 5,
-        from: 135,
-        to: 137,
+        from: 149,
+        to: 151,
     },
     // item
     Rule {
@@ -581,8 +743,8 @@ const RULES: [Rule; 104] = [
         first: 0x4a1420000000002401ffe3b,
         follow: 0x5f1fa1500000002401ffe3b,
         weight: 4,
-        from: 137,
-        to: 139,
+        from: 151,
+        to: 153,
     },
     // firm_item
     Rule {
@@ -590,17 +752,17 @@ const RULES: [Rule; 104] = [
         first: 0x4a14200000000024000003a,
         follow: 0x5f1fa150000200a401ffe3f,
         weight: 3,
-        from: 139,
-        to: 141,
+        from: 153,
+        to: 155,
     },
     // word_item
     Rule {
         nullable: false,
         first: 0x10a400000,
         follow: 0x5f1fa150000200a401ffe3f,
-        weight: 4,
-        from: 141,
-        to: 142,
+        weight: 5,
+        from: 155,
+        to: 156,
     },
     // other_statement
     Rule {
@@ -608,8 +770,17 @@ const RULES: [Rule; 104] = [
         first: 0x4a14200000000020000003a,
         follow: 0x40000000,
         weight: 2,
-        from: 142,
-        to: 151,
+        from: 156,
+        to: 165,
+    },
+    // first_arm
+    Rule {
+        nullable: false,
+        first: 0x7f00e021ffe3f,
+        follow: 0x38000000000000000000,
+        weight: 12,
+        from: 165,
+        to: 166,
     },
     // elsifs
     Rule {
@@ -617,8 +788,8 @@ const RULES: [Rule; 104] = [
         first: 0x8000000000000000000,
         follow: 0x30000000000000000000,
         weight: 2,
-        from: 151,
-        to: 153,
+        from: 166,
+        to: 168,
     },
     // elsif
     Rule {
@@ -626,8 +797,8 @@ const RULES: [Rule; 104] = [
         first: 0x8000000000000000000,
         follow: 0x38000000000000000000,
         weight: 1,
-        from: 153,
-        to: 154,
+        from: 168,
+        to: 169,
     },
     // maybe_else
     Rule {
@@ -635,8 +806,8 @@ const RULES: [Rule; 104] = [
         first: 0x10000000000000000000,
         follow: 0x20000000000000000000,
         weight: 1,
-        from: 154,
-        to: 156,
+        from: 169,
+        to: 171,
     },
     // maybe_by
     Rule {
@@ -644,62 +815,107 @@ const RULES: [Rule; 104] = [
         first: 0x400000000000000000000,
         follow: 0x800000000000000000000,
         weight: 1,
-        from: 156,
-        to: 158,
+        from: 171,
+        to: 173,
     },
     // branches
     Rule {
         nullable: true,
         first: 0x2008001ffe05,
         follow: 0x90000000000000000000,
-        weight: 5,
-        from: 158,
-        to: 160,
+        weight: 7,
+        from: 173,
+        to: 175,
+    },
+    // new_branches
+    Rule {
+        nullable: true,
+        first: 0x0,
+        follow: 0x2008001ffe05,
+        weight: 1,
+        from: 175,
+        to: 176,
     },
     // label
     Rule {
         nullable: false,
         first: 0x2008001ffe05,
         follow: 0x4a1d2000000200a401ffe3f,
-        weight: 4,
-        from: 160,
-        to: 161,
+        weight: 5,
+        from: 176,
+        to: 177,
     },
     // label_rest
     Rule {
         nullable: false,
         first: 0xa1000000,
         follow: 0x4a1d2000000200a401ffe3f,
-        weight: 3,
-        from: 161,
-        to: 162,
+        weight: 4,
+        from: 177,
+        to: 178,
     },
-    // choice
-    Rule {
-        nullable: false,
-        first: 0x2008001ffe05,
-        follow: 0xa1000000,
-        weight: 3,
-        from: 162,
-        to: 164,
-    },
-    // maybe_range
+    // first_range
     Rule {
         nullable: true,
         first: 0x1000000,
         follow: 0xa0000000,
         weight: 1,
-        from: 164,
-        to: 166,
+        from: 178,
+        to: 180,
     },
     // more_choices
     Rule {
         nullable: true,
         first: 0x80000000,
         follow: 0x20000000,
+        weight: 2,
+        from: 180,
+        to: 182,
+    },
+    // next_choice
+    Rule {
+        nullable: false,
+        first: 0x80000000,
+        follow: 0xa0000000,
         weight: 1,
-        from: 166,
-        to: 168,
+        from: 182,
+        to: 183,
+    },
+    // next_range
+    Rule {
+        nullable: true,
+        first: 0x1000000,
+        follow: 0xa0000000,
+        weight: 1,
+        from: 183,
+        to: 185,
+    },
+    // choice
+    Rule {
+        nullable: false,
+        first: 0x2008001ffe05,
+        follow: 0xa1000000,
+        weight: 4,
+        from: 185,
+        to: 187,
+    },
+    // literal_choice
+    Rule {
+        nullable: false,
+        first: 0x200800000004,
+        follow: 0xa1000000,
+        weight: 3,
+        from: 187,
+        to: 188,
+    },
+    // word_choice
+    Rule {
+        nullable: true,
+        first: 0x0,
+        follow: 0xa1000000,
+        weight: 1,
+        from: 188,
+        to: 189,
     },
     // case_items
     Rule {
@@ -707,8 +923,8 @@ const RULES: [Rule; 104] = [
         first: 0x4a142000000200a401ffe3f,
         follow: 0x90000000000000000000,
         weight: 5,
-        from: 168,
-        to: 170,
+        from: 189,
+        to: 191,
     },
     // case_item
     Rule {
@@ -716,17 +932,17 @@ const RULES: [Rule; 104] = [
         first: 0x4a142000000200a401ffe3f,
         follow: 0x4a1d2000000200a401ffe3f,
         weight: 4,
-        from: 170,
-        to: 173,
+        from: 191,
+        to: 194,
     },
     // after_case_word
     Rule {
         nullable: false,
         first: 0x1ab400000,
         follow: 0x4a1d2000000200a401ffe3f,
-        weight: 5,
-        from: 173,
-        to: 175,
+        weight: 6,
+        from: 194,
+        to: 196,
     },
     // case_else
     Rule {
@@ -734,8 +950,8 @@ const RULES: [Rule; 104] = [
         first: 0x10000000000000000000,
         follow: 0x80000000000000000000,
         weight: 1,
-        from: 175,
-        to: 177,
+        from: 196,
+        to: 198,
     },
     // maybe_colon
     Rule {
@@ -743,17 +959,17 @@ const RULES: [Rule; 104] = [
         first: 0x20000000,
         follow: 0x4a1c20000000002401ffe3b,
         weight: 1,
-        from: 177,
-        to: 179,
+        from: 198,
+        to: 200,
     },
     // after_word
     Rule {
         nullable: false,
         first: 0x10a400000,
         follow: 0x40000000,
-        weight: 3,
-        from: 179,
-        to: 182,
+        weight: 4,
+        from: 200,
+        to: 203,
     },
     // after_dot
     Rule {
@@ -761,17 +977,17 @@ const RULES: [Rule; 104] = [
         first: 0x1c2,
         follow: 0x40000000,
         weight: 1,
-        from: 182,
-        to: 186,
+        from: 203,
+        to: 207,
     },
     // after_prefix
     Rule {
         nullable: false,
         first: 0x10a400004,
         follow: 0x40000000,
-        weight: 5,
-        from: 186,
-        to: 188,
+        weight: 6,
+        from: 207,
+        to: 209,
     },
     // after_second
     Rule {
@@ -779,8 +995,8 @@ const RULES: [Rule; 104] = [
         first: 0x10a400000,
         follow: 0x40000000,
         weight: 4,
-        from: 188,
-        to: 190,
+        from: 209,
+        to: 211,
     },
     // after_hash
     Rule {
@@ -788,17 +1004,17 @@ const RULES: [Rule; 104] = [
         first: 0x1c2,
         follow: 0x40000000,
         weight: 1,
-        from: 190,
-        to: 194,
+        from: 211,
+        to: 215,
     },
     // after_hash_prefix
     Rule {
         nullable: false,
         first: 0x10a400004,
         follow: 0x40000000,
-        weight: 4,
-        from: 194,
-        to: 196,
+        weight: 6,
+        from: 215,
+        to: 217,
     },
     // assignment
     Rule {
@@ -806,17 +1022,53 @@ const RULES: [Rule; 104] = [
         first: 0x400000,
         follow: 0x40000000,
         weight: 1,
-        from: 196,
-        to: 197,
+        from: 217,
+        to: 218,
     },
     // maybe_index
     Rule {
         nullable: true,
         first: 0x8000000,
         follow: 0xffc40400000,
+        weight: 2,
+        from: 218,
+        to: 220,
+    },
+    // first_index
+    Rule {
+        nullable: false,
+        first: 0x8000000,
+        follow: 0xffd48400000,
         weight: 1,
-        from: 197,
-        to: 199,
+        from: 220,
+        to: 221,
+    },
+    // plain_second
+    Rule {
+        nullable: true,
+        first: 0x0,
+        follow: 0xffd4a400000,
+        weight: 1,
+        from: 221,
+        to: 222,
+    },
+    // quoted_second
+    Rule {
+        nullable: true,
+        first: 0x0,
+        follow: 0x2000000,
+        weight: 1,
+        from: 222,
+        to: 223,
+    },
+    // numbered_second
+    Rule {
+        nullable: false,
+        first: 0x4,
+        follow: 0x2000000,
+        weight: 1,
+        from: 223,
+        to: 224,
     },
     // called
     Rule {
@@ -824,8 +1076,26 @@ const RULES: [Rule; 104] = [
         first: 0x102000000,
         follow: 0x40000000,
         weight: 2,
-        from: 199,
-        to: 201,
+        from: 224,
+        to: 226,
+    },
+    // second_name
+    Rule {
+        nullable: false,
+        first: 0x1c2,
+        follow: 0x2000000,
+        weight: 1,
+        from: 226,
+        to: 230,
+    },
+    // second_number
+    Rule {
+        nullable: true,
+        first: 0x4,
+        follow: 0x2000000,
+        weight: 2,
+        from: 230,
+        to: 232,
     },
     // call_arguments
     Rule {
@@ -833,8 +1103,8 @@ const RULES: [Rule; 104] = [
         first: 0x2000000,
         follow: 0x40000000,
         weight: 1,
-        from: 201,
-        to: 202,
+        from: 232,
+        to: 233,
     },
     // arguments
     Rule {
@@ -842,8 +1112,8 @@ const RULES: [Rule; 104] = [
         first: 0x7f00e021ffe3f,
         follow: 0x4000000,
         weight: 4,
-        from: 202,
-        to: 205,
+        from: 233,
+        to: 236,
     },
     // after_argument_word
     Rule {
@@ -851,8 +1121,8 @@ const RULES: [Rule; 104] = [
         first: 0xffd08c00000,
         follow: 0x4000000,
         weight: 19,
-        from: 205,
-        to: 207,
+        from: 236,
+        to: 238,
     },
     // value
     Rule {
@@ -860,17 +1130,17 @@ const RULES: [Rule; 104] = [
         first: 0x7f00e021ffe3f,
         follow: 0x40000000,
         weight: 3,
-        from: 207,
-        to: 211,
+        from: 238,
+        to: 242,
     },
     // value_after_word
     Rule {
         nullable: true,
         first: 0xffd0a000000,
         follow: 0x40000000,
-        weight: 18,
-        from: 211,
-        to: 214,
+        weight: 19,
+        from: 242,
+        to: 245,
     },
     // value_after_dot
     Rule {
@@ -878,17 +1148,17 @@ const RULES: [Rule; 104] = [
         first: 0x1c2,
         follow: 0x40000000,
         weight: 1,
-        from: 214,
-        to: 218,
+        from: 245,
+        to: 249,
     },
     // value_after_prefix
     Rule {
         nullable: true,
         first: 0xffd0a000004,
         follow: 0x40000000,
-        weight: 20,
-        from: 218,
-        to: 220,
+        weight: 21,
+        from: 249,
+        to: 251,
     },
     // value_after_second
     Rule {
@@ -896,8 +1166,8 @@ const RULES: [Rule; 104] = [
         first: 0xffd0a000000,
         follow: 0x40000000,
         weight: 19,
-        from: 220,
-        to: 222,
+        from: 251,
+        to: 253,
     },
     // value_after_hash
     Rule {
@@ -905,26 +1175,26 @@ const RULES: [Rule; 104] = [
         first: 0x1c2,
         follow: 0x40000000,
         weight: 1,
-        from: 222,
-        to: 226,
+        from: 253,
+        to: 257,
     },
     // value_after_hash_prefix
     Rule {
         nullable: true,
         first: 0xffd0a000004,
         follow: 0x40000000,
-        weight: 19,
-        from: 226,
-        to: 228,
+        weight: 21,
+        from: 257,
+        to: 259,
     },
     // first_read
     Rule {
         nullable: true,
         first: 0x8000000,
         follow: 0xffc40000000,
-        weight: 2,
-        from: 228,
-        to: 229,
+        weight: 3,
+        from: 259,
+        to: 260,
     },
     // second_read
     Rule {
@@ -932,8 +1202,8 @@ const RULES: [Rule; 104] = [
         first: 0x108000000,
         follow: 0xffc44000000,
         weight: 3,
-        from: 229,
-        to: 230,
+        from: 260,
+        to: 261,
     },
     // chain
     Rule {
@@ -941,12 +1211,12 @@ const RULES: [Rule; 104] = [
         first: 0xffc00000000,
         follow: 0x44000000,
         weight: 15,
-        from: 230,
-        to: 231,
+        from: 261,
+        to: 262,
     },
 ];
 
-const ALTERNATIVES: [Alternative; 231] = [
+const ALTERNATIVES: [Alternative; 262] = [
     // word = label_word
     Alternative {
         name: 0,
@@ -1472,1101 +1742,1318 @@ const ALTERNATIVES: [Alternative; 231] = [
         from: 152,
         to: 153,
     },
-    // source = block source
+    // source = new_source blocks
     Alternative {
         name: 34,
-        when: 0xaa8000000000000000,
+        when: 0x800000aa8000000000000000,
         from: 153,
         to: 155,
     },
-    // source =
+    // new_source =
     Alternative {
-        name: 34,
-        when: 0x800000000000000000000000,
+        name: 35,
+        when: 0x800000aa8000000000000000,
         from: 155,
         to: 155,
     },
-    // block = function_block name sections body end_function_block
-    Alternative {
-        name: 35,
-        when: 0x8000000000000000,
-        from: 155,
-        to: 160,
-    },
-    // block = function_word name colon value_type sections body end_function
-    Alternative {
-        name: 35,
-        when: 0x20000000000000000,
-        from: 160,
-        to: 167,
-    },
-    // block = organization_block name sections body end_organization_block
-    Alternative {
-        name: 35,
-        when: 0x80000000000000000,
-        from: 167,
-        to: 172,
-    },
-    // block = data_block name data_type data_body end_data_block
-    Alternative {
-        name: 35,
-        when: 0x200000000000000000,
-        from: 172,
-        to: 177,
-    },
-    // block = type_word name struct maybe_semicolon end_type
-    Alternative {
-        name: 35,
-        when: 0x800000000000000000,
-        from: 177,
-        to: 182,
-    },
-    // name = word
+    // blocks = block blocks
     Alternative {
         name: 36,
-        when: 0x1ffe01,
-        from: 182,
+        when: 0xaa8000000000000000,
+        from: 155,
+        to: 157,
+    },
+    // blocks =
+    Alternative {
+        name: 36,
+        when: 0x800000000000000000000000,
+        from: 157,
+        to: 157,
+    },
+    // block = function_block block_name sections body end_function_block
+    Alternative {
+        name: 37,
+        when: 0x8000000000000000,
+        from: 157,
+        to: 162,
+    },
+    // block = function_word block_name colon value_type sections body end_function
+    Alternative {
+        name: 37,
+        when: 0x20000000000000000,
+        from: 162,
+        to: 169,
+    },
+    // block = organization_block block_name sections body end_organization_block
+    Alternative {
+        name: 37,
+        when: 0x80000000000000000,
+        from: 169,
+        to: 174,
+    },
+    // block = data_block block_name data_type data_body end_data_block
+    Alternative {
+        name: 37,
+        when: 0x200000000000000000,
+        from: 174,
+        to: 179,
+    },
+    // block = type_word block_name own_fields end_type
+    Alternative {
+        name: 37,
+        when: 0x800000000000000000,
+        from: 179,
         to: 183,
     },
-    // name = firm_name
+    // block_name = name
     Alternative {
-        name: 36,
-        when: 0x32,
+        name: 38,
+        when: 0x1ffe33,
         from: 183,
         to: 184,
     },
-    // value_type = simple_type
+    // name = word
     Alternative {
-        name: 37,
-        when: 0x8000000000000,
+        name: 39,
+        when: 0x1ffe01,
         from: 184,
         to: 185,
     },
-    // value_type = void_word
+    // name = firm_name
     Alternative {
-        name: 37,
-        when: 0x20000000000000,
+        name: 39,
+        when: 0x32,
         from: 185,
         to: 186,
     },
+    // value_type = simple_type
+    Alternative {
+        name: 40,
+        when: 0x8000000000000,
+        from: 186,
+        to: 187,
+    },
+    // value_type = void_word
+    Alternative {
+        name: 40,
+        when: 0x20000000000000,
+        from: 187,
+        to: 188,
+    },
     // sections = section sections
     Alternative {
-        name: 38,
+        name: 41,
         when: 0x1400000000000000,
-        from: 186,
-        to: 188,
+        from: 188,
+        to: 190,
     },
     // sections =
     Alternative {
-        name: 38,
+        name: 41,
         when: 0x4a1421540000002401ffe3b,
-        from: 188,
-        to: 188,
+        from: 190,
+        to: 190,
     },
-    // section = section_word declarations end_var
+    // section = section_head declarations end_var
     Alternative {
-        name: 39,
+        name: 42,
         when: 0x400000000000000,
-        from: 188,
-        to: 191,
+        from: 190,
+        to: 193,
     },
-    // section = const_word constants end_const
+    // section = const_head constants end_const
     Alternative {
-        name: 39,
+        name: 42,
         when: 0x1000000000000000,
-        from: 191,
-        to: 194,
+        from: 193,
+        to: 196,
+    },
+    // section_head = section_word
+    Alternative {
+        name: 43,
+        when: 0x400000000000000,
+        from: 196,
+        to: 197,
+    },
+    // const_head = const_word
+    Alternative {
+        name: 44,
+        when: 0x1000000000000000,
+        from: 197,
+        to: 198,
     },
     // constants = constant constants
     Alternative {
-        name: 40,
+        name: 45,
         when: 0x1ffe01,
-        from: 194,
-        to: 196,
+        from: 198,
+        to: 200,
     },
     // constants =
     Alternative {
-        name: 40,
+        name: 45,
         when: 0x2000000000000000,
-        from: 196,
-        to: 196,
+        from: 200,
+        to: 200,
     },
     // constant = word assign literal semicolon
     Alternative {
-        name: 41,
-        when: 0x1ffe01,
-        from: 196,
-        to: 200,
-    },
-    // declarations = declaration declarations
-    Alternative {
-        name: 42,
+        name: 46,
         when: 0x1ffe01,
         from: 200,
-        to: 202,
+        to: 204,
+    },
+    // declarations = first_word declared_words
+    Alternative {
+        name: 47,
+        when: 0x1ffe01,
+        from: 204,
+        to: 206,
     },
     // declarations =
     Alternative {
-        name: 42,
+        name: 47,
         when: 0xa00000000000000,
-        from: 202,
-        to: 202,
+        from: 206,
+        to: 206,
     },
-    // declaration = word more_words colon declared_type start_value semicolon
+    // first_word = word
     Alternative {
-        name: 43,
+        name: 48,
         when: 0x1ffe01,
-        from: 202,
-        to: 208,
+        from: 206,
+        to: 207,
     },
-    // more_words = comma word more_words
+    // declared_words = next_word declared_words
     Alternative {
-        name: 44,
+        name: 49,
         when: 0x80000000,
-        from: 208,
-        to: 211,
+        from: 207,
+        to: 209,
     },
-    // more_words =
+    // declared_words = declared declarations
     Alternative {
-        name: 44,
+        name: 49,
         when: 0x20000000,
-        from: 211,
+        from: 209,
         to: 211,
     },
-    // start_value = assign literal
+    // next_word = comma word
     Alternative {
-        name: 45,
-        when: 0x400000,
+        name: 50,
+        when: 0x80000000,
         from: 211,
         to: 213,
     },
-    // start_value =
+    // declared = type_head declared_type start_value semicolon
     Alternative {
-        name: 45,
-        when: 0x40000000,
+        name: 51,
+        when: 0x20000000,
         from: 213,
-        to: 213,
+        to: 217,
+    },
+    // type_head = colon
+    Alternative {
+        name: 52,
+        when: 0x20000000,
+        from: 217,
+        to: 218,
     },
     // declared_type = simple_type
     Alternative {
-        name: 46,
+        name: 53,
         when: 0x8000000000000,
-        from: 213,
-        to: 214,
+        from: 218,
+        to: 219,
     },
     // declared_type = date_and_time
     Alternative {
-        name: 46,
+        name: 53,
         when: 0x10000000000000,
-        from: 214,
-        to: 215,
+        from: 219,
+        to: 220,
     },
     // declared_type = name
     Alternative {
-        name: 46,
+        name: 53,
         when: 0x1ffe33,
-        from: 215,
-        to: 216,
+        from: 220,
+        to: 221,
     },
     // declared_type = struct
     Alternative {
-        name: 46,
+        name: 53,
         when: 0x100000000000000,
-        from: 216,
-        to: 217,
+        from: 221,
+        to: 222,
     },
-    // declared_type = array_word bracket_open integer dots integer bracket_close of_word declared_type
+    // declared_type = array_head declared_type
     Alternative {
-        name: 46,
+        name: 53,
         when: 0x40000000000000,
-        from: 217,
-        to: 225,
+        from: 222,
+        to: 224,
     },
-    // struct = struct_word declarations end_struct
+    // array_head = array_word bracket_open integer dots integer bracket_close of_word
     Alternative {
-        name: 47,
-        when: 0x100000000000000,
-        from: 225,
-        to: 228,
-    },
-    // maybe_semicolon = semicolon
-    Alternative {
-        name: 48,
-        when: 0x40000000,
-        from: 228,
-        to: 229,
-    },
-    // maybe_semicolon =
-    Alternative {
-        name: 48,
-        when: 0x1404000000000000000,
-        from: 229,
-        to: 229,
-    },
-    // literal = integer
-    Alternative {
-        name: 49,
-        when: 0x800000004,
-        from: 229,
-        to: 230,
-    },
-    // literal = truth
-    Alternative {
-        name: 49,
-        when: 0x200000000000,
-        from: 230,
+        name: 54,
+        when: 0x40000000000000,
+        from: 224,
         to: 231,
     },
-    // integer = minus number
+    // struct = struct_head declarations end_struct
     Alternative {
-        name: 50,
-        when: 0x800000000,
+        name: 55,
+        when: 0x100000000000000,
         from: 231,
-        to: 233,
-    },
-    // integer = number
-    Alternative {
-        name: 50,
-        when: 0x4,
-        from: 233,
         to: 234,
     },
-    // data_type = name
+    // struct_head = struct_word
     Alternative {
-        name: 51,
-        when: 0x1ffe33,
+        name: 56,
+        when: 0x100000000000000,
         from: 234,
         to: 235,
     },
-    // data_type = struct maybe_semicolon
+    // own_fields = own_head declarations end_struct maybe_semicolon
     Alternative {
-        name: 51,
+        name: 57,
         when: 0x100000000000000,
         from: 235,
-        to: 237,
+        to: 239,
+    },
+    // own_head = struct_word
+    Alternative {
+        name: 58,
+        when: 0x100000000000000,
+        from: 239,
+        to: 240,
+    },
+    // start_value = assign literal
+    Alternative {
+        name: 59,
+        when: 0x400000,
+        from: 240,
+        to: 242,
+    },
+    // start_value =
+    Alternative {
+        name: 59,
+        when: 0x40000000,
+        from: 242,
+        to: 242,
+    },
+    // maybe_semicolon = semicolon
+    Alternative {
+        name: 60,
+        when: 0x40000000,
+        from: 242,
+        to: 243,
+    },
+    // maybe_semicolon =
+    Alternative {
+        name: 60,
+        when: 0x1404000000000000000,
+        from: 243,
+        to: 243,
+    },
+    // literal = integer
+    Alternative {
+        name: 61,
+        when: 0x800000004,
+        from: 243,
+        to: 244,
+    },
+    // literal = truth
+    Alternative {
+        name: 61,
+        when: 0x200000000000,
+        from: 244,
+        to: 245,
+    },
+    // integer = minus number
+    Alternative {
+        name: 62,
+        when: 0x800000000,
+        from: 245,
+        to: 247,
+    },
+    // integer = number
+    Alternative {
+        name: 62,
+        when: 0x4,
+        from: 247,
+        to: 248,
+    },
+    // data_type = name
+    Alternative {
+        name: 63,
+        when: 0x1ffe33,
+        from: 248,
+        to: 249,
+    },
+    // data_type = own_fields
+    Alternative {
+        name: 63,
+        when: 0x100000000000000,
+        from: 249,
+        to: 250,
+    },
+    // data_head = begin_word
+    Alternative {
+        name: 64,
+        when: 0x4000000000000000,
+        from: 250,
+        to: 251,
     },
     // data_values = data_value data_values
     Alternative {
-        name: 52,
+        name: 65,
         when: 0x1ffe01,
-        from: 237,
-        to: 239,
+        from: 251,
+        to: 253,
     },
     // data_values =
     Alternative {
-        name: 52,
+        name: 65,
         when: 0x400000000000000000,
-        from: 239,
-        to: 239,
+        from: 253,
+        to: 253,
     },
     // data_value = word path_steps assign literal semicolon
     Alternative {
-        name: 53,
+        name: 66,
         when: 0x1ffe01,
-        from: 239,
-        to: 244,
+        from: 253,
+        to: 258,
     },
     // path_steps = path_step path_steps
     Alternative {
-        name: 54,
+        name: 67,
         when: 0x108000000,
-        from: 244,
-        to: 246,
+        from: 258,
+        to: 260,
     },
     // path_steps =
     Alternative {
-        name: 54,
+        name: 67,
         when: 0x400000,
-        from: 246,
-        to: 246,
+        from: 260,
+        to: 260,
     },
     // path_step = dot field
     Alternative {
-        name: 55,
+        name: 68,
         when: 0x100000000,
-        from: 246,
-        to: 248,
+        from: 260,
+        to: 262,
     },
     // path_step = bracket_open integer bracket_close
     Alternative {
-        name: 55,
+        name: 68,
         when: 0x8000000,
-        from: 248,
-        to: 251,
+        from: 262,
+        to: 265,
     },
-    // second_name = free_word
+    // plain_hash =
     Alternative {
-        name: 56,
-        when: 0x40,
-        from: 251,
-        to: 252,
+        name: 69,
+        when: 0xffd4a400000,
+        from: 265,
+        to: 265,
     },
-    // second_name = free_prefix maybe_number
+    // quoted_hash =
     Alternative {
-        name: 56,
-        when: 0x80,
-        from: 252,
-        to: 254,
+        name: 70,
+        when: 0x102000000,
+        from: 265,
+        to: 265,
     },
-    // second_name = free_numbered
+    // numbered_hash = number
     Alternative {
-        name: 56,
-        when: 0x100,
-        from: 254,
-        to: 255,
-    },
-    // second_name = quoted
-    Alternative {
-        name: 56,
-        when: 0x2,
-        from: 255,
-        to: 256,
-    },
-    // maybe_number = number
-    Alternative {
-        name: 57,
+        name: 71,
         when: 0x4,
-        from: 256,
-        to: 257,
+        from: 265,
+        to: 266,
     },
-    // maybe_number =
+    // first_argument = argument_value
     Alternative {
-        name: 57,
-        when: 0x2000000,
-        from: 257,
-        to: 257,
-    },
-    // more_arguments = comma word argument_value more_arguments
-    Alternative {
-        name: 58,
-        when: 0x80000000,
-        from: 257,
-        to: 261,
-    },
-    // more_arguments =
-    Alternative {
-        name: 58,
-        when: 0x4000000,
-        from: 261,
-        to: 261,
+        name: 72,
+        when: 0xc00000,
+        from: 266,
+        to: 267,
     },
     // argument_value = assign expression
     Alternative {
-        name: 59,
+        name: 73,
         when: 0x400000,
-        from: 261,
-        to: 263,
+        from: 267,
+        to: 269,
     },
     // argument_value = arrow expression
     Alternative {
-        name: 59,
+        name: 73,
         when: 0x800000,
-        from: 263,
-        to: 265,
+        from: 269,
+        to: 271,
+    },
+    // more_arguments = next_argument more_arguments
+    Alternative {
+        name: 74,
+        when: 0x80000000,
+        from: 271,
+        to: 273,
+    },
+    // more_arguments =
+    Alternative {
+        name: 74,
+        when: 0x4000000,
+        from: 273,
+        to: 273,
+    },
+    // next_argument = comma word argument_value
+    Alternative {
+        name: 75,
+        when: 0x80000000,
+        from: 273,
+        to: 276,
     },
     // body = begin_word list
     Alternative {
-        name: 60,
+        name: 76,
         when: 0x4000000000000000,
-        from: 265,
-        to: 267,
-    },
-    // body = list
-    Alternative {
-        name: 60,
-        when: 0x4a1421500000002401ffe3b,
-        from: 267,
-        to: 268,
-    },
-    // data_body = begin_word data_values
-    Alternative {
-        name: 61,
-        when: 0x4000000000000000,
-        from: 268,
-        to: 270,
-    },
-    // data_body =
-    Alternative {
-        name: 61,
-        when: 0x400000000000000000,
-        from: 270,
-        to: 270,
-    },
-    // list = item list
-    Alternative {
-        name: 62,
-        when: 0x4a1420000000002401ffe3b,
-        from: 270,
-        to: 272,
-    },
-    // list =
-    Alternative {
-        name: 62,
-        when: 0x150b8150000000000000000,
-        from: 272,
-        to: 272,
-    },
-    // item = firm_item
-    Alternative {
-        name: 63,
-        when: 0x4a14200000000024000003a,
-        from: 272,
-        to: 273,
-    },
-    // item = word word_item
-    Alternative {
-        name: 63,
-        when: 0x1ffe01,
-        from: 273,
-        to: 275,
-    },
-    // firm_item = semicolon
-    Alternative {
-        name: 64,
-        when: 0x40000000,
-        from: 275,
-        to: 276,
-    },
-    // firm_item = other_statement semicolon
-    Alternative {
-        name: 64,
-        when: 0x4a14200000000020000003a,
         from: 276,
         to: 278,
     },
+    // body = list
+    Alternative {
+        name: 76,
+        when: 0x4a1421500000002401ffe3b,
+        from: 278,
+        to: 279,
+    },
+    // data_body = data_head data_values
+    Alternative {
+        name: 77,
+        when: 0x4000000000000000,
+        from: 279,
+        to: 281,
+    },
+    // data_body =
+    Alternative {
+        name: 77,
+        when: 0x400000000000000000,
+        from: 281,
+        to: 281,
+    },
+    // list = new_list items
+    Alternative {
+        name: 78,
+        when: 0x5f1fa1500000002401ffe3b,
+        from: 281,
+        to: 283,
+    },
+    // new_list =
+    Alternative {
+        name: 79,
+        when: 0x5f1fa1500000002401ffe3b,
+        from: 283,
+        to: 283,
+    },
+    // items = item items
+    Alternative {
+        name: 80,
+        when: 0x4a1420000000002401ffe3b,
+        from: 283,
+        to: 285,
+    },
+    // items =
+    Alternative {
+        name: 80,
+        when: 0x150b8150000000000000000,
+        from: 285,
+        to: 285,
+    },
+    // item = firm_item
+    Alternative {
+        name: 81,
+        when: 0x4a14200000000024000003a,
+        from: 285,
+        to: 286,
+    },
+    // item = word word_item
+    Alternative {
+        name: 81,
+        when: 0x1ffe01,
+        from: 286,
+        to: 288,
+    },
+    // firm_item = semicolon
+    Alternative {
+        name: 82,
+        when: 0x40000000,
+        from: 288,
+        to: 289,
+    },
+    // firm_item = other_statement semicolon
+    Alternative {
+        name: 82,
+        when: 0x4a14200000000020000003a,
+        from: 289,
+        to: 291,
+    },
     // word_item = after_word semicolon
     Alternative {
-        name: 65,
+        name: 83,
         when: 0x10a400000,
-        from: 278,
-        to: 280,
+        from: 291,
+        to: 293,
     },
     // other_statement = hash after_hash
     Alternative {
-        name: 66,
+        name: 84,
         when: 0x200000000,
-        from: 280,
-        to: 282,
+        from: 293,
+        to: 295,
     },
     // other_statement = firm_name after_word
     Alternative {
-        name: 66,
+        name: 84,
         when: 0x32,
-        from: 282,
-        to: 284,
+        from: 295,
+        to: 297,
     },
     // other_statement = area steps assignment
     Alternative {
-        name: 66,
+        name: 84,
         when: 0x8,
-        from: 284,
-        to: 287,
+        from: 297,
+        to: 300,
     },
-    // other_statement = if_word expression then_word list elsifs maybe_else end_if
+    // other_statement = if_word first_arm elsifs maybe_else end_if
     Alternative {
-        name: 66,
+        name: 84,
         when: 0x2000000000000000000,
-        from: 287,
-        to: 294,
+        from: 300,
+        to: 305,
     },
     // other_statement = case_word expression of_word branches case_else end_case
     Alternative {
-        name: 66,
+        name: 84,
         when: 0x40000000000000000000,
-        from: 294,
-        to: 300,
+        from: 305,
+        to: 311,
     },
     // other_statement = for_word word assign expression to_word expression maybe_by do_word list end_for
     Alternative {
-        name: 66,
+        name: 84,
         when: 0x100000000000000000000,
-        from: 300,
-        to: 310,
+        from: 311,
+        to: 321,
     },
     // other_statement = while_word expression do_word list end_while
     Alternative {
-        name: 66,
+        name: 84,
         when: 0x2000000000000000000000,
-        from: 310,
-        to: 315,
+        from: 321,
+        to: 326,
     },
     // other_statement = repeat_word list until_word expression end_repeat
     Alternative {
-        name: 66,
+        name: 84,
         when: 0x8000000000000000000000,
-        from: 315,
-        to: 320,
+        from: 326,
+        to: 331,
     },
     // other_statement = single_word
     Alternative {
-        name: 66,
+        name: 84,
         when: 0x40000000000000000000000,
-        from: 320,
-        to: 321,
+        from: 331,
+        to: 332,
+    },
+    // first_arm = expression then_word list
+    Alternative {
+        name: 85,
+        when: 0x7f00e021ffe3f,
+        from: 332,
+        to: 335,
     },
     // elsifs = elsif elsifs
     Alternative {
-        name: 67,
+        name: 86,
         when: 0x8000000000000000000,
-        from: 321,
-        to: 323,
+        from: 335,
+        to: 337,
     },
     // elsifs =
     Alternative {
-        name: 67,
+        name: 86,
         when: 0x30000000000000000000,
-        from: 323,
-        to: 323,
+        from: 337,
+        to: 337,
     },
     // elsif = elsif_word expression then_word list
     Alternative {
-        name: 68,
+        name: 87,
         when: 0x8000000000000000000,
-        from: 323,
-        to: 327,
+        from: 337,
+        to: 341,
     },
     // maybe_else = else_word list
     Alternative {
-        name: 69,
+        name: 88,
         when: 0x10000000000000000000,
-        from: 327,
-        to: 329,
+        from: 341,
+        to: 343,
     },
     // maybe_else =
     Alternative {
-        name: 69,
+        name: 88,
         when: 0x20000000000000000000,
-        from: 329,
-        to: 329,
+        from: 343,
+        to: 343,
     },
     // maybe_by = by_word literal
     Alternative {
-        name: 70,
+        name: 89,
         when: 0x400000000000000000000,
-        from: 329,
-        to: 331,
+        from: 343,
+        to: 345,
     },
     // maybe_by =
     Alternative {
-        name: 70,
+        name: 89,
         when: 0x800000000000000000000,
-        from: 331,
-        to: 331,
+        from: 345,
+        to: 345,
     },
-    // branches = label case_items
+    // branches = new_branches label case_items
     Alternative {
-        name: 71,
+        name: 90,
         when: 0x2008001ffe05,
-        from: 331,
-        to: 333,
+        from: 345,
+        to: 348,
     },
     // branches =
     Alternative {
-        name: 71,
+        name: 90,
         when: 0x90000000000000000000,
-        from: 333,
-        to: 333,
+        from: 348,
+        to: 348,
+    },
+    // new_branches =
+    Alternative {
+        name: 91,
+        when: 0x2008001ffe05,
+        from: 348,
+        to: 348,
     },
     // label = choice label_rest
     Alternative {
-        name: 72,
+        name: 92,
         when: 0x2008001ffe05,
-        from: 333,
-        to: 335,
+        from: 348,
+        to: 350,
     },
-    // label_rest = maybe_range more_choices colon
+    // label_rest = first_range more_choices colon
     Alternative {
-        name: 73,
+        name: 93,
         when: 0xa1000000,
-        from: 335,
-        to: 338,
+        from: 350,
+        to: 353,
     },
-    // choice = literal
+    // first_range = dots choice
     Alternative {
-        name: 74,
-        when: 0x200800000004,
-        from: 338,
-        to: 339,
-    },
-    // choice = word
-    Alternative {
-        name: 74,
-        when: 0x1ffe01,
-        from: 339,
-        to: 340,
-    },
-    // maybe_range = dots choice
-    Alternative {
-        name: 75,
+        name: 94,
         when: 0x1000000,
-        from: 340,
-        to: 342,
+        from: 353,
+        to: 355,
     },
-    // maybe_range =
+    // first_range =
     Alternative {
-        name: 75,
+        name: 94,
         when: 0xa0000000,
-        from: 342,
-        to: 342,
+        from: 355,
+        to: 355,
     },
-    // more_choices = comma choice maybe_range more_choices
+    // more_choices = next_choice more_choices
     Alternative {
-        name: 76,
+        name: 95,
         when: 0x80000000,
-        from: 342,
-        to: 346,
+        from: 355,
+        to: 357,
     },
     // more_choices =
     Alternative {
-        name: 76,
+        name: 95,
         when: 0x20000000,
-        from: 346,
-        to: 346,
+        from: 357,
+        to: 357,
     },
-    // case_items = case_item case_items
+    // next_choice = comma choice next_range
     Alternative {
-        name: 77,
-        when: 0x4a142000000200a401ffe3f,
-        from: 346,
-        to: 348,
-    },
-    // case_items =
-    Alternative {
-        name: 77,
-        when: 0x90000000000000000000,
-        from: 348,
-        to: 348,
-    },
-    // case_item = firm_item
-    Alternative {
-        name: 78,
-        when: 0x4a14200000000024000003a,
-        from: 348,
-        to: 349,
-    },
-    // case_item = literal label_rest
-    Alternative {
-        name: 78,
-        when: 0x200800000004,
-        from: 349,
-        to: 351,
-    },
-    // case_item = word after_case_word
-    Alternative {
-        name: 78,
-        when: 0x1ffe01,
-        from: 351,
-        to: 353,
-    },
-    // after_case_word = label_rest
-    Alternative {
-        name: 79,
-        when: 0xa1000000,
-        from: 353,
-        to: 354,
-    },
-    // after_case_word = word_item
-    Alternative {
-        name: 79,
-        when: 0x10a400000,
-        from: 354,
-        to: 355,
-    },
-    // case_else = else_word maybe_colon list
-    Alternative {
-        name: 80,
-        when: 0x10000000000000000000,
-        from: 355,
-        to: 358,
-    },
-    // case_else =
-    Alternative {
-        name: 80,
-        when: 0x80000000000000000000,
-        from: 358,
-        to: 358,
-    },
-    // maybe_colon = colon
-    Alternative {
-        name: 81,
-        when: 0x20000000,
-        from: 358,
-        to: 359,
-    },
-    // maybe_colon =
-    Alternative {
-        name: 81,
-        when: 0x4a1c20000000002401ffe3b,
-        from: 359,
-        to: 359,
-    },
-    // after_word = call_arguments
-    Alternative {
-        name: 82,
-        when: 0x2000000,
-        from: 359,
+        name: 96,
+        when: 0x80000000,
+        from: 357,
         to: 360,
     },
-    // after_word = dot after_dot
+    // next_range = dots choice
     Alternative {
-        name: 82,
-        when: 0x100000000,
+        name: 97,
+        when: 0x1000000,
         from: 360,
         to: 362,
     },
-    // after_word = maybe_index assignment
+    // next_range =
     Alternative {
-        name: 82,
-        when: 0x8400000,
+        name: 97,
+        when: 0xa0000000,
         from: 362,
-        to: 364,
+        to: 362,
     },
-    // after_dot = free_word after_second
+    // choice = literal_choice
     Alternative {
-        name: 83,
-        when: 0x40,
-        from: 364,
+        name: 98,
+        when: 0x200800000004,
+        from: 362,
+        to: 363,
+    },
+    // choice = word word_choice
+    Alternative {
+        name: 98,
+        when: 0x1ffe01,
+        from: 363,
+        to: 365,
+    },
+    // literal_choice = literal
+    Alternative {
+        name: 99,
+        when: 0x200800000004,
+        from: 365,
         to: 366,
     },
-    // after_dot = free_prefix after_prefix
+    // word_choice =
     Alternative {
-        name: 83,
-        when: 0x80,
+        name: 100,
+        when: 0xa1000000,
+        from: 366,
+        to: 366,
+    },
+    // case_items = case_item case_items
+    Alternative {
+        name: 101,
+        when: 0x4a142000000200a401ffe3f,
         from: 366,
         to: 368,
     },
-    // after_dot = free_numbered call_arguments
+    // case_items =
     Alternative {
-        name: 83,
-        when: 0x100,
+        name: 101,
+        when: 0x90000000000000000000,
         from: 368,
-        to: 370,
+        to: 368,
     },
-    // after_dot = quoted call_arguments
+    // case_item = firm_item
     Alternative {
-        name: 83,
-        when: 0x2,
-        from: 370,
-        to: 372,
+        name: 102,
+        when: 0x4a14200000000024000003a,
+        from: 368,
+        to: 369,
     },
-    // after_prefix = number call_arguments
+    // case_item = literal_choice label_rest
     Alternative {
-        name: 84,
-        when: 0x4,
-        from: 372,
-        to: 374,
+        name: 102,
+        when: 0x200800000004,
+        from: 369,
+        to: 371,
     },
-    // after_prefix = after_second
+    // case_item = word after_case_word
     Alternative {
-        name: 84,
-        when: 0x10a400000,
-        from: 374,
+        name: 102,
+        when: 0x1ffe01,
+        from: 371,
+        to: 373,
+    },
+    // after_case_word = word_choice label_rest
+    Alternative {
+        name: 103,
+        when: 0xa1000000,
+        from: 373,
         to: 375,
     },
-    // after_second = call_arguments
+    // after_case_word = word_item
     Alternative {
-        name: 85,
-        when: 0x2000000,
+        name: 103,
+        when: 0x10a400000,
         from: 375,
         to: 376,
     },
+    // case_else = else_word maybe_colon list
+    Alternative {
+        name: 104,
+        when: 0x10000000000000000000,
+        from: 376,
+        to: 379,
+    },
+    // case_else =
+    Alternative {
+        name: 104,
+        when: 0x80000000000000000000,
+        from: 379,
+        to: 379,
+    },
+    // maybe_colon = colon
+    Alternative {
+        name: 105,
+        when: 0x20000000,
+        from: 379,
+        to: 380,
+    },
+    // maybe_colon =
+    Alternative {
+        name: 105,
+        when: 0x4a1c20000000002401ffe3b,
+        from: 380,
+        to: 380,
+    },
+    // after_word = call_arguments
+    Alternative {
+        name: 106,
+        when: 0x2000000,
+        from: 380,
+        to: 381,
+    },
+    // after_word = dot after_dot
+    Alternative {
+        name: 106,
+        when: 0x100000000,
+        from: 381,
+        to: 383,
+    },
+    // after_word = maybe_index assignment
+    Alternative {
+        name: 106,
+        when: 0x8400000,
+        from: 383,
+        to: 385,
+    },
+    // after_dot = free_word plain_second after_second
+    Alternative {
+        name: 107,
+        when: 0x40,
+        from: 385,
+        to: 388,
+    },
+    // after_dot = free_prefix after_prefix
+    Alternative {
+        name: 107,
+        when: 0x80,
+        from: 388,
+        to: 390,
+    },
+    // after_dot = free_numbered plain_second call_arguments
+    Alternative {
+        name: 107,
+        when: 0x100,
+        from: 390,
+        to: 393,
+    },
+    // after_dot = quoted quoted_second call_arguments
+    Alternative {
+        name: 107,
+        when: 0x2,
+        from: 393,
+        to: 396,
+    },
+    // after_prefix = numbered_second call_arguments
+    Alternative {
+        name: 108,
+        when: 0x4,
+        from: 396,
+        to: 398,
+    },
+    // after_prefix = plain_second after_second
+    Alternative {
+        name: 108,
+        when: 0x10a400000,
+        from: 398,
+        to: 400,
+    },
+    // after_second = call_arguments
+    Alternative {
+        name: 109,
+        when: 0x2000000,
+        from: 400,
+        to: 401,
+    },
     // after_second = steps assignment
     Alternative {
-        name: 85,
+        name: 109,
         when: 0x108400000,
-        from: 376,
-        to: 378,
+        from: 401,
+        to: 403,
     },
-    // after_hash = free_word after_word
+    // after_hash = free_word plain_hash after_word
     Alternative {
-        name: 86,
+        name: 110,
         when: 0x40,
-        from: 378,
-        to: 380,
+        from: 403,
+        to: 406,
     },
     // after_hash = free_prefix after_hash_prefix
     Alternative {
-        name: 86,
+        name: 110,
         when: 0x80,
-        from: 380,
-        to: 382,
-    },
-    // after_hash = free_numbered called
-    Alternative {
-        name: 86,
-        when: 0x100,
-        from: 382,
-        to: 384,
-    },
-    // after_hash = quoted called
-    Alternative {
-        name: 86,
-        when: 0x2,
-        from: 384,
-        to: 386,
-    },
-    // after_hash_prefix = number called
-    Alternative {
-        name: 87,
-        when: 0x4,
-        from: 386,
-        to: 388,
-    },
-    // after_hash_prefix = after_word
-    Alternative {
-        name: 87,
-        when: 0x10a400000,
-        from: 388,
-        to: 389,
-    },
-    // assignment = assign value
-    Alternative {
-        name: 88,
-        when: 0x400000,
-        from: 389,
-        to: 391,
-    },
-    // maybe_index = bracket_open expression bracket_close steps
-    Alternative {
-        name: 89,
-        when: 0x8000000,
-        from: 391,
-        to: 395,
-    },
-    // maybe_index =
-    Alternative {
-        name: 89,
-        when: 0xffc40400000,
-        from: 395,
-        to: 395,
-    },
-    // called = call_arguments
-    Alternative {
-        name: 90,
-        when: 0x2000000,
-        from: 395,
-        to: 396,
-    },
-    // called = dot second_name call_arguments
-    Alternative {
-        name: 90,
-        when: 0x100000000,
-        from: 396,
-        to: 399,
-    },
-    // call_arguments = paren_open arguments paren_close
-    Alternative {
-        name: 91,
-        when: 0x2000000,
-        from: 399,
-        to: 402,
-    },
-    // arguments = word after_argument_word
-    Alternative {
-        name: 92,
-        when: 0x1ffe01,
-        from: 402,
-        to: 404,
-    },
-    // arguments = other_factor chain
-    Alternative {
-        name: 92,
-        when: 0x7f00e0200003e,
-        from: 404,
-        to: 406,
-    },
-    // arguments =
-    Alternative {
-        name: 92,
-        when: 0x4000000,
-        from: 406,
-        to: 406,
-    },
-    // after_argument_word = argument_value more_arguments
-    Alternative {
-        name: 93,
-        when: 0xc00000,
         from: 406,
         to: 408,
     },
-    // after_argument_word = second_read chain
+    // after_hash = free_numbered plain_hash called
     Alternative {
-        name: 93,
-        when: 0xffd0c000000,
+        name: 110,
+        when: 0x100,
         from: 408,
-        to: 410,
+        to: 411,
     },
-    // value = word value_after_word
+    // after_hash = quoted quoted_hash called
     Alternative {
-        name: 94,
-        when: 0x1ffe01,
-        from: 410,
-        to: 412,
-    },
-    // value = hash value_after_hash
-    Alternative {
-        name: 94,
-        when: 0x200000000,
-        from: 412,
+        name: 110,
+        when: 0x2,
+        from: 411,
         to: 414,
     },
-    // value = firm_name value_after_word
+    // after_hash_prefix = numbered_hash called
     Alternative {
-        name: 94,
-        when: 0x32,
+        name: 111,
+        when: 0x4,
         from: 414,
         to: 416,
     },
-    // value = firm_factor chain
+    // after_hash_prefix = plain_hash after_word
     Alternative {
-        name: 94,
-        when: 0x7f00c0200000c,
+        name: 111,
+        when: 0x10a400000,
         from: 416,
         to: 418,
     },
-    // value_after_word = call_arguments
+    // assignment = assign value
     Alternative {
-        name: 95,
-        when: 0x2000000,
+        name: 112,
+        when: 0x400000,
         from: 418,
-        to: 419,
+        to: 420,
     },
-    // value_after_word = dot value_after_dot
+    // maybe_index = first_index steps
     Alternative {
-        name: 95,
-        when: 0x100000000,
-        from: 419,
-        to: 421,
+        name: 113,
+        when: 0x8000000,
+        from: 420,
+        to: 422,
     },
-    // value_after_word = first_read chain
+    // maybe_index =
     Alternative {
-        name: 95,
-        when: 0xffc48000000,
-        from: 421,
-        to: 423,
+        name: 113,
+        when: 0xffc40400000,
+        from: 422,
+        to: 422,
     },
-    // value_after_dot = free_word value_after_second
+    // first_index = bracket_open expression bracket_close
     Alternative {
-        name: 96,
-        when: 0x40,
-        from: 423,
+        name: 114,
+        when: 0x8000000,
+        from: 422,
         to: 425,
     },
-    // value_after_dot = free_prefix value_after_prefix
+    // plain_second =
     Alternative {
-        name: 96,
-        when: 0x80,
+        name: 115,
+        when: 0xffd4a400000,
         from: 425,
+        to: 425,
+    },
+    // quoted_second =
+    Alternative {
+        name: 116,
+        when: 0x2000000,
+        from: 425,
+        to: 425,
+    },
+    // numbered_second = number
+    Alternative {
+        name: 117,
+        when: 0x4,
+        from: 425,
+        to: 426,
+    },
+    // called = call_arguments
+    Alternative {
+        name: 118,
+        when: 0x2000000,
+        from: 426,
         to: 427,
     },
-    // value_after_dot = free_numbered call_arguments
+    // called = dot second_name call_arguments
     Alternative {
-        name: 96,
-        when: 0x100,
+        name: 118,
+        when: 0x100000000,
         from: 427,
-        to: 429,
+        to: 430,
     },
-    // value_after_dot = quoted call_arguments
+    // second_name = free_word plain_second
     Alternative {
-        name: 96,
-        when: 0x2,
-        from: 429,
-        to: 431,
+        name: 119,
+        when: 0x40,
+        from: 430,
+        to: 432,
     },
-    // value_after_prefix = number call_arguments
+    // second_name = free_prefix second_number
     Alternative {
-        name: 97,
-        when: 0x4,
-        from: 431,
-        to: 433,
-    },
-    // value_after_prefix = value_after_second
-    Alternative {
-        name: 97,
-        when: 0xffd4a000000,
-        from: 433,
+        name: 119,
+        when: 0x80,
+        from: 432,
         to: 434,
     },
-    // value_after_second = call_arguments
+    // second_name = free_numbered plain_second
     Alternative {
-        name: 98,
-        when: 0x2000000,
+        name: 119,
+        when: 0x100,
         from: 434,
-        to: 435,
+        to: 436,
     },
-    // value_after_second = second_read chain
+    // second_name = quoted quoted_second
     Alternative {
-        name: 98,
-        when: 0xffd48000000,
-        from: 435,
-        to: 437,
+        name: 119,
+        when: 0x2,
+        from: 436,
+        to: 438,
     },
-    // value_after_hash = free_word value_after_word
+    // second_number = numbered_second
     Alternative {
-        name: 99,
-        when: 0x40,
-        from: 437,
+        name: 120,
+        when: 0x4,
+        from: 438,
         to: 439,
     },
-    // value_after_hash = free_prefix value_after_hash_prefix
+    // second_number = plain_second
     Alternative {
-        name: 99,
-        when: 0x80,
+        name: 120,
+        when: 0x2000000,
         from: 439,
-        to: 441,
+        to: 440,
     },
-    // value_after_hash = free_numbered called
+    // call_arguments = paren_open arguments paren_close
     Alternative {
-        name: 99,
-        when: 0x100,
-        from: 441,
+        name: 121,
+        when: 0x2000000,
+        from: 440,
         to: 443,
     },
-    // value_after_hash = quoted called
+    // arguments = word after_argument_word
     Alternative {
-        name: 99,
-        when: 0x2,
+        name: 122,
+        when: 0x1ffe01,
         from: 443,
         to: 445,
     },
-    // value_after_hash_prefix = number called
+    // arguments = other_factor chain
     Alternative {
-        name: 100,
-        when: 0x4,
+        name: 122,
+        when: 0x7f00e0200003e,
         from: 445,
         to: 447,
     },
-    // value_after_hash_prefix = value_after_word
+    // arguments =
     Alternative {
-        name: 100,
-        when: 0xffd4a000000,
+        name: 122,
+        when: 0x4000000,
         from: 447,
-        to: 448,
+        to: 447,
+    },
+    // after_argument_word = first_argument more_arguments
+    Alternative {
+        name: 123,
+        when: 0xc00000,
+        from: 447,
+        to: 449,
+    },
+    // after_argument_word = second_read chain
+    Alternative {
+        name: 123,
+        when: 0xffd0c000000,
+        from: 449,
+        to: 451,
+    },
+    // value = word value_after_word
+    Alternative {
+        name: 124,
+        when: 0x1ffe01,
+        from: 451,
+        to: 453,
+    },
+    // value = hash value_after_hash
+    Alternative {
+        name: 124,
+        when: 0x200000000,
+        from: 453,
+        to: 455,
+    },
+    // value = firm_name value_after_word
+    Alternative {
+        name: 124,
+        when: 0x32,
+        from: 455,
+        to: 457,
+    },
+    // value = firm_factor chain
+    Alternative {
+        name: 124,
+        when: 0x7f00c0200000c,
+        from: 457,
+        to: 459,
+    },
+    // value_after_word = call_arguments
+    Alternative {
+        name: 125,
+        when: 0x2000000,
+        from: 459,
+        to: 460,
+    },
+    // value_after_word = dot value_after_dot
+    Alternative {
+        name: 125,
+        when: 0x100000000,
+        from: 460,
+        to: 462,
+    },
+    // value_after_word = first_read chain
+    Alternative {
+        name: 125,
+        when: 0xffc48000000,
+        from: 462,
+        to: 464,
+    },
+    // value_after_dot = free_word plain_second value_after_second
+    Alternative {
+        name: 126,
+        when: 0x40,
+        from: 464,
+        to: 467,
+    },
+    // value_after_dot = free_prefix value_after_prefix
+    Alternative {
+        name: 126,
+        when: 0x80,
+        from: 467,
+        to: 469,
+    },
+    // value_after_dot = free_numbered plain_second call_arguments
+    Alternative {
+        name: 126,
+        when: 0x100,
+        from: 469,
+        to: 472,
+    },
+    // value_after_dot = quoted quoted_second call_arguments
+    Alternative {
+        name: 126,
+        when: 0x2,
+        from: 472,
+        to: 475,
+    },
+    // value_after_prefix = numbered_second call_arguments
+    Alternative {
+        name: 127,
+        when: 0x4,
+        from: 475,
+        to: 477,
+    },
+    // value_after_prefix = plain_second value_after_second
+    Alternative {
+        name: 127,
+        when: 0xffd4a000000,
+        from: 477,
+        to: 479,
+    },
+    // value_after_second = call_arguments
+    Alternative {
+        name: 128,
+        when: 0x2000000,
+        from: 479,
+        to: 480,
+    },
+    // value_after_second = second_read chain
+    Alternative {
+        name: 128,
+        when: 0xffd48000000,
+        from: 480,
+        to: 482,
+    },
+    // value_after_hash = free_word plain_hash value_after_word
+    Alternative {
+        name: 129,
+        when: 0x40,
+        from: 482,
+        to: 485,
+    },
+    // value_after_hash = free_prefix value_after_hash_prefix
+    Alternative {
+        name: 129,
+        when: 0x80,
+        from: 485,
+        to: 487,
+    },
+    // value_after_hash = free_numbered plain_hash called
+    Alternative {
+        name: 129,
+        when: 0x100,
+        from: 487,
+        to: 490,
+    },
+    // value_after_hash = quoted quoted_hash called
+    Alternative {
+        name: 129,
+        when: 0x2,
+        from: 490,
+        to: 493,
+    },
+    // value_after_hash_prefix = numbered_hash called
+    Alternative {
+        name: 130,
+        when: 0x4,
+        from: 493,
+        to: 495,
+    },
+    // value_after_hash_prefix = plain_hash value_after_word
+    Alternative {
+        name: 130,
+        when: 0xffd4a000000,
+        from: 495,
+        to: 497,
     },
     // first_read = maybe_index
     Alternative {
-        name: 101,
+        name: 131,
         when: 0xffc48000000,
-        from: 448,
-        to: 449,
+        from: 497,
+        to: 498,
     },
     // second_read = steps
     Alternative {
-        name: 102,
+        name: 132,
         when: 0xffd4c000000,
-        from: 449,
-        to: 450,
+        from: 498,
+        to: 499,
     },
     // chain = product_tail sum_tail compare_tail equal_tail and_tail xor_tail or_tail
     Alternative {
-        name: 103,
+        name: 133,
         when: 0xffc44000000,
-        from: 450,
-        to: 457,
+        from: 499,
+        to: 506,
     },
 ];
 
-const SYMBOLS: [Symbol; 457] = [
+const SYMBOLS: [Symbol; 506] = [
     Symbol::Name(1),
     Symbol::Token(17),
     Symbol::Token(18),
@@ -2721,151 +3208,162 @@ const SYMBOLS: [Symbol; 457] = [
     Symbol::Token(28),
     Symbol::Token(3),
     Symbol::Name(35),
-    Symbol::Name(34),
-    Symbol::Token(63),
     Symbol::Name(36),
+    Symbol::Name(37),
+    Symbol::Name(36),
+    Symbol::Token(63),
     Symbol::Name(38),
-    Symbol::Name(60),
+    Symbol::Name(41),
+    Symbol::Name(76),
     Symbol::Token(64),
     Symbol::Token(65),
-    Symbol::Name(36),
-    Symbol::Token(29),
-    Symbol::Name(37),
     Symbol::Name(38),
-    Symbol::Name(60),
+    Symbol::Token(29),
+    Symbol::Name(40),
+    Symbol::Name(41),
+    Symbol::Name(76),
     Symbol::Token(66),
     Symbol::Token(67),
-    Symbol::Name(36),
     Symbol::Name(38),
-    Symbol::Name(60),
+    Symbol::Name(41),
+    Symbol::Name(76),
     Symbol::Token(68),
     Symbol::Token(69),
-    Symbol::Name(36),
-    Symbol::Name(51),
-    Symbol::Name(61),
+    Symbol::Name(38),
+    Symbol::Name(63),
+    Symbol::Name(77),
     Symbol::Token(70),
     Symbol::Token(71),
-    Symbol::Name(36),
-    Symbol::Name(47),
-    Symbol::Name(48),
+    Symbol::Name(38),
+    Symbol::Name(57),
     Symbol::Token(72),
+    Symbol::Name(39),
     Symbol::Name(0),
     Symbol::Name(2),
     Symbol::Token(51),
     Symbol::Token(53),
-    Symbol::Name(39),
-    Symbol::Name(38),
-    Symbol::Token(58),
     Symbol::Name(42),
-    Symbol::Token(59),
-    Symbol::Token(60),
-    Symbol::Name(40),
-    Symbol::Token(61),
     Symbol::Name(41),
-    Symbol::Name(40),
-    Symbol::Name(0),
-    Symbol::Token(22),
-    Symbol::Name(49),
-    Symbol::Token(30),
     Symbol::Name(43),
-    Symbol::Name(42),
-    Symbol::Name(0),
+    Symbol::Name(47),
+    Symbol::Token(59),
     Symbol::Name(44),
-    Symbol::Token(29),
+    Symbol::Name(45),
+    Symbol::Token(61),
+    Symbol::Token(58),
+    Symbol::Token(60),
     Symbol::Name(46),
     Symbol::Name(45),
+    Symbol::Name(0),
+    Symbol::Token(22),
+    Symbol::Name(61),
     Symbol::Token(30),
+    Symbol::Name(48),
+    Symbol::Name(49),
+    Symbol::Name(0),
+    Symbol::Name(50),
+    Symbol::Name(49),
+    Symbol::Name(51),
+    Symbol::Name(47),
     Symbol::Token(31),
     Symbol::Name(0),
-    Symbol::Name(44),
-    Symbol::Token(22),
-    Symbol::Name(49),
+    Symbol::Name(52),
+    Symbol::Name(53),
+    Symbol::Name(59),
+    Symbol::Token(30),
+    Symbol::Token(29),
     Symbol::Token(51),
     Symbol::Token(52),
-    Symbol::Name(36),
-    Symbol::Name(47),
+    Symbol::Name(39),
+    Symbol::Name(55),
+    Symbol::Name(54),
+    Symbol::Name(53),
     Symbol::Token(54),
     Symbol::Token(27),
-    Symbol::Name(50),
+    Symbol::Name(62),
     Symbol::Token(24),
-    Symbol::Name(50),
+    Symbol::Name(62),
     Symbol::Token(28),
     Symbol::Token(55),
-    Symbol::Name(46),
-    Symbol::Token(56),
-    Symbol::Name(42),
+    Symbol::Name(56),
+    Symbol::Name(47),
     Symbol::Token(57),
+    Symbol::Token(56),
+    Symbol::Name(58),
+    Symbol::Name(47),
+    Symbol::Token(57),
+    Symbol::Name(60),
+    Symbol::Token(56),
+    Symbol::Token(22),
+    Symbol::Name(61),
     Symbol::Token(30),
-    Symbol::Name(50),
+    Symbol::Name(62),
     Symbol::Token(45),
     Symbol::Token(35),
     Symbol::Token(2),
     Symbol::Token(2),
-    Symbol::Name(36),
-    Symbol::Name(47),
-    Symbol::Name(48),
-    Symbol::Name(53),
-    Symbol::Name(52),
+    Symbol::Name(39),
+    Symbol::Name(57),
+    Symbol::Token(62),
+    Symbol::Name(66),
+    Symbol::Name(65),
     Symbol::Name(0),
-    Symbol::Name(54),
+    Symbol::Name(67),
     Symbol::Token(22),
-    Symbol::Name(49),
+    Symbol::Name(61),
     Symbol::Token(30),
-    Symbol::Name(55),
-    Symbol::Name(54),
+    Symbol::Name(68),
+    Symbol::Name(67),
     Symbol::Token(32),
     Symbol::Name(3),
     Symbol::Token(27),
-    Symbol::Name(50),
+    Symbol::Name(62),
     Symbol::Token(28),
-    Symbol::Token(6),
-    Symbol::Token(7),
-    Symbol::Name(57),
-    Symbol::Token(8),
-    Symbol::Token(1),
     Symbol::Token(2),
-    Symbol::Token(31),
-    Symbol::Name(0),
-    Symbol::Name(59),
-    Symbol::Name(58),
+    Symbol::Name(73),
     Symbol::Token(22),
     Symbol::Name(4),
     Symbol::Token(23),
     Symbol::Name(4),
-    Symbol::Token(62),
-    Symbol::Name(62),
-    Symbol::Name(62),
-    Symbol::Token(62),
-    Symbol::Name(52),
-    Symbol::Name(63),
-    Symbol::Name(62),
-    Symbol::Name(64),
+    Symbol::Name(75),
+    Symbol::Name(74),
+    Symbol::Token(31),
     Symbol::Name(0),
+    Symbol::Name(73),
+    Symbol::Token(62),
+    Symbol::Name(78),
+    Symbol::Name(78),
+    Symbol::Name(64),
     Symbol::Name(65),
-    Symbol::Token(30),
-    Symbol::Name(66),
-    Symbol::Token(30),
+    Symbol::Name(79),
+    Symbol::Name(80),
+    Symbol::Name(81),
+    Symbol::Name(80),
     Symbol::Name(82),
+    Symbol::Name(0),
+    Symbol::Name(83),
+    Symbol::Token(30),
+    Symbol::Name(84),
+    Symbol::Token(30),
+    Symbol::Name(106),
     Symbol::Token(30),
     Symbol::Token(33),
-    Symbol::Name(86),
+    Symbol::Name(110),
     Symbol::Name(2),
-    Symbol::Name(82),
+    Symbol::Name(106),
     Symbol::Name(33),
     Symbol::Name(31),
-    Symbol::Name(88),
+    Symbol::Name(112),
     Symbol::Token(73),
-    Symbol::Name(4),
-    Symbol::Token(74),
-    Symbol::Name(62),
-    Symbol::Name(67),
-    Symbol::Name(69),
+    Symbol::Name(85),
+    Symbol::Name(86),
+    Symbol::Name(88),
     Symbol::Token(77),
     Symbol::Token(78),
     Symbol::Name(4),
     Symbol::Token(55),
-    Symbol::Name(71),
-    Symbol::Name(80),
+    Symbol::Name(90),
+    Symbol::Name(104),
     Symbol::Token(79),
     Symbol::Token(80),
     Symbol::Name(0),
@@ -2873,149 +3371,187 @@ const SYMBOLS: [Symbol; 457] = [
     Symbol::Name(4),
     Symbol::Token(81),
     Symbol::Name(4),
-    Symbol::Name(70),
+    Symbol::Name(89),
     Symbol::Token(83),
-    Symbol::Name(62),
+    Symbol::Name(78),
     Symbol::Token(84),
     Symbol::Token(85),
     Symbol::Name(4),
     Symbol::Token(83),
-    Symbol::Name(62),
+    Symbol::Name(78),
     Symbol::Token(86),
     Symbol::Token(87),
-    Symbol::Name(62),
+    Symbol::Name(78),
     Symbol::Token(88),
     Symbol::Name(4),
     Symbol::Token(89),
     Symbol::Token(90),
-    Symbol::Name(68),
-    Symbol::Name(67),
+    Symbol::Name(4),
+    Symbol::Token(74),
+    Symbol::Name(78),
+    Symbol::Name(87),
+    Symbol::Name(86),
     Symbol::Token(75),
     Symbol::Name(4),
     Symbol::Token(74),
-    Symbol::Name(62),
-    Symbol::Token(76),
-    Symbol::Name(62),
-    Symbol::Token(82),
-    Symbol::Name(49),
-    Symbol::Name(72),
-    Symbol::Name(77),
-    Symbol::Name(74),
-    Symbol::Name(73),
-    Symbol::Name(75),
-    Symbol::Name(76),
-    Symbol::Token(29),
-    Symbol::Name(49),
-    Symbol::Name(0),
-    Symbol::Token(24),
-    Symbol::Name(74),
-    Symbol::Token(31),
-    Symbol::Name(74),
-    Symbol::Name(75),
-    Symbol::Name(76),
     Symbol::Name(78),
-    Symbol::Name(77),
-    Symbol::Name(64),
-    Symbol::Name(49),
-    Symbol::Name(73),
-    Symbol::Name(0),
-    Symbol::Name(79),
-    Symbol::Name(73),
-    Symbol::Name(65),
     Symbol::Token(76),
-    Symbol::Name(81),
-    Symbol::Name(62),
-    Symbol::Token(29),
+    Symbol::Name(78),
+    Symbol::Token(82),
+    Symbol::Name(61),
     Symbol::Name(91),
-    Symbol::Token(32),
-    Symbol::Name(83),
-    Symbol::Name(89),
-    Symbol::Name(88),
-    Symbol::Token(6),
-    Symbol::Name(85),
-    Symbol::Token(7),
-    Symbol::Name(84),
-    Symbol::Token(8),
-    Symbol::Name(91),
-    Symbol::Token(1),
-    Symbol::Name(91),
-    Symbol::Token(2),
-    Symbol::Name(91),
-    Symbol::Name(85),
-    Symbol::Name(91),
-    Symbol::Name(31),
-    Symbol::Name(88),
-    Symbol::Token(6),
-    Symbol::Name(82),
-    Symbol::Token(7),
-    Symbol::Name(87),
-    Symbol::Token(8),
-    Symbol::Name(90),
-    Symbol::Token(1),
-    Symbol::Name(90),
-    Symbol::Token(2),
-    Symbol::Name(90),
-    Symbol::Name(82),
-    Symbol::Token(22),
+    Symbol::Name(92),
+    Symbol::Name(101),
+    Symbol::Name(98),
+    Symbol::Name(93),
     Symbol::Name(94),
+    Symbol::Name(95),
+    Symbol::Token(29),
+    Symbol::Token(24),
+    Symbol::Name(98),
+    Symbol::Name(96),
+    Symbol::Name(95),
+    Symbol::Token(31),
+    Symbol::Name(98),
+    Symbol::Name(97),
+    Symbol::Token(24),
+    Symbol::Name(98),
+    Symbol::Name(99),
+    Symbol::Name(0),
+    Symbol::Name(100),
+    Symbol::Name(61),
+    Symbol::Name(102),
+    Symbol::Name(101),
+    Symbol::Name(82),
+    Symbol::Name(99),
+    Symbol::Name(93),
+    Symbol::Name(0),
+    Symbol::Name(103),
+    Symbol::Name(100),
+    Symbol::Name(93),
+    Symbol::Name(83),
+    Symbol::Token(76),
+    Symbol::Name(105),
+    Symbol::Name(78),
+    Symbol::Token(29),
+    Symbol::Name(121),
+    Symbol::Token(32),
+    Symbol::Name(107),
+    Symbol::Name(113),
+    Symbol::Name(112),
+    Symbol::Token(6),
+    Symbol::Name(115),
+    Symbol::Name(109),
+    Symbol::Token(7),
+    Symbol::Name(108),
+    Symbol::Token(8),
+    Symbol::Name(115),
+    Symbol::Name(121),
+    Symbol::Token(1),
+    Symbol::Name(116),
+    Symbol::Name(121),
+    Symbol::Name(117),
+    Symbol::Name(121),
+    Symbol::Name(115),
+    Symbol::Name(109),
+    Symbol::Name(121),
+    Symbol::Name(31),
+    Symbol::Name(112),
+    Symbol::Token(6),
+    Symbol::Name(69),
+    Symbol::Name(106),
+    Symbol::Token(7),
+    Symbol::Name(111),
+    Symbol::Token(8),
+    Symbol::Name(69),
+    Symbol::Name(118),
+    Symbol::Token(1),
+    Symbol::Name(70),
+    Symbol::Name(118),
+    Symbol::Name(71),
+    Symbol::Name(118),
+    Symbol::Name(69),
+    Symbol::Name(106),
+    Symbol::Token(22),
+    Symbol::Name(124),
+    Symbol::Name(114),
+    Symbol::Name(31),
     Symbol::Token(27),
     Symbol::Name(4),
     Symbol::Token(28),
-    Symbol::Name(31),
-    Symbol::Name(91),
+    Symbol::Token(2),
+    Symbol::Name(121),
     Symbol::Token(32),
-    Symbol::Name(56),
-    Symbol::Name(91),
+    Symbol::Name(119),
+    Symbol::Name(121),
+    Symbol::Token(6),
+    Symbol::Name(115),
+    Symbol::Token(7),
+    Symbol::Name(120),
+    Symbol::Token(8),
+    Symbol::Name(115),
+    Symbol::Token(1),
+    Symbol::Name(116),
+    Symbol::Name(117),
+    Symbol::Name(115),
     Symbol::Token(25),
-    Symbol::Name(92),
+    Symbol::Name(122),
     Symbol::Token(26),
     Symbol::Name(0),
-    Symbol::Name(93),
+    Symbol::Name(123),
     Symbol::Name(27),
-    Symbol::Name(103),
-    Symbol::Name(59),
-    Symbol::Name(58),
-    Symbol::Name(102),
-    Symbol::Name(103),
+    Symbol::Name(133),
+    Symbol::Name(72),
+    Symbol::Name(74),
+    Symbol::Name(132),
+    Symbol::Name(133),
     Symbol::Name(0),
-    Symbol::Name(95),
+    Symbol::Name(125),
     Symbol::Token(33),
-    Symbol::Name(99),
+    Symbol::Name(129),
     Symbol::Name(2),
-    Symbol::Name(95),
+    Symbol::Name(125),
     Symbol::Name(29),
-    Symbol::Name(103),
-    Symbol::Name(91),
+    Symbol::Name(133),
+    Symbol::Name(121),
     Symbol::Token(32),
-    Symbol::Name(96),
-    Symbol::Name(101),
-    Symbol::Name(103),
+    Symbol::Name(126),
+    Symbol::Name(131),
+    Symbol::Name(133),
     Symbol::Token(6),
-    Symbol::Name(98),
+    Symbol::Name(115),
+    Symbol::Name(128),
     Symbol::Token(7),
-    Symbol::Name(97),
+    Symbol::Name(127),
     Symbol::Token(8),
-    Symbol::Name(91),
+    Symbol::Name(115),
+    Symbol::Name(121),
     Symbol::Token(1),
-    Symbol::Name(91),
-    Symbol::Token(2),
-    Symbol::Name(91),
-    Symbol::Name(98),
-    Symbol::Name(91),
-    Symbol::Name(102),
-    Symbol::Name(103),
+    Symbol::Name(116),
+    Symbol::Name(121),
+    Symbol::Name(117),
+    Symbol::Name(121),
+    Symbol::Name(115),
+    Symbol::Name(128),
+    Symbol::Name(121),
+    Symbol::Name(132),
+    Symbol::Name(133),
     Symbol::Token(6),
-    Symbol::Name(95),
+    Symbol::Name(69),
+    Symbol::Name(125),
     Symbol::Token(7),
-    Symbol::Name(100),
+    Symbol::Name(130),
     Symbol::Token(8),
-    Symbol::Name(90),
+    Symbol::Name(69),
+    Symbol::Name(118),
     Symbol::Token(1),
-    Symbol::Name(90),
-    Symbol::Token(2),
-    Symbol::Name(90),
-    Symbol::Name(95),
-    Symbol::Name(89),
+    Symbol::Name(70),
+    Symbol::Name(118),
+    Symbol::Name(71),
+    Symbol::Name(118),
+    Symbol::Name(69),
+    Symbol::Name(125),
+    Symbol::Name(113),
     Symbol::Name(31),
     Symbol::Name(23),
     Symbol::Name(20),
@@ -3060,13 +3596,13 @@ pub fn scl_expression() -> Language
 pub fn scl_name() -> Language
     ensures ll1 { IsTrue (is_ll1 result) }
     ensures grammar { grammar_of result ≡ scl_grammar }
-    ensures start { result.start ≡ 36 }
+    ensures start { result.start ≡ 39 }
 {
     Language {
         rules: &RULES,
         alternatives: &ALTERNATIVES,
         symbols: &SYMBOLS,
-        start: 36,
+        start: 39,
         kinds: 95,
     }
 }

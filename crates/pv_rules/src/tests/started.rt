@@ -7,11 +7,10 @@
 //! A row of `VALUES` has the part of a data block that is given the value 5: a name at 10, a field behind it at 20, an index at 30. The block has the variables `x`
 //! of INT, `b` of BOOL, `a` and `s`. Behind the `>` stand the least places of a missing name, of a wrong index, of a misfit, of a value
 //! outside its type, and of an index beyond the bounds; the value stands at 40.
-use crate::blocks::entries;
 use crate::on_starts::{misfit_start, outside_start, wrong_value};
 use crate::starts::StartLook;
-use crate::tables::Tables;
 use pv_machine::Place;
+use pv_names::{Tables, entries};
 use pv_tree::{Block, BlockKind, Body, Expr, Operand, Root, Step};
 use pv_types::{DeclType, Interface, Literal, Name, Section, Var};
 use pv_word::Ty;

@@ -1,7 +1,7 @@
 use Rattle.std.proofs.Common.{refl, get_or}
 use Rattle.pv_rules.specs.Graphs.{lists_of}
 use Rattle.pv_rules.specs.Links.{IsBackLink}
-use Rattle.pv_rules.proofs.Nearing.{near_next}
+use Rattle.pv_expr_rules.proofs.ForCallers.{near_next}
 use Rattle.pv_rules.proofs.calls.back_links.Goals as goal
 
 pub loop-link-preserved : goal.loop-link-preserved

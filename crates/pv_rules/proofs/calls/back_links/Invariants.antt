@@ -1,6 +1,7 @@
 use Rattle.std.proofs.Common.{map, take}
-use Rattle.pv_rules.specs.Graphs.{HasSome, lists_of}
-use Rattle.pv_rules.specs.Nearest.{Nears}
+use Rattle.pv_expr_rules.specs.Members.{HasSome}
+use Rattle.pv_rules.specs.Graphs.{lists_of}
+use Rattle.pv_expr_rules.specs.Nearest.{Nears}
 use Rattle.pv_rules.specs.Links.{IsBackLink}
 use Rattle.pv_rules.proofs.calls.back_links.Given as goal
 

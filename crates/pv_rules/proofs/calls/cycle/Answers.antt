@@ -2,7 +2,7 @@ use Rattle.std.proofs.Common.{◌≡◌, arith, length}
 use Rattle.std.specs.Prelude.{None}
 use Rattle.pv_rules.specs.Graphs.{lists_of}
 use Rattle.pv_rules.specs.Links.{links_graph}
-use Rattle.pv_rules.proofs.Nearing.{near_none}
+use Rattle.pv_expr_rules.proofs.ForCallers.{near_none}
 use Rattle.pv_rules.proofs.Linking.{more_links, no_links, all_links}
 use Rattle.pv_rules.proofs.calls.cycle.Goals as goal
 

@@ -1,5 +1,5 @@
 use Rattle.std.specs.Prelude.{None}
-use Rattle.pv_rules.specs.Nearest.{Nears}
+use Rattle.pv_expr_rules.specs.Nearest.{Nears}
 use Rattle.pv_rules.specs.Links.{links_graph, HasBackLink}
 use Rattle.pv_rules.proofs.calls.cycle.Given as goal
 

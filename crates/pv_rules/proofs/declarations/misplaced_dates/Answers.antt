@@ -1,6 +1,6 @@
 use Rattle.pv_types.specs.View.{var_tree}
 use Rattle.pv_rules.specs.OnDeclarations.{IsMisplacedDate}
-use Rattle.pv_rules.proofs.Nearing.{near_more}
+use Rattle.pv_expr_rules.proofs.ForCallers.{near_more}
 use Rattle.pv_rules.proofs.declarations.misplaced_dates.Goals as goal
 
 pub loop-var-preserved : goal.loop-var-preserved

@@ -1,7 +1,9 @@
 use Rattle.std.proofs.Common.{[], map, take, subst, sym}
-use Rattle.pv_rules.specs.Nearest.{Nears}
-use Rattle.pv_rules.specs.Doubles.{IsLaterBehind, AreMet, name_of_var}
-use Rattle.pv_rules.proofs.Doubling.{near_later, taken_one}
+use Rattle.pv_expr_rules.specs.Nearest.{Nears}
+use Rattle.pv_expr_rules.specs.Members.{IsLaterBehind}
+use Rattle.pv_rules.specs.Doubles.{AreMet, name_of_var}
+use Rattle.pv_expr_rules.proofs.ForCallers.{taken_one}
+use Rattle.pv_rules.proofs.Doubling.{near_later}
 use Rattle.pv_rules.proofs.doubled.doubled_vars.Goals as goal
 
 pub loop-var-preserved : goal.loop-var-preserved

@@ -1,6 +1,7 @@
 use Rattle.std.proofs.Common.{[], map, take}
-use Rattle.pv_rules.specs.Nearest.{Nears}
-use Rattle.pv_rules.specs.Doubles.{IsLaterBehind, AreMet, name_of_var}
+use Rattle.pv_expr_rules.specs.Nearest.{Nears}
+use Rattle.pv_expr_rules.specs.Members.{IsLaterBehind}
+use Rattle.pv_rules.specs.Doubles.{AreMet, name_of_var}
 use Rattle.pv_rules.proofs.doubled.doubled_vars.Given as goal
 
 abbrev pub invariant-loop-var : goal.invariant-loop-var

@@ -1,6 +1,7 @@
 use Rattle.std.proofs.Common.{ℕ, ◌<◌, ◌≤◌}
 use Rattle.std.specs.Prelude.{slice_index_or}
-use Rattle.pv_rules.specs.Graphs.{lists_of, next_of, Has}
+use Rattle.pv_expr_rules.specs.Members.{Has}
+use Rattle.pv_rules.specs.Graphs.{lists_of, next_of}
 use Rattle.pv_rules.proofs.graph.no_step_raises.Given as goal
 
 abbrev pub invariant-loop-node : goal.invariant-loop-node

@@ -1,7 +1,7 @@
 use Rattle.std.proofs.Common.{map, length, arith, refl, ◌≤◌}
 use Rattle.pv_tree.specs.View.{block_tree}
 use Rattle.pv_rules.specs.BlockLists.{DoublesNameIn}
-use Rattle.pv_rules.proofs.Nearing.{near_more, near_all}
+use Rattle.pv_expr_rules.proofs.ForCallers.{near_more, near_all}
 use Rattle.pv_rules.proofs.Projecting.{doubled_name_is}
 use Rattle.pv_rules.proofs.on_declarations.doubled_name.Goals as goal
 

@@ -1,7 +1,7 @@
 use Rattle.std.proofs.Common.{map, take}
 use Rattle.pv_tree.specs.View.{block_tree}
-use Rattle.pv_rules.specs.Graphs.{HasSome}
-use Rattle.pv_rules.specs.Nearest.{Nears}
+use Rattle.pv_expr_rules.specs.Members.{HasSome}
+use Rattle.pv_expr_rules.specs.Nearest.{Nears}
 use Rattle.pv_rules.specs.BlockLists.{DoublesNameIn}
 use Rattle.pv_rules.proofs.on_declarations.doubled_name.Given as goal
 

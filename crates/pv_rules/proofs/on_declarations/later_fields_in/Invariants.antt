@@ -1,8 +1,8 @@
 use Rattle.std.proofs.Common.{map, take}
 use Rattle.pv_types.specs.View.{type_tree}
 use Rattle.pv_tree.specs.Rules.DoubledNames.{DoublesField}
-use Rattle.pv_rules.specs.Graphs.{HasSome}
-use Rattle.pv_rules.specs.Nearest.{Nears}
+use Rattle.pv_expr_rules.specs.Members.{HasSome}
+use Rattle.pv_expr_rules.specs.Nearest.{Nears}
 use Rattle.pv_rules.proofs.on_declarations.later_fields_in.Given as goal
 
 abbrev pub invariant-loop-ty : goal.invariant-loop-ty

@@ -1,8 +1,8 @@
 use Rattle.std.proofs.Common.{map, take}
 use Rattle.std.specs.Prelude.{None}
 use Rattle.pv_tree.specs.View.{block_tree}
-use Rattle.pv_rules.specs.Graphs.{HasSome}
-use Rattle.pv_rules.specs.Nearest.{Nears}
+use Rattle.pv_expr_rules.specs.Members.{HasSome}
+use Rattle.pv_expr_rules.specs.Nearest.{Nears}
 use Rattle.pv_rules.specs.BlockLists.{MisplacesDateIn}
 use Rattle.pv_rules.proofs.on_declarations.misplaced_date.Given as goal
 

@@ -2,7 +2,7 @@ use Rattle.std.proofs.Common.{map, length, arith, ◌≤◌}
 use Rattle.std.specs.Prelude.{None}
 use Rattle.pv_tree.specs.View.{block_tree}
 use Rattle.pv_rules.specs.BlockLists.{HasWrongArrayIn}
-use Rattle.pv_rules.proofs.Nearing.{near_more, near_all}
+use Rattle.pv_expr_rules.proofs.ForCallers.{near_more, near_all}
 use Rattle.pv_rules.proofs.Projecting.{wrong_array_is}
 use Rattle.pv_rules.proofs.on_declarations.wrong_array.Goals as goal
 

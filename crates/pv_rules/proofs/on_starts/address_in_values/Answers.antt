@@ -1,8 +1,8 @@
 use Rattle.pv_tree.specs.Rules.{wrong_address}
-use Rattle.pv_rules.specs.Tables.{project_of}
-use Rattle.pv_rules.specs.declared.look.Look.TheVariants.{Address}
-use Rattle.pv_rules.proofs.Looking.{if_ok}
-use Rattle.pv_rules.proofs.NearReads.{wrong_address_parts}
+use Rattle.pv_names.specs.Tables.{project_of}
+use Rattle.pv_expr_rules.specs.declared.search.Look.TheVariants.{Address}
+use Rattle.pv_expr_rules.proofs.ForCallers.{if_ok}
+use Rattle.pv_expr_rules.proofs.ForCallers.{wrong_address_parts}
 use Rattle.pv_rules.proofs.NearPieces.{index_piece}
 use Rattle.pv_rules.proofs.on_starts.address_in_values.Goals as goal
 

@@ -1,4 +1,4 @@
-use Rattle.pv_rules.specs.Tables.{project_of}
+use Rattle.pv_names.specs.Tables.{project_of}
 use Rattle.pv_rules.proofs.NearPieces.{misfit_pieces}
 use Rattle.pv_rules.proofs.on_starts.misfit_in_values.Goals as goal
 

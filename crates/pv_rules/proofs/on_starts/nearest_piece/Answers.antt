@@ -1,9 +1,9 @@
 use Rattle.std.proofs.Common.{refl, ap, ◌∙◌}
-use Rattle.pv_rules.specs.Entries.{block_of}
-use Rattle.pv_rules.specs.Nearest.{nearer_of}
+use Rattle.pv_names.specs.Entries.{block_of}
+use Rattle.pv_expr_rules.specs.Nearest.{nearer_of}
 use Rattle.pv_rules.specs.StartPieces.{piece_in, within}
-use Rattle.pv_rules.specs.Tables.{project_of}
-use Rattle.pv_rules.proofs.NearestLists.{next_in}
+use Rattle.pv_names.specs.Tables.{project_of}
+use Rattle.pv_expr_rules.proofs.ForCallers.{next_in}
 use Rattle.pv_rules.proofs.on_starts.nearest_piece.Goals as goal
 
 pub loop-entry-preserved : goal.loop-entry-preserved

@@ -1,8 +1,8 @@
 use Rattle.std.proofs.Common.{◌≡◌, map, drop}
-use Rattle.pv_rules.specs.Entries.{block_of}
-use Rattle.pv_rules.specs.NearestIn.{nearest_in}
+use Rattle.pv_names.specs.Entries.{block_of}
+use Rattle.pv_expr_rules.specs.NearestIn.{nearest_in}
 use Rattle.pv_rules.specs.StartPieces.{piece_in, piece_place, within}
-use Rattle.pv_rules.specs.Tables.{project_of}
+use Rattle.pv_names.specs.Tables.{project_of}
 use Rattle.pv_rules.proofs.on_starts.nearest_piece.Given as goal
 
 abbrev pub invariant-loop-entry : goal.invariant-loop-entry

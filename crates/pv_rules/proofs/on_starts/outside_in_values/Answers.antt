@@ -1,8 +1,8 @@
 use Rattle.pv_tree.specs.Rules.{out_of_range}
-use Rattle.pv_rules.specs.Tables.{project_of}
-use Rattle.pv_rules.specs.declared.look.Look.TheVariants.{Outside}
-use Rattle.pv_rules.proofs.Looking.{if_ok}
-use Rattle.pv_rules.proofs.NearParts.{outside_any}
+use Rattle.pv_names.specs.Tables.{project_of}
+use Rattle.pv_expr_rules.specs.declared.search.Look.TheVariants.{Outside}
+use Rattle.pv_expr_rules.proofs.ForCallers.{if_ok}
+use Rattle.pv_expr_rules.proofs.ForCallers.{outside_any}
 use Rattle.pv_rules.proofs.NearPieces.{index_piece}
 use Rattle.pv_rules.proofs.on_starts.outside_in_values.Goals as goal
 

@@ -1,5 +1,5 @@
-use Rattle.pv_rules.specs.Tables.{project_of}
-use Rattle.pv_rules.proofs.Looking.{if_ok}
+use Rattle.pv_names.specs.Tables.{project_of}
+use Rattle.pv_expr_rules.proofs.ForCallers.{if_ok}
 use Rattle.pv_rules.proofs.NearPieces.{outside_piece}
 use Rattle.pv_rules.proofs.on_starts.outside_start.Goals as goal
 

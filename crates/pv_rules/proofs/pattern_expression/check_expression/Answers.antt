@@ -1,7 +1,7 @@
 use Rattle.std.proofs.Common.{ap, sym, ◌∙◌, map}
 use Rattle.pv_tree.specs.View.{block_tree, expr_tree}
 use Rattle.pv_tree.specs.Projects.{symbol_tree}
-use Rattle.pv_rules.specs.Entries.{block_of}
+use Rattle.pv_names.specs.Entries.{block_of}
 use Rattle.pv_rules.proofs.Entering.{is_number, is_inside, is_answered}
 use Rattle.pv_rules.proofs.pattern_expression.check_expression.Goals as goal
 

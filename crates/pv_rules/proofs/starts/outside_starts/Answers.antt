@@ -1,9 +1,9 @@
 use Rattle.std.proofs.Common.{refl, ap, ◌∙◌}
 use Rattle.pv_types.specs.View.{var_tree}
 use Rattle.pv_tree.specs.Rules.OutOfRange.{start_is_outside}
-use Rattle.pv_rules.specs.Nearest.{nearer_of}
+use Rattle.pv_expr_rules.specs.Nearest.{nearer_of}
 use Rattle.pv_rules.specs.Starts.{start_at}
-use Rattle.pv_rules.proofs.NearestLists.{next_in}
+use Rattle.pv_expr_rules.proofs.ForCallers.{next_in}
 use Rattle.pv_rules.proofs.starts.outside_starts.Goals as goal
 
 pub loop-var-preserved : goal.loop-var-preserved

@@ -2,7 +2,7 @@ use Rattle.std.proofs.Common.{map, length, arith, ◌≤◌}
 use Rattle.std.specs.Prelude.{None}
 use Rattle.pv_tree.specs.View.{block_tree}
 use Rattle.pv_rules.specs.TypeNumbers.{HasWrongType}
-use Rattle.pv_rules.proofs.Nearing.{near_more, near_all}
+use Rattle.pv_expr_rules.proofs.ForCallers.{near_more, near_all}
 use Rattle.pv_rules.proofs.TypeCycles.{missing_type_is}
 use Rattle.pv_rules.proofs.types.missing_type.Goals as goal
 

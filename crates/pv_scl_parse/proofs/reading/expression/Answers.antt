@@ -3,7 +3,13 @@ use Rattle.pv_tree.specs.View.{expr_tree}
 use Rattle.pv_tree.specs.Lexemes.{lexemes_of}
 use Rattle.pv_parse.specs.ExprAnswers.{AnswersExpression}
 use Rattle.pv_scl_parse.proofs.Endings.{ends, kinds_before, order_before, only_expression, fault_at, too_deep}
+use Rattle.pv_scl_parse.proofs.Starts.{reads_expressions}
 use Rattle.pv_scl_parse.proofs.reading.expression.Goals as goal
+
+pub read_expression-requires-clause-grammar : goal.read_expression-requires-clause-grammar
+read_expression-requires-clause-grammar c =
+    reads_expressions c.scl_expression-language.result c.scl_actions.result.now c.scl_expression-language.ensures.grammar c.scl_expression-language.ensures.start
+    c.scl_actions.ensures
 
 pub read_expression-requires-clause-tokens : goal.read_expression-requires-clause-tokens
 read_expression-requires-clause-tokens c =

@@ -1,6 +1,6 @@
 use Rattle.pv_types.specs.View.{type_tree}
 use Rattle.pv_rules.specs.TypeNumbers.{NamesWrongType}
-use Rattle.pv_rules.proofs.Nearing.{near_more}
+use Rattle.pv_expr_rules.proofs.ForCallers.{near_more}
 use Rattle.pv_rules.proofs.types.TypeGraph.wrong_types.Goals as goal
 
 pub loop-ty-preserved : goal.loop-ty-preserved

@@ -1,8 +1,8 @@
 use Rattle.std.proofs.Common.{List, map, take}
 use Rattle.pv_types.specs.View.{type_tree}
 use Rattle.pv_tree.specs.Tree.{BlockTree}
-use Rattle.pv_rules.specs.Graphs.{HasSome}
-use Rattle.pv_rules.specs.Nearest.{Nears}
+use Rattle.pv_expr_rules.specs.Members.{HasSome}
+use Rattle.pv_expr_rules.specs.Nearest.{Nears}
 use Rattle.pv_rules.specs.TypeNumbers.{NamesWrongType}
 use Rattle.pv_rules.specs.TypeNames.{IsGraphOf}
 use Rattle.pv_rules.proofs.types.TypeGraph.wrong_types.Given as goal

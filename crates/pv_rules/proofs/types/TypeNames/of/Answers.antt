@@ -1,8 +1,8 @@
 use Rattle.std.proofs.Common.{ap, sym, ◌∙◌, refl, bytes_eq, arith, length, ◌≤◌, ◌++◌, ◌∷◌, [], map, take}
 use Rattle.pv_tree.specs.Scopes.{is_type}
-use Rattle.pv_rules.specs.Firsts.{or_number}
-use Rattle.pv_rules.proofs.FirstNumbers.{grown}
-use Rattle.pv_rules.proofs.Doubling.{taken_one}
+use Rattle.pv_names.specs.Firsts.{or_number}
+use Rattle.pv_names.proofs.ForCallers.{grown}
+use Rattle.pv_expr_rules.proofs.ForCallers.{taken_one}
 use Rattle.pv_rules.proofs.TypeCycles.{numbered_all}
 use Rattle.pv_rules.proofs.types.TypeNames.of.Goals as goal
 

@@ -1,6 +1,6 @@
 use Rattle.std.proofs.Common.{◌≡◌, map, take}
 use Rattle.pv_tree.specs.Scopes.{is_type}
-use Rattle.pv_rules.specs.Firsts.{FindsFirsts}
+use Rattle.pv_names.specs.Firsts.{FindsFirsts}
 use Rattle.pv_rules.proofs.types.TypeNames.of.Given as goal
 
 abbrev pub invariant-loop-i : goal.invariant-loop-i

@@ -1,15 +1,13 @@
 use Rattle.std.proofs.Common.{None, rules, ap, ◌∙◌}
 use Rattle.std.proofs.Math.ListN.{replicate}
 use Rattle.pv_run.specs.Runs.{frame_in}
-use Rattle.pv_run.proofs.Lists.{found_at}
 use Rattle.pv_run.proofs.Blocks.{entry_done, entry_stops}
 use Rattle.pv_run.proofs.program.Program.run.Goals as goal
 
 pub returns-in-Ok : goal.returns-in-Ok
 returns-in-Ok c =
-    λ source program at. entry_done source c.args.self.now c.args.block program at c.in-Some.code.now
-    (found_at c.deref.result.now c.args.self.now.blocks.items c.args.block c.in-Some.code.now c.deref.ensures.value (search rules)
-    (search rules))
+    λ source program. entry_done source c.args.self.now program c.in-Some.code
+    (search rules)
     c.args.visible.now c.clear.new.cells
     (λ h. c.clear.ensures ∙ ap (λ n. replicate n None) (c.split_at_mut-own.ensures.front_len ∙ c.width.ensures.same h))
     c.in-Ok.field-0 (frame_in c.run_list.new.visible c.run_list.new.own)
@@ -17,9 +15,8 @@ returns-in-Ok c =
 
 pub returns-in-Err : goal.returns-in-Err
 returns-in-Err c =
-    λ source program at. entry_stops source c.args.self.now c.args.block program at c.in-Some.code.now
-    (found_at c.deref.result.now c.args.self.now.blocks.items c.args.block c.in-Some.code.now c.deref.ensures.value (search rules)
-    (search rules))
+    λ source program. entry_stops source c.args.self.now program c.in-Some.code
+    (search rules)
     c.args.visible.now c.clear.new.cells
     (λ h. c.clear.ensures ∙ ap (λ n. replicate n None) (c.split_at_mut-own.ensures.front_len ∙ c.width.ensures.same h))
     c.in-Err.stop (λ trees are. c.in-Err.ensures source source.entry trees program are)

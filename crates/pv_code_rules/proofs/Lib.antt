@@ -1,0 +1,9 @@
+pub mod AnyLaws
+pub mod CallLaws
+pub mod CaseLaws
+pub mod GivenLaws
+pub mod LoopLaws
+pub mod Meeting
+pub mod PartLaws
+pub mod SiteLaws
+pub mod StmtSeen

@@ -1,0 +1,11 @@
+pub mod AtAssignments
+pub mod AtCalls
+pub mod AtCases
+pub mod AtGiven
+pub mod AtLoops
+pub mod AtStatements
+pub mod AtTargets
+pub mod Counted
+pub mod InCode
+pub mod Sites
+pub mod Spots

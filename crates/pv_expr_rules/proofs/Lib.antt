@@ -1,0 +1,10 @@
+pub mod IndexWalks
+pub mod Looking
+pub mod MemberLaws
+pub mod Misapplying
+pub mod NearIndexes
+pub mod NearParts
+pub mod NearReads
+pub mod NearestLists
+pub mod Nearing
+pub mod ForCallers

@@ -1,0 +1,11 @@
+pub mod Fields
+pub mod FirstNumbers
+pub mod Functions
+pub mod LiteralSorts
+pub mod LookUps
+pub mod Parameters
+pub mod Seen
+pub mod Steps
+pub mod StmtForms
+pub mod Widening
+pub mod ForCallers

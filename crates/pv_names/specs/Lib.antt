@@ -1,0 +1,11 @@
+pub mod Callees
+pub mod Entries
+pub mod Firsts
+pub mod InScope
+pub mod Literals
+pub mod Params
+pub mod Sorts
+pub mod Tables
+pub mod Views
+pub mod Widest
+pub mod Written

@@ -1,0 +1,173 @@
+//! Which parameter of a block an argument is for.
+ghost use Rattle.std.specs.Prelude.{◌≡◌, None, find, map, option_map};
+ghost use Rattle.pv_types.specs.View.{var_tree};
+ghost use Rattle.pv_tree.specs.View.{arg_tree};
+ghost use Rattle.pv_tree.specs.Scopes as scopes;
+ghost use Rattle.pv_tree.specs.Callees as callees;
+ghost use Rattle.pv_names.specs.Entries.{block_of};
+ghost use Rattle.pv_names.specs.Views.{held_tree};
+ghost use Rattle.pv_names.specs.Callees.{how_tree, param_tree};
+ghost use Rattle.pv_names.specs.Params.{param_of, is_sought, first_in, sole_input};
+
+use crate::callee::{How, is_by_stl};
+use crate::entry::Entry;
+use crate::thing::{Held, level_of};
+use pv_tree::{Arg, BlockKind};
+use pv_types::{Name, Section, Var};
+use pv_word::Ty;
+
+/// A parameter: a variable of an interface, or a function's value, which is the output RET_VAL where STL calls it.
+#[derive(Clone, Copy)]
+pub enum Param<'p> {
+    Var(&'p Var),
+    Value(Ty),
+}
+
+/// Whether a section is one of inputs.
+pub(crate) fn is_input(section: Section) -> bool
+    ensures { result ≡ callees.is_input section }
+{
+    matches!(section, Section::Input)
+}
+
+/// Whether a section is one of parameters.
+pub(crate) fn is_param(section: Section) -> bool
+    ensures { result ≡ callees.is_param section }
+{
+    match section {
+        Section::Input | Section::Output | Section::InOut => true,
+        Section::Static | Section::Temp | Section::Const => false,
+    }
+}
+
+/// Whether a block is a function.
+pub fn is_fc(kind: &BlockKind) -> bool
+    ensures { result ≡ scopes.is_fc kind.now }
+{
+    matches!(kind, BlockKind::Fc)
+}
+
+/// The first parameter of this name among variables.
+fn first_among<'p>(vars: &'p [Var], name: &Name) -> Option<&'p Var>
+    ensures { option_map (λ v. var_tree v.now) result ≡ first_in name.now.key vars.now }
+{
+    for var in vars {
+        if is_param(var.section) && name.key == var.name.key {
+            return Some(var);
+        }
+    }
+    None
+}
+
+/// The only input among variables.
+fn sole_input<'p>(vars: &'p [Var]) -> Option<&'p Var>
+    ensures { option_map (λ v. var_tree v.now) result ≡ sole_input None (map var_tree vars.now) }
+{
+    let mut found: Option<&'p Var> = None;
+    for var in vars {
+        if is_input(var.section) {
+            match found {
+                Some(_) => return None,
+                None => found = Some(var),
+            }
+        }
+    }
+    found
+}
+
+/// The only input of a function.
+pub fn only_var<'p>(entry: &'p Entry<'p>) -> Option<&'p Var>
+    ensures { option_map (λ v. param_of (var_tree v.now)) result
+        ≡ callees.only_input (block_of entry.now) }
+{
+    if is_fc(&entry.block.kind) {
+        sole_input(entry.block.interface.vars.as_slice())
+    } else {
+        None
+    }
+}
+
+/// The only input of a function, as a parameter.
+fn only_input<'p>(entry: &'p Entry<'p>) -> Option<Param<'p>>
+    ensures { option_map param_tree result ≡ callees.only_input (block_of entry.now) }
+{
+    match only_var(entry) {
+        Some(var) => Some(Param::Var(var)),
+        None => None,
+    }
+}
+
+/// The parameter of this name that a block declares.
+fn declared_param<'p>(entry: &'p Entry<'p>, name: &Name) -> Option<&'p Var>
+    ensures { option_map (λ v. var_tree v.now) result
+        ≡ find (is_sought name.now.key) (block_of entry.now).vars }
+{
+    match entry.find(name) {
+        Some(var) => {
+            if is_param(var.section) {
+                return Some(var);
+            }
+            first_among(entry.block.interface.vars.as_slice(), name)
+        }
+        None => None,
+    }
+}
+
+/// The value of a function, where STL calls it and this is the value's name.
+fn value_param<'p>(how: How, entry: &'p Entry<'p>, name: &Name) -> Option<Param<'p>>
+    ensures { option_map param_tree result ≡ callees.first_param
+        (callees.value_param (how_tree how) (block_of entry.now)) name.now.key }
+{
+    if !is_by_stl(how) || name.key.bytes() != b"ret_val".as_slice() {
+        return None;
+    }
+    if entry.find(name).is_some() {
+        return None;
+    }
+    match entry.block.interface.value {
+        Some(ty) => Some(Param::Value(ty)),
+        None => None,
+    }
+}
+
+/// The parameter of this name.
+pub fn named_param<'p>(how: How, entry: &'p Entry<'p>, name: &Name) -> Option<Param<'p>>
+    ensures { option_map param_tree result ≡ callees.first_param
+        (callees.params_of (how_tree how) (block_of entry.now)) name.now.key }
+{
+    match declared_param(entry, name) {
+        Some(var) => Some(Param::Var(var)),
+        None => value_param(how, entry, name),
+    }
+}
+
+/// The parameter that an argument is for.
+pub fn param_for<'p>(how: How, entry: &'p Entry<'p>, arg: &Arg) -> Option<Param<'p>>
+    ensures { option_map param_tree result
+        ≡ callees.param_for (how_tree how) (block_of entry.now) (arg_tree arg.now) }
+{
+    match &arg.name {
+        None => only_input(entry),
+        Some((name, _)) => named_param(how, entry, name),
+    }
+}
+
+/// The section of a parameter.
+pub fn section_of_param(param: Param) -> Section
+    ensures { result ≡ (param_tree param.entry).section }
+{
+    match param {
+        Param::Var(var) => var.section,
+        Param::Value(_) => Section::Output,
+    }
+}
+
+/// The type of a parameter.
+pub fn type_of_param<'p>(param: Param<'p>) -> Held<'p>
+    ensures { held_tree result ≡ (param_tree param.entry).ty }
+{
+    match param {
+        Param::Var(var) => level_of(&var.ty),
+        Param::Value(ty) => Held::Plain(ty),
+    }
+}

@@ -1,0 +1,60 @@
+-- What the names of statements and calls take off the stack and put there, as shapes.
+use Rattle.std.proofs.Common.{List, [], ◌∷◌, ◌++◌, ℕ, refl}
+use Rattle.pv_ll.specs.Shapes.{IsTopped}
+use Rattle.pv_parse.specs.Items.{Stack}
+use Rattle.pv_parse.proofs.Sure.{Sure}
+use Rattle.pv_parse.proofs.Stacks.{shape_of, numbers}
+use Rattle.pv_parse.proofs.CodeSorts.{for_value, for_stmt, CodeSort, args, given, first_arg, more_args, after_arg, calls, bare_call, reading, a_side, after_word, after_second, after_dot, after_prefix, after_hash, after_hash_prefix, plain_hash, quoted_hash, numbered_hash, plain_second, quoted_second, numbered_second, second, second_number, assignment, unended, ended, word_item, list, adds, arm, more_arms, other_of, by_of, colon_of, choosing, word_choice, first_range, next_range, more_choices, label_rest, labelled, branching, case_items, after_case_word, DoesCode, an_args, a_given, a_first_arg, adds_args, goes_arg, a_call_of, a_bare_call, reads, a_right_side, goes_word, goes_second, goes_dot, goes_prefix, goes_hash, goes_hash_prefix, marks_plain_hash, marks_quoted_hash, marks_numbered_hash, marks_plain_second, marks_quoted_second, marks_numbered_second, a_second, a_second_number, assigns, an_unended, an_ended, goes_item, a_list, adds_stmts, an_arm, adds_arms, an_else_of, a_by_of, a_colon, a_choice_of, marks_choice, a_first_range, a_next_range, adds_choices, goes_label, a_label_of, a_branching, goes_case, goes_case_word, code_takes, code_puts}
+
+pub code_leaves : (x : CodeSort) (s behind : Stack) (ts : List Sure) (rest : List ℕ) → DoesCode x s ts behind
+    → IsTopped shape_of (numbers (code_takes x) ++ rest) s → IsTopped shape_of (numbers (code_puts x) ++ rest) behind
+code_leaves args s behind ts rest (an_args l h f) k = (refl, k)
+code_leaves given s behind ts rest (a_given e t h f) k = (refl, (refl, k))
+code_leaves first_arg s behind ts rest (a_first_arg p e at h f) k = (refl, k.1)
+code_leaves more_args s behind ts rest (adds_args a b c h f e) k = (refl, k.1)
+code_leaves after_arg s behind ts rest (goes_arg p l h) k = (refl, k.1)
+code_leaves calls s behind ts rest (a_call_of p c h) k = (refl, k.1)
+code_leaves bare_call s behind ts rest (a_bare_call p c h) k = (refl, k.1)
+code_leaves reading s behind ts rest (reads p e h) k = (refl, k.1)
+code_leaves a_side s behind ts rest (a_right_side v h) k = (refl, k)
+code_leaves (after_word for_value) s behind ts rest (goes_word p m h) k = (refl, k.1)
+code_leaves (after_word for_stmt) s behind ts rest (goes_word p m h) k = (refl, k.1)
+code_leaves (after_second for_value) s behind ts rest (goes_second p m h) k = (refl, k.1)
+code_leaves (after_second for_stmt) s behind ts rest (goes_second p m h) k = (refl, k.1)
+code_leaves (after_dot for_value) s behind ts rest (goes_dot d p m h) k = (refl, k.1.1)
+code_leaves (after_dot for_stmt) s behind ts rest (goes_dot d p m h) k = (refl, k.1.1)
+code_leaves (after_prefix for_value) s behind ts rest (goes_prefix w d p m h) k = (refl, k.1.1.1)
+code_leaves (after_prefix for_stmt) s behind ts rest (goes_prefix w d p m h) k = (refl, k.1.1.1)
+code_leaves (after_hash for_value) s behind ts rest (goes_hash t m h) k = (refl, k.1)
+code_leaves (after_hash for_stmt) s behind ts rest (goes_hash t m h) k = (refl, k.1)
+code_leaves (after_hash_prefix for_value) s behind ts rest (goes_hash_prefix w t m h) k = (refl, k.1.1)
+code_leaves (after_hash_prefix for_stmt) s behind ts rest (goes_hash_prefix w t m h) k = (refl, k.1.1)
+code_leaves plain_hash s behind ts rest (marks_plain_hash w t) k = (refl, k.1.1)
+code_leaves quoted_hash s behind ts rest (marks_quoted_hash w t) k = (refl, k.1.1)
+code_leaves numbered_hash s behind ts rest (marks_numbered_hash n w t h) k = (refl, k.1.1)
+code_leaves plain_second s behind ts rest (marks_plain_second w t p) k = (refl, k.1.1.1)
+code_leaves quoted_second s behind ts rest (marks_quoted_second w t p) k = (refl, k.1.1.1)
+code_leaves numbered_second s behind ts rest (marks_numbered_second n w t p h) k = (refl, k.1.1.1)
+code_leaves second s behind ts rest (a_second d p n at h) k = (refl, k.1.1)
+code_leaves second_number s behind ts rest (a_second_number w d p n at h) k = (refl, k.1.1.1)
+code_leaves assignment s behind ts rest (assigns p x h) k = (refl, k.1)
+code_leaves unended s behind ts rest (an_unended x h) k = (refl, k)
+code_leaves ended s behind ts rest (an_ended x h) k = (refl, k)
+code_leaves word_item s behind ts rest (goes_item p x h) k = (refl, k.1)
+code_leaves list s behind ts rest (a_list l h) k = (refl, k)
+code_leaves adds s behind ts rest (adds_stmts a b c h e) k = (refl, k.1)
+code_leaves arm s behind ts rest (an_arm e l h f g) k = (refl, k)
+code_leaves more_arms s behind ts rest (adds_arms a b c h f e) k = (refl, k.1)
+code_leaves (other_of colon) s behind ts rest (an_else_of o h f) k = (refl, k)
+code_leaves by_of s behind ts rest (a_by_of o h) k = (refl, k)
+code_leaves colon_of s behind ts rest (a_colon h) k = k
+code_leaves choosing s behind ts rest (a_choice_of x h f) k = (refl, k)
+code_leaves word_choice s behind ts rest (marks_choice p) k = (refl, k.1)
+code_leaves first_range s behind ts rest (a_first_range x o h f) k = (refl, k.1)
+code_leaves next_range s behind ts rest (a_next_range x t b o h f) k = (refl, k.1.1.1)
+code_leaves more_choices s behind ts rest (adds_choices a b c h f e) k = (refl, k.1)
+code_leaves label_rest s behind ts rest (goes_label x l h) k = (refl, k.1)
+code_leaves labelled s behind ts rest (a_label_of l b h) k = (refl, (refl, (refl, k.1)))
+code_leaves branching s behind ts rest (a_branching l h) k = (refl, k)
+code_leaves case_items s behind ts rest (goes_case l m c d a b h) k = (refl, (refl, (refl, k.1.1.1)))
+code_leaves after_case_word s behind ts rest (goes_case_word p l m c d a b h) k = (refl, (refl, (refl, k.1.1.1.1)))

@@ -1,0 +1,36 @@
+//! Parts of statements and calls, as they lie on the stack.
+
+use pv_tree::{Arg, CallTree, Choice, Expr, Stmt};
+use pv_types::Literal;
+
+/// The right side of an assignment.
+#[derive(Drop)]
+pub enum Value {
+    Expr(Expr),
+    /// A call of a function that has a value.
+    Call(CallTree),
+}
+
+/// A part of a statement or of a call.
+#[derive(Drop)]
+pub enum CodeItem {
+    /// The arguments of a call so far.
+    Args(Vec<Arg>),
+    Call(CallTree),
+    Value(Value),
+    Stmt(Stmt),
+    /// A list of statements so far.
+    Stmts(Vec<Stmt>),
+    /// The conditions of an IF so far, each with its statements.
+    Arms(Vec<(Expr, Vec<Stmt>)>),
+    /// What stands behind ELSE.
+    Else(Option<Vec<Stmt>>),
+    /// What stands behind BY.
+    By(Option<Literal>),
+    /// A value of a label.
+    Choice(Choice),
+    /// The values of a label so far.
+    Choices(Vec<(Choice, Option<Choice>)>),
+    /// The branches of a CASE so far, but for the one that is read.
+    Branches(Vec<(Vec<(Choice, Option<Choice>)>, Vec<Stmt>)>),
+}

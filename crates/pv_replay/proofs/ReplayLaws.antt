@@ -1,0 +1,92 @@
+-- What a replay has behind a scan, and with a new image.
+use Rattle.std.proofs.Common.{◌≡◌, ◌++◌, List, length, take, drop, ℤ, false, refl, sym, ap, subst, ◌∙◌, []}
+use Rattle.std.proofs.lemmas.List.{with_items_is}
+use Rattle.pv_machine.specs.Roles.{is_input, is_stored}
+use Rattle.pv_machine.specs.Ranges.{AreWithin}
+use Rattle.pv_mean.specs.Sources.{Source}
+use Rattle.pv_mean.specs.Cells.{most_calls}
+use Rattle.pv_mean.specs.Frames.{is_free, param_ranges, image_ranges, input_ranges, begin, image_after, start_image}
+use Rattle.pv_mean.specs.Endings.{ended}
+use Rattle.pv_mean.specs.Scans.{ScanEnd as End, scan_from}
+use Rattle.pv_mean.specs.Runs.{start}
+use Rattle.pv_run.specs.declared.stop.Stop.{Stop}
+use Rattle.pv_run.specs.declared.stop.Stop.TheVariants as stop
+use Rattle.pv_run.specs.Ends.{stop_end}
+use Rattle.pv_replay.specs.declared.end.ScanEnd.{ScanEnd}
+use Rattle.pv_replay.specs.declared.end.ScanEnd.TheVariants.{Done, Trap, Over}
+use Rattle.pv_replay.specs.declared.replay.Replay.{Replay}
+use Rattle.pv_replay.specs.Images as images
+use Rattle.pv_replay.specs.Images.{AreLong, BeginLong, stored_count}
+use Rattle.pv_replay.specs.Ends.{scan_end, is_done}
+use Rattle.pv_replay.specs.Replays.{IsReplayOf, IsScanned, Leaves, image_of, begin_of, end_of}
+use Rattle.pv_replay.proofs.ImageLaws.{begin-roles, left-roles, count-roles, length-within, long-values, begin-long}
+
+-- the visible cells at a scan's beginning
+begins : (source : Source) (r : Replay) (input values : List ℤ) → IsReplayOf source r → AreWithin (input_ranges source.cells) input
+    → (AreLong input → values ≡ images.begin_of r.roles.items r.image.items input) → values ≡ begin source.cells r.image.items input
+begins source r input values is within put =
+    put (long-values (λ c. is_input c.role) source.cells input is.starts.bound within)
+    ∙ ap (λ rs. images.begin_of rs r.image.items input) is.roles
+    ∙ sym (begin-roles source.cells r.image.items input)
+
+pub scanned_done : (source : Source) (before after : Replay) (input values ran : List ℤ) → IsReplayOf source before → AreWithin (input_ranges source.cells) input
+    → (AreLong input → values ≡ images.begin_of before.roles.items before.image.items input)
+    → ended ran ≡ (scan_from source most_calls values).end
+    → begin_of after ≡ values → end_of after ≡ ran → image_of after ≡ images.left_of before.roles.items before.image.items ran
+    → IsScanned source before after input Done
+scanned_done source before after input values ran is within put ends begun ended_so kept =
+    let at = begins source before input values is within put in
+    record {
+      beginning = begun ∙ at;
+      ends = ap (λ vs. let e : End = ended vs in e) ended_so ∙ ends ∙ ap (λ vs. (scan_from source most_calls vs).end) at;
+      leaves = kept
+          ∙ ap (λ rs. images.left_of rs before.image.items ran) is.roles
+          ∙ sym (left-roles source.cells before.image.items input ran)
+          ∙ ap (λ vs. image_after source.cells vs ran) (sym (begun ∙ at))
+          ∙ ap (λ vs. image_after source.cells (begin_of after) vs) (sym ended_so);
+    }
+
+-- an end that stops leaves nothing
+leaves_nothing : (end : ScanEnd) (s : Stop) (source : Source) (r : Replay) → ((vs : List ℤ) → scan_end end vs ≡ stop_end s) → Leaves end source r
+leaves_nothing Done (stop.Trap t) source r is = let e = is (end_of r) in absurd cc
+leaves_nothing Done (stop.Over place) source r is = let e = is (end_of r) in absurd cc
+leaves_nothing (Trap kind place) s source r is = tt
+leaves_nothing (Over place) s source r is = tt
+
+pub stops_not_done : (end : ScanEnd) (s : Stop) → ((vs : List ℤ) → scan_end end vs ≡ stop_end s) → false ≡ is_done end
+stops_not_done Done (stop.Trap t) is = let e = is [] in absurd cc
+stops_not_done Done (stop.Over place) is = let e = is [] in absurd cc
+stops_not_done (Trap kind place) s is = refl
+stops_not_done (Over place) s is = refl
+
+pub scanned_stop : (source : Source) (before after : Replay) (input values : List ℤ) (end : ScanEnd) (s : Stop) → IsReplayOf source before → AreWithin (input_ranges source.cells) input
+    → (AreLong input → values ≡ images.begin_of before.roles.items before.image.items input)
+    → stop_end s ≡ (scan_from source most_calls values).end → ((vs : List ℤ) → scan_end end vs ≡ stop_end s)
+    → begin_of after ≡ values
+    → IsScanned source before after input end
+scanned_stop source before after input values end s is within put ends stopped begun =
+    let at = begins source before input values is within put in
+    record {
+      beginning = begun ∙ at;
+      ends = stopped (end_of after) ∙ ends ∙ ap (λ vs. (scan_from source most_calls vs).end) at;
+      leaves = leaves_nothing end s source after stopped;
+    }
+
+-- ---- images that are given
+
+pub image_set : (source : Source) (r : Replay) (given new : List ℤ) → IsReplayOf source r → AreWithin (image_ranges source.cells) given
+    → (length r.image.items ≡ length given → AreLong given → new ≡ given) → length new ≡ r.image.len
+    → take r.image.len (new ++ drop (length new) r.image.items) ≡ given
+image_set source r given new is within put len =
+    let counted = ap stored_count is.roles ∙ count-roles source.cells in
+    let same = length-within (λ c. is_stored c.role) source.cells given within in
+    with_items_is r.image new len
+    ∙ put (r.stored ∙ counted ∙ sym same) (long-values (λ c. is_stored c.role) source.cells given is.starts.bound within)
+
+pub image_started : (source : Source) (r : Replay) (params new : List ℤ) → IsReplayOf source r → AreWithin (param_ranges source.cells) params
+    → (BeginLong r.cells.now → AreLong params → new ≡ start_image r.cells.now params) → length new ≡ r.image.len
+    → take r.image.len (new ++ drop (length new) r.image.items) ≡ start source params
+image_started source r params new is within put len =
+    with_items_is r.image new len
+    ∙ put (subst BeginLong is.cells (begin-long source.cells is.starts.starts is.starts.bound)) (long-values (λ c. is_free c.role c.bound) source.cells params is.starts.bound within)
+    ∙ ap (λ cs. start_image cs params) (sym is.cells)

@@ -1,6 +1,0 @@
-use Rattle.std.proofs.Common.{◌≡◌, drop}
-use Rattle.pv_rules.specs.InScope.{first_where}
-use Rattle.pv_rules.proofs.scope.first_among.Given as goal
-
-abbrev pub invariant-loop-var : goal.invariant-loop-var
-invariant-loop-var l = first_where l.all l.name.key (drop l.var-index l.vars) ≡ first_where l.all l.name.key l.vars

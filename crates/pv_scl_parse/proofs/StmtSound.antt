@@ -1,0 +1,130 @@
+-- All laws of the productions of statements and calls, in the grammar's order.
+use Rattle.std.proofs.Common.{drop}
+use Rattle.pv_ll.specs.Meaning.{Each}
+use Rattle.pv_ll.proofs.ForCallers.{◌⋄◌}
+use Rattle.pv_scl_parse.specs.SclGrammar.{statement_productions}
+use Rattle.pv_scl_parse.proofs.SclSorts.{Lawful}
+use Rattle.pv_scl_parse.proofs.CallLaws as call
+use Rattle.pv_scl_parse.proofs.BehindNames as behind
+use Rattle.pv_scl_parse.proofs.StmtLaws as stmt
+use Rattle.pv_scl_parse.proofs.CaseLaws as case
+
+-- behind the four of the bodies of blocks
+pub statement_laws : Each Lawful 147 (drop 4 statement_productions)
+statement_laws =
+    stmt.list_1 ⋄
+    stmt.new_list_1 ⋄
+    stmt.items_1 ⋄
+    stmt.items_2 ⋄
+    stmt.item_1 ⋄
+    stmt.item_2 ⋄
+    stmt.firm_item_1 ⋄
+    stmt.firm_item_2 ⋄
+    stmt.word_item_1 ⋄
+    stmt.other_statement_1 ⋄
+    stmt.other_statement_2 ⋄
+    stmt.other_statement_3 ⋄
+    stmt.other_statement_4 ⋄
+    stmt.other_statement_5 ⋄
+    stmt.other_statement_6 ⋄
+    stmt.other_statement_7 ⋄
+    stmt.other_statement_8 ⋄
+    stmt.other_statement_9 ⋄
+    stmt.first_arm_1 ⋄
+    stmt.elsifs_1 ⋄
+    stmt.elsifs_2 ⋄
+    stmt.elsif_1 ⋄
+    stmt.maybe_else_1 ⋄
+    stmt.maybe_else_2 ⋄
+    stmt.maybe_by_1 ⋄
+    stmt.maybe_by_2 ⋄
+    case.branches_1 ⋄
+    case.branches_2 ⋄
+    case.new_branches_1 ⋄
+    case.label_1 ⋄
+    case.label_rest_1 ⋄
+    case.first_range_1 ⋄
+    case.first_range_2 ⋄
+    case.more_choices_1 ⋄
+    case.more_choices_2 ⋄
+    case.next_choice_1 ⋄
+    case.next_range_1 ⋄
+    case.next_range_2 ⋄
+    case.choice_1 ⋄
+    case.choice_2 ⋄
+    case.literal_choice_1 ⋄
+    case.word_choice_1 ⋄
+    case.case_items_1 ⋄
+    case.case_items_2 ⋄
+    case.case_item_1 ⋄
+    case.case_item_2 ⋄
+    case.case_item_3 ⋄
+    case.after_case_word_1 ⋄
+    case.after_case_word_2 ⋄
+    case.case_else_1 ⋄
+    case.case_else_2 ⋄
+    case.maybe_colon_1 ⋄
+    case.maybe_colon_2 ⋄
+    behind.after_word_1 ⋄
+    behind.after_word_2 ⋄
+    behind.after_word_3 ⋄
+    behind.after_dot_1 ⋄
+    behind.after_dot_2 ⋄
+    behind.after_dot_3 ⋄
+    behind.after_dot_4 ⋄
+    behind.after_prefix_1 ⋄
+    behind.after_prefix_2 ⋄
+    behind.after_second_1 ⋄
+    behind.after_second_2 ⋄
+    behind.after_hash_1 ⋄
+    behind.after_hash_2 ⋄
+    behind.after_hash_3 ⋄
+    behind.after_hash_4 ⋄
+    behind.after_hash_prefix_1 ⋄
+    behind.after_hash_prefix_2 ⋄
+    call.assignment_1 ⋄
+    call.maybe_index_1 ⋄
+    call.maybe_index_2 ⋄
+    call.first_index_1 ⋄
+    call.plain_second_1 ⋄
+    call.quoted_second_1 ⋄
+    call.numbered_second_1 ⋄
+    call.called_1 ⋄
+    call.called_2 ⋄
+    call.second_name_1 ⋄
+    call.second_name_2 ⋄
+    call.second_name_3 ⋄
+    call.second_name_4 ⋄
+    call.second_number_1 ⋄
+    call.second_number_2 ⋄
+    call.call_arguments_1 ⋄
+    call.arguments_1 ⋄
+    call.arguments_2 ⋄
+    call.arguments_3 ⋄
+    call.after_argument_word_1 ⋄
+    call.after_argument_word_2 ⋄
+    call.value_1 ⋄
+    call.value_2 ⋄
+    call.value_3 ⋄
+    call.value_4 ⋄
+    behind.value_after_word_1 ⋄
+    behind.value_after_word_2 ⋄
+    behind.value_after_word_3 ⋄
+    behind.value_after_dot_1 ⋄
+    behind.value_after_dot_2 ⋄
+    behind.value_after_dot_3 ⋄
+    behind.value_after_dot_4 ⋄
+    behind.value_after_prefix_1 ⋄
+    behind.value_after_prefix_2 ⋄
+    behind.value_after_second_1 ⋄
+    behind.value_after_second_2 ⋄
+    behind.value_after_hash_1 ⋄
+    behind.value_after_hash_2 ⋄
+    behind.value_after_hash_3 ⋄
+    behind.value_after_hash_4 ⋄
+    behind.value_after_hash_prefix_1 ⋄
+    behind.value_after_hash_prefix_2 ⋄
+    call.first_read_1 ⋄
+    call.second_read_1 ⋄
+    call.chain_1 ⋄
+    tt

@@ -1,0 +1,2 @@
+-- what private clauses cite
+pub mod SourceAnswers

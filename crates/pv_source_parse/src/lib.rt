@@ -1,0 +1,16 @@
+//! Sources and expressions, read from tokens by the grammar of a language: declarations, blocks, and the walk that builds a tree.
+#![tactic(auto)]
+
+mod blocks;
+mod builder;
+mod copies;
+mod decl_texts;
+mod declarations;
+mod pops;
+mod reading;
+mod sources;
+mod variables;
+
+pub use builder::build;
+pub use reading::read_expression;
+pub use sources::read_source;

@@ -1,0 +1,8 @@
+pub mod Bases
+mod StmtTrees
+pub mod PathLaws
+pub mod ArgLaws
+pub mod SingleTexts
+pub mod TailRuns
+pub mod ArgRuns
+pub mod ForCallers

@@ -1,0 +1,253 @@
+//! Parts of statements and calls, taken off the stack.
+ghost use Rattle.std.specs.Prelude.{◌≡◌};
+ghost use Rattle.pv_tree.specs.View.{call_tree, stmt_tree};
+ghost use Rattle.pv_parse.specs.CodeItems.{code_of, arg_list, value_tree, stmt_list, arm_list, else_list, choice_list, branch_list};
+ghost use Rattle.pv_parse.specs.Items.{stack_of, item_of, literal_in, literal_on, code_in, code_on, Pops, Finds};
+ghost use Rattle.pv_parse.specs.CodeStack.{args_in, call_in, value_in, stmt_in, stmts_in, arms_in, else_in, by_in, choice_in, choices_in, branches_in, args_on, call_on, value_on, stmt_on, stmts_on, arms_on, else_on, by_on, choice_on, choices_on, branches_on};
+
+use pv_parse::{CodeItem, Item, Stop, Value, mistyped, pop_item};
+use pv_tree::{Arg, CallTree, Choice, Expr, Stmt};
+use pv_types::Literal;
+
+fn literal_in(item: Item) -> Result<Literal, Stop>
+    ensures { Finds (λ literal. literal) result (literal_in (item_of item.entry)) }
+{
+    match item {
+        Item::Literal(literal) => Ok(literal),
+        other => Err(mistyped(other)),
+    }
+}
+
+/// Takes a literal.
+pub fn pop_literal<'a>(stack: &mut Vec<Item<'a>>) -> Result<Literal, Stop>
+    ensures { Pops (λ literal. literal) result (stack_of stack.new) (literal_on (stack_of stack.old)) }
+{
+    let item = pop_item(stack)?;
+    let found = literal_in(item)?;
+    Ok(found)
+}
+
+fn code_in(item: Item) -> Result<CodeItem, Stop>
+    ensures { Finds code_of result (code_in (item_of item.entry)) }
+{
+    match item {
+        Item::Code(item) => Ok(item),
+        other => Err(mistyped(other)),
+    }
+}
+
+/// Takes a part of a statement or of a call.
+fn pop_code<'a>(stack: &mut Vec<Item<'a>>) -> Result<CodeItem, Stop>
+    ensures { Pops code_of result (stack_of stack.new) (code_on (stack_of stack.old)) }
+{
+    let item = pop_item(stack)?;
+    let found = code_in(item)?;
+    Ok(found)
+}
+
+/// A part is another than what was asked for.
+fn mistyped_part(_part: CodeItem) -> Stop
+    ensures { result ≡ Stop.Mistyped }
+{
+    Stop::Mistyped
+}
+
+fn args_in(item: CodeItem) -> Result<Vec<Arg>, Stop>
+    ensures { Finds arg_list result (args_in (code_of item)) }
+{
+    match item {
+        CodeItem::Args(found) => Ok(found),
+        other => Err(mistyped_part(other)),
+    }
+}
+
+/// Takes the arguments of a call.
+pub fn pop_args<'a>(stack: &mut Vec<Item<'a>>) -> Result<Vec<Arg>, Stop>
+    ensures { Pops arg_list result (stack_of stack.new) (args_on (stack_of stack.old)) }
+{
+    let item = pop_code(stack)?;
+    let found = args_in(item)?;
+    Ok(found)
+}
+
+fn call_in(item: CodeItem) -> Result<CallTree, Stop>
+    ensures { Finds call_tree result (call_in (code_of item)) }
+{
+    match item {
+        CodeItem::Call(found) => Ok(found),
+        other => Err(mistyped_part(other)),
+    }
+}
+
+/// Takes a call.
+pub fn pop_call<'a>(stack: &mut Vec<Item<'a>>) -> Result<CallTree, Stop>
+    ensures { Pops call_tree result (stack_of stack.new) (call_on (stack_of stack.old)) }
+{
+    let item = pop_code(stack)?;
+    let found = call_in(item)?;
+    Ok(found)
+}
+
+fn value_in(item: CodeItem) -> Result<Value, Stop>
+    ensures { Finds value_tree result (value_in (code_of item)) }
+{
+    match item {
+        CodeItem::Value(found) => Ok(found),
+        other => Err(mistyped_part(other)),
+    }
+}
+
+/// Takes the right side of an assignment.
+pub fn pop_value<'a>(stack: &mut Vec<Item<'a>>) -> Result<Value, Stop>
+    ensures { Pops value_tree result (stack_of stack.new) (value_on (stack_of stack.old)) }
+{
+    let item = pop_code(stack)?;
+    let found = value_in(item)?;
+    Ok(found)
+}
+
+fn stmt_in(item: CodeItem) -> Result<Stmt, Stop>
+    ensures { Finds stmt_tree result (stmt_in (code_of item)) }
+{
+    match item {
+        CodeItem::Stmt(found) => Ok(found),
+        other => Err(mistyped_part(other)),
+    }
+}
+
+/// Takes a statement.
+pub fn pop_stmt<'a>(stack: &mut Vec<Item<'a>>) -> Result<Stmt, Stop>
+    ensures { Pops stmt_tree result (stack_of stack.new) (stmt_on (stack_of stack.old)) }
+{
+    let item = pop_code(stack)?;
+    let found = stmt_in(item)?;
+    Ok(found)
+}
+
+fn stmts_in(item: CodeItem) -> Result<Vec<Stmt>, Stop>
+    ensures { Finds stmt_list result (stmts_in (code_of item)) }
+{
+    match item {
+        CodeItem::Stmts(found) => Ok(found),
+        other => Err(mistyped_part(other)),
+    }
+}
+
+/// Takes a list of statements.
+pub fn pop_stmts<'a>(stack: &mut Vec<Item<'a>>) -> Result<Vec<Stmt>, Stop>
+    ensures { Pops stmt_list result (stack_of stack.new) (stmts_on (stack_of stack.old)) }
+{
+    let item = pop_code(stack)?;
+    let found = stmts_in(item)?;
+    Ok(found)
+}
+
+fn arms_in(item: CodeItem) -> Result<Vec<(Expr, Vec<Stmt>)>, Stop>
+    ensures { Finds arm_list result (arms_in (code_of item)) }
+{
+    match item {
+        CodeItem::Arms(found) => Ok(found),
+        other => Err(mistyped_part(other)),
+    }
+}
+
+/// Takes the conditions of an IF.
+pub fn pop_arms<'a>(stack: &mut Vec<Item<'a>>) -> Result<Vec<(Expr, Vec<Stmt>)>, Stop>
+    ensures { Pops arm_list result (stack_of stack.new) (arms_on (stack_of stack.old)) }
+{
+    let item = pop_code(stack)?;
+    let found = arms_in(item)?;
+    Ok(found)
+}
+
+fn else_in(item: CodeItem) -> Result<Option<Vec<Stmt>>, Stop>
+    ensures { Finds else_list result (else_in (code_of item)) }
+{
+    match item {
+        CodeItem::Else(found) => Ok(found),
+        other => Err(mistyped_part(other)),
+    }
+}
+
+/// Takes what stands behind ELSE.
+pub fn pop_else<'a>(stack: &mut Vec<Item<'a>>) -> Result<Option<Vec<Stmt>>, Stop>
+    ensures { Pops else_list result (stack_of stack.new) (else_on (stack_of stack.old)) }
+{
+    let item = pop_code(stack)?;
+    let found = else_in(item)?;
+    Ok(found)
+}
+
+fn by_in(item: CodeItem) -> Result<Option<Literal>, Stop>
+    ensures { Finds (λ step. step) result (by_in (code_of item)) }
+{
+    match item {
+        CodeItem::By(found) => Ok(found),
+        other => Err(mistyped_part(other)),
+    }
+}
+
+/// Takes what stands behind BY.
+pub fn pop_by<'a>(stack: &mut Vec<Item<'a>>) -> Result<Option<Literal>, Stop>
+    ensures { Pops (λ step. step) result (stack_of stack.new) (by_on (stack_of stack.old)) }
+{
+    let item = pop_code(stack)?;
+    let found = by_in(item)?;
+    Ok(found)
+}
+
+fn choice_in(item: CodeItem) -> Result<Choice, Stop>
+    ensures { Finds (λ choice. choice) result (choice_in (code_of item)) }
+{
+    match item {
+        CodeItem::Choice(found) => Ok(found),
+        other => Err(mistyped_part(other)),
+    }
+}
+
+/// Takes a value of a label.
+pub fn pop_choice<'a>(stack: &mut Vec<Item<'a>>) -> Result<Choice, Stop>
+    ensures { Pops (λ choice. choice) result (stack_of stack.new) (choice_on (stack_of stack.old)) }
+{
+    let item = pop_code(stack)?;
+    let found = choice_in(item)?;
+    Ok(found)
+}
+
+fn choices_in(item: CodeItem) -> Result<Vec<(Choice, Option<Choice>)>, Stop>
+    ensures { Finds choice_list result (choices_in (code_of item)) }
+{
+    match item {
+        CodeItem::Choices(found) => Ok(found),
+        other => Err(mistyped_part(other)),
+    }
+}
+
+/// Takes the values of a label.
+pub fn pop_choices<'a>(stack: &mut Vec<Item<'a>>) -> Result<Vec<(Choice, Option<Choice>)>, Stop>
+    ensures { Pops choice_list result (stack_of stack.new) (choices_on (stack_of stack.old)) }
+{
+    let item = pop_code(stack)?;
+    let found = choices_in(item)?;
+    Ok(found)
+}
+
+fn branches_in(item: CodeItem) -> Result<Vec<(Vec<(Choice, Option<Choice>)>, Vec<Stmt>)>, Stop>
+    ensures { Finds branch_list result (branches_in (code_of item)) }
+{
+    match item {
+        CodeItem::Branches(found) => Ok(found),
+        other => Err(mistyped_part(other)),
+    }
+}
+
+/// Takes the branches of a CASE.
+pub fn pop_branches<'a>(
+    stack: &mut Vec<Item<'a>>,
+) -> Result<Vec<(Vec<(Choice, Option<Choice>)>, Vec<Stmt>)>, Stop>
+    ensures { Pops branch_list result (stack_of stack.new) (branches_on (stack_of stack.old)) }
+{
+    let item = pop_code(stack)?;
+    let found = branches_in(item)?;
+    Ok(found)
+}
