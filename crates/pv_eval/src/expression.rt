@@ -26,6 +26,19 @@ impl Expression {
     ghost use Rattle.pv_eval.specs.Traps.{tried};
     ghost use Rattle.pv_eval.specs.Means.{Means, activation};
 
+    /// The expression whose value is that of one of these nodes.
+    pub fn of(nodes: Vec<Node>, result_node: u32) -> Expression
+        requires nodes { AreNodes nodes.items }
+        requires within { result_node < length nodes.items }
+        ensures nodes { result.nodes.items ≡ nodes.items }
+        ensures at { result.result ≡ result_node }
+    {
+        Expression {
+            nodes,
+            result: result_node,
+        }
+    }
+
     /// How many values are taken to evaluate it.
     pub fn len(&self) -> usize
         ensures { result ≡ length self.now.nodes.items }

@@ -29,6 +29,16 @@ impl Target {
     ghost use Rattle.pv_eval.specs.Operands.{IsSpot};
     ghost use Rattle.pv_eval.specs.Means.{Names, activation};
 
+    /// The target that an operand is by the values of these nodes.
+    pub fn of(nodes: Vec<Node>, operand: Operand) -> Target
+        requires nodes { AreNodes nodes.items }
+        requires within { IsOperand (length nodes.items) operand }
+        ensures nodes { result.nodes.items ≡ nodes.items }
+        ensures operand { result.operand ≡ operand }
+    {
+        Target { nodes, operand }
+    }
+
     /// How many values are taken to locate it.
     pub fn len(&self) -> usize
         ensures { result ≡ length self.now.nodes.items }

@@ -81,54 +81,54 @@ for-none source loop body zero count frame past =
 for-none source loop body (suc n) count frame past = either-false (is_on_the_way loop.by count loop.last) _ (normal frame) past
 
 -- one turn of a body that ends normally and leaves the variable
-for-one : (source : Source) (loop : Counting) (body : Frame → Ending) (turn : Frame → Frame) → LeavesVariable source loop body turn → (n : ℕ)
-    (count : ℤ) (frame : Frame) → is_on_the_way loop.by count loop.last ≡ true
+for-one : (source : Source) (loop : Counting) (body : Frame → Ending) (turn : Frame → Frame) (Fits : Frame → Bool) (Counts : ℤ → Bool)
+    → LeavesVariable source loop Fits Counts body turn → (n : ℕ) (count : ℤ) (frame : Frame) → Fits frame ≡ true → is_on_the_way loop.by count loop.last ≡ true
     → read_spot frame loop.variable_place loop.variable ≡ got count
     → for_turns source loop body (suc n) count frame
     ≡ for_turns source loop body n (count +ℤ loop.by) (write_spot source (turn frame) loop.variable (count +ℤ loop.by))
-for-one source loop body turn kept n count frame on is =
+for-one source loop body turn Fits Counts kept n count frame fits on is =
     either-true (is_on_the_way loop.by count loop.last) _ (normal frame) on
     ∙ (ap (λ (e : Ending). after_turn e (λ f. when_got (read_spot f loop.variable_place loop.variable)
-    (λ v. for_turns source loop body n (v +ℤ loop.by) (write_spot source f loop.variable (v +ℤ loop.by))))) (kept.ends frame)
+    (λ v. for_turns source loop body n (v +ℤ loop.by) (write_spot source f loop.variable (v +ℤ loop.by))))) (kept.ends frame fits)
     ∙ ap (λ (x : Value). when_got x (λ v. for_turns source loop body n (v +ℤ loop.by)
-    (write_spot source (turn frame) loop.variable (v +ℤ loop.by)))) (kept.leaves frame count is))
+    (write_spot source (turn frame) loop.variable (v +ℤ loop.by)))) (kept.leaves frame count fits is))
 
--- exactly the turns that the counts give, within the bound
-pub for-turns : (source : Source) (loop : Counting) (body : Frame → Ending) (turn : Frame → Frame) → LeavesVariable source loop body turn
-    → (turns bound : ℕ) (count : ℤ) (frame : Frame) → Takes loop count turns → turns ≤ bound
+-- exactly the turns that the counts give, within the bound. What comes behind one turn holds the next count, if there is one
+pub for-turns : (source : Source) (loop : Counting) (body : Frame → Ending) (turn : Frame → Frame) (Fits : Frame → Bool) (Counts : ℤ → Bool)
+    → LeavesVariable source loop Fits Counts body turn
+    → (turns bound : ℕ) (count : ℤ) (frame : Frame) → Fits frame ≡ true → Counts count ≡ true → Takes loop count turns → turns ≤ bound
     → (turns ≢ 0 → read_spot frame loop.variable_place loop.variable ≡ got count)
     → for_turns source loop body bound count frame ≡ normal (behind_turns source loop turn count turns frame)
-for-turns source loop body turn kept zero bound count frame takes le is = for-none source loop body bound count frame takes
-for-turns source loop body turn kept (suc n) zero count frame takes le is = absurd (omega arith)
-for-turns source loop body turn kept (suc n) (suc b) count frame takes le is =
-    for-one source loop body turn kept b count frame takes.0 (is (omega arith))
-    ∙ for-turns source loop body turn kept n b (count +ℤ loop.by) (write_spot source (turn frame) loop.variable (count +ℤ loop.by)) takes.1
-    (omega arith) (λ some. held n takes.1 some)
-  where
-    held : (m : ℕ) → Takes loop (count +ℤ loop.by) m → m ≢ 0
-        → read_spot (write_spot source (turn frame) loop.variable (count +ℤ loop.by)) loop.variable_place loop.variable
-        ≡ got (count +ℤ loop.by)
-    held zero t some = absurd (some refl)
-    held (suc k) t some = kept.holds (turn frame) (count +ℤ loop.by) t.0
+for-turns source loop body turn Fits Counts kept zero bound count frame fits counts takes le is = for-none source loop body bound count frame takes
+for-turns source loop body turn Fits Counts kept (suc n) zero count frame fits counts takes le is = absurd (omega arith)
+for-turns source loop body turn Fits Counts kept (suc zero) (suc b) count frame fits counts takes le is =
+    for-one source loop body turn Fits Counts kept b count frame fits takes.0 (is (omega arith))
+    ∙ for-none source loop body b (count +ℤ loop.by) (write_spot source (turn frame) loop.variable (count +ℤ loop.by)) takes.1
+for-turns source loop body turn Fits Counts kept (suc (suc n)) (suc b) count frame fits counts takes le is =
+    let next = kept.follows count counts takes.1.0 in
+    let behind = kept.keeps frame fits in
+    for-one source loop body turn Fits Counts kept b count frame fits takes.0 (is (omega arith))
+    ∙ for-turns source loop body turn Fits Counts kept (suc n) b (count +ℤ loop.by) (write_spot source (turn frame) loop.variable (count +ℤ loop.by))
+    (kept.writes (turn frame) (count +ℤ loop.by) behind) next takes.1 (omega arith)
+    (λ some. kept.holds (turn frame) (count +ℤ loop.by) behind next)
 
 -- and over, where the bound is smaller
-pub for-over : (source : Source) (loop : Counting) (body : Frame → Ending) (turn : Frame → Frame) → LeavesVariable source loop body turn
-    → (turns bound : ℕ) (count : ℤ) (frame : Frame) → Takes loop count turns → bound < turns
+pub for-over : (source : Source) (loop : Counting) (body : Frame → Ending) (turn : Frame → Frame) (Fits : Frame → Bool) (Counts : ℤ → Bool)
+    → LeavesVariable source loop Fits Counts body turn
+    → (turns bound : ℕ) (count : ℤ) (frame : Frame) → Fits frame ≡ true → Counts count ≡ true → Takes loop count turns → bound < turns
     → (turns ≢ 0 → read_spot frame loop.variable_place loop.variable ≡ got count)
     → for_turns source loop body bound count frame ≡ by_over loop.place
-for-over source loop body turn kept zero bound count frame takes lt is = absurd (omega arith)
-for-over source loop body turn kept (suc n) zero count frame takes lt is =
+for-over source loop body turn Fits Counts kept zero bound count frame fits counts takes lt is = absurd (omega arith)
+for-over source loop body turn Fits Counts kept (suc n) zero count frame fits counts takes lt is =
     either-true (is_on_the_way loop.by count loop.last) (by_over loop.place) (normal frame) takes.0
-for-over source loop body turn kept (suc n) (suc b) count frame takes lt is =
-    for-one source loop body turn kept b count frame takes.0 (is (omega arith))
-    ∙ for-over source loop body turn kept n b (count +ℤ loop.by) (write_spot source (turn frame) loop.variable (count +ℤ loop.by)) takes.1
-    (omega arith) (λ some. held n takes.1 some)
-  where
-    held : (m : ℕ) → Takes loop (count +ℤ loop.by) m → m ≢ 0
-        → read_spot (write_spot source (turn frame) loop.variable (count +ℤ loop.by)) loop.variable_place loop.variable
-        ≡ got (count +ℤ loop.by)
-    held zero t some = absurd (some refl)
-    held (suc k) t some = kept.holds (turn frame) (count +ℤ loop.by) t.0
+for-over source loop body turn Fits Counts kept (suc zero) (suc b) count frame fits counts takes lt is = absurd (omega arith)
+for-over source loop body turn Fits Counts kept (suc (suc n)) (suc b) count frame fits counts takes lt is =
+    let next = kept.follows count counts takes.1.0 in
+    let behind = kept.keeps frame fits in
+    for-one source loop body turn Fits Counts kept b count frame fits takes.0 (is (omega arith))
+    ∙ for-over source loop body turn Fits Counts kept (suc n) b (count +ℤ loop.by) (write_spot source (turn frame) loop.variable (count +ℤ loop.by))
+    (kept.writes (turn frame) (count +ℤ loop.by) behind) next takes.1 (omega arith)
+    (λ some. kept.holds (turn frame) (count +ℤ loop.by) behind next)
 
 -- ---- spots
 

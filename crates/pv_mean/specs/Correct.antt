@@ -1,5 +1,5 @@
 -- What the laws say of cells, spots and loops.
-use Rattle.std.specs.Prelude.{◌≡◌, ◌≢◌, ◌⊎◌, ◌<◌, ◌≤◌, ℕ, zero, suc, ◌+◌, ℤ, ◌+ℤ◌, true, false, ⊤}
+use Rattle.std.specs.Prelude.{◌≡◌, ◌≢◌, ◌⊎◌, ◌<◌, ◌≤◌, ℕ, zero, suc, ◌+◌, ℤ, ◌+ℤ◌, Bool, true, false, ⊤}
 use Rattle.pv_machine.specs.Ranges.{range_of, IsWithin}
 use Rattle.pv_tree.specs.Tree.{OperandTree}
 use Rattle.pv_tree.specs.Callees.{CallSite}
@@ -52,12 +52,18 @@ behind_turns source loop turn count zero frame = frame
 behind_turns source loop turn count (suc n) frame = behind_turns source loop turn
     (count +ℤ loop.by) n (write_spot source (turn frame) loop.variable (count +ℤ loop.by))
 
--- a body that ends normally, and leaves the loop's variable, which holds each count that is on the way
-pub record LeavesVariable (source : Source) (loop : Counting) (body : Frame → Ending)
-    (turn : Frame → Frame) : Type 0 where
-  pub ends : (frame : Frame) → body frame ≡ normal (turn frame)
-  pub leaves : (frame : Frame) (v : ℤ)
+-- in such frames a body that ends normally, and leaves the loop's variable, which holds each of such counts: frames that fit stay
+-- so, and a count that is on the way follows on one
+pub record LeavesVariable (source : Source) (loop : Counting) (fits : Frame → Bool)
+    (is_count : ℤ → Bool) (body : Frame → Ending) (turn : Frame → Frame) : Type 0 where
+  pub ends : (frame : Frame) → fits frame ≡ true → body frame ≡ normal (turn frame)
+  pub keeps : (frame : Frame) → fits frame ≡ true → fits (turn frame) ≡ true
+  pub writes : (frame : Frame) (v : ℤ) → fits frame ≡ true
+      → fits (write_spot source frame loop.variable v) ≡ true
+  pub leaves : (frame : Frame) (v : ℤ) → fits frame ≡ true
       → read_spot frame loop.variable_place loop.variable ≡ got v
       → read_spot (turn frame) loop.variable_place loop.variable ≡ got v
-  pub holds : (frame : Frame) (v : ℤ) → is_on_the_way loop.by v loop.last ≡ true
+  pub follows : (v : ℤ) → is_count v ≡ true
+      → is_on_the_way loop.by (v +ℤ loop.by) loop.last ≡ true → is_count (v +ℤ loop.by) ≡ true
+  pub holds : (frame : Frame) (v : ℤ) → fits frame ≡ true → is_count v ≡ true
       → read_spot (write_spot source frame loop.variable v) loop.variable_place loop.variable ≡ got v

@@ -1,6 +1,6 @@
 //! Laws of single steps: operators, spots, statements, loops, calls. Each is the contract of a function
 //! that does nothing.
-ghost use Rattle.std.specs.Prelude.{◌≡◌, ◌≢◌, ◌<◌, ◌≤◌, ℕ, ℤ, pos, negsuc, List, [], length, true, false};
+ghost use Rattle.std.specs.Prelude.{◌≡◌, ◌≢◌, ◌<◌, ◌≤◌, ℕ, ℤ, pos, negsuc, List, [], length, Bool, true, false};
 ghost use Rattle.pv_word.specs.declared.types.Ty.{Ty};
 ghost use Rattle.pv_word.specs.declared.types.Ty.TheVariants.{Int, Dint};
 ghost use Rattle.pv_word.specs.Types.{InRange, wrap_of};
@@ -97,19 +97,22 @@ pub fn loops_of_no_turns_do_nothing()
 {}
 
 /// A FOR over a body that ends normally and leaves the variable makes exactly the turns that its
-/// counts give, or is over where the bound is smaller.
+/// counts give, or is over where the bound is smaller. The frames and counts are such as the law's
+/// user names: frames that have the variable's cell, and counts that it holds.
 pub fn for_makes_the_turns_that_its_counts_give()
     ensures within { (source : Source) (loop : Counting) (body : Frame → Ending)
-        (turn : Frame → Frame)
-        → LeavesVariable source loop body turn
-        → (turns bound : ℕ) (count : ℤ) (frame : Frame) → Takes loop count turns → turns ≤ bound
+        (turn : Frame → Frame) (fits : Frame → Bool) (is_count : ℤ → Bool)
+        → LeavesVariable source loop fits is_count body turn
+        → (turns bound : ℕ) (count : ℤ) (frame : Frame) → fits frame ≡ true → is_count count ≡ true
+        → Takes loop count turns → turns ≤ bound
         → (turns ≢ 0 → read_spot frame loop.variable_place loop.variable ≡ got count)
         → for_turns source loop body bound count frame
         ≡ normal (behind_turns source loop turn count turns frame) }
     ensures past { (source : Source) (loop : Counting) (body : Frame → Ending)
-        (turn : Frame → Frame)
-        → LeavesVariable source loop body turn
-        → (turns bound : ℕ) (count : ℤ) (frame : Frame) → Takes loop count turns → bound < turns
+        (turn : Frame → Frame) (fits : Frame → Bool) (is_count : ℤ → Bool)
+        → LeavesVariable source loop fits is_count body turn
+        → (turns bound : ℕ) (count : ℤ) (frame : Frame) → fits frame ≡ true → is_count count ≡ true
+        → Takes loop count turns → bound < turns
         → (turns ≢ 0 → read_spot frame loop.variable_place loop.variable ≡ got count)
         → for_turns source loop body bound count frame ≡ by_over loop.place }
 {}

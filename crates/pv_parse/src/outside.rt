@@ -1,7 +1,7 @@
 //! The first token that is outside the profile.
 //!
 //! One pass over the tokens, which carries what those before say of a place, and looks at one token ahead.
-ghost use Rattle.std.specs.Prelude.{◌≡◌, IfSome, IfNone};
+ghost use Rattle.std.specs.Prelude.{◌≡◌, IfSome, IfNone, Contains};
 ghost use Rattle.std.specs.Option.{option_map};
 ghost use Rattle.pv_lex.specs.Shapes.{is_one_of};
 ghost use Rattle.pv_tree.specs.Lexemes.{lexeme_of, lexemes_of};
@@ -21,6 +21,7 @@ use pv_lex::{Kind, Language, Token};
 /// Its time is proportional to the number of tokens and the length of their bytes. It takes no memory.
 pub fn first_outside(language: Language, text: &[u8], tokens: &[Token]) -> Option<Token>
     ensures found { IfSome result (λ token. IsFirstOutside language (lexemes_of text.now tokens.now) (lexeme_of text.now token)) }
+    ensures token { IfSome result (λ token. Contains tokens.now token) }
     ensures none { IfNone result (IsWithin language (lexemes_of text.now tokens.now)) }
 {
     find(language, text, tokens)
@@ -28,7 +29,8 @@ pub fn first_outside(language: Language, text: &[u8], tokens: &[Token]) -> Optio
 
 /// The same, as one recursion on the tokens has it.
 fn find(language: Language, text: &[u8], tokens: &[Token]) -> Option<Token>
-    ensures { option_map (λ token. lexeme_of text.now token) result ≡ find_outside language first_spot (lexemes_of text.now tokens.now) }
+    ensures first { option_map (λ token. lexeme_of text.now token) result ≡ find_outside language first_spot (lexemes_of text.now tokens.now) }
+    ensures token { IfSome result (λ token. Contains tokens.now token) }
 {
     let mut spot = first_spot();
     for i in 0..tokens.len() {

@@ -1,10 +1,11 @@
 -- Images and the visible cells at a scan's beginning, made in place.
-use Rattle.std.proofs.Common.{◌≡◌, ◌++◌, ◌+◌, ℕ, zero, suc, ◌<◌, ◌≤◌, List, [], ◌∷◌, length, ℤ, pos, Bool, true, false, cond, not, get_or, set, take, drop, Option, Some, None, refl, ap, sym, subst, ◌∙◌, append_assoc, append-nil, arith, map}
-use Rattle.std.specs.Prelude.{filter}
+use Rattle.std.proofs.Common.{◌≡◌, ◌++◌, ◌+◌, ℕ, zero, suc, ◌<◌, ◌≤◌, List, [], ◌∷◌, length, ℤ, pos, Bool, true, false, cond, not, get_or, set, take, drop, replicate, Option, Some, None, refl, ap, sym, subst, ◌∙◌, append_assoc, append-nil, arith, map}
+use Rattle.std.specs.Prelude.{filter, All}
 use Rattle.std.specs.List.{AllByRecursion}
 use Rattle.std.proofs.Math.Seq.{take-suc-set, take-suc, drop-cons}
 use Rattle.std.proofs.lemmas.Int.{ints}
 use Rattle.std.proofs.lemmas.List.{drop-set-lt, take_all, drop_all}
+use Rattle.std.proofs.lemmas.List.Elements.{All-nil, All-push, All-replicate}
 use Rattle.pv_word.specs.declared.types.Ty.{Ty}
 use Rattle.pv_word.specs.declared.types.Ty.TheVariants.{Bool as BoolType, Byte, Word, Dword, Int, Dint, Time}
 use Rattle.pv_word.specs.Types.{InRange}
@@ -15,17 +16,17 @@ use Rattle.pv_machine.specs.Ranges.{Range, range_of, range_at, IsWithin, AreWith
 use Rattle.pv_mean.specs.declared.cell.Cell.{Cell}
 use Rattle.pv_mean.specs.Frames.{first, others, is_free, range_of_cell, range_by, image_len, stored_cells, begin, image_after, start_image}
 use Rattle.pv_mean.specs.Correct.{BindsInRange}
-use Rattle.pv_replay.specs.Images.{IsLong, AreLong, roles_of, stored_count, begun, behind, begin_of, left, left_of, started, BeginsLong, BeginLong}
+use Rattle.pv_replay.specs.Images.{IsLong, AreLong, roles_of, stored_count, begun, behind, begin_by_roles, left, left_of, started, BeginsLong, BeginLong}
 
 -- ---- by roles alone
 
-pub begin-roles : (cells : List Cell) (image input : List ℤ) → begin cells image input ≡ begin_of (roles_of cells) image input
+pub begin-roles : (cells : List Cell) (image input : List ℤ) → begin cells image input ≡ begin_by_roles (roles_of cells) image input
 begin-roles [] image input = refl
 begin-roles (c ∷ cs) image input = lead (λ im inp. begin-roles cs im inp) c.path c.ty c.start c.role c.bound
   where
-    lead : ((im inp : List ℤ) → begin cs im inp ≡ begin_of (roles_of cs) im inp) → (p : List ℕ) (t : Ty) (s : ℤ) (r : Role) (b : Option ℤ)
+    lead : ((im inp : List ℤ) → begin cs im inp ≡ begin_by_roles (roles_of cs) im inp) → (p : List ℕ) (t : Ty) (s : ℤ) (r : Role) (b : Option ℤ)
         → begin (record { path = p; ty = t; start = s; role = r; bound = b } ∷ cs) image input
-        ≡ begin_of (roles_of (record { path = p; ty = t; start = s; role = r; bound = b } ∷ cs)) image input
+        ≡ begin_by_roles (roles_of (record { path = p; ty = t; start = s; role = r; bound = b } ∷ cs)) image input
     lead ih p t s Input b = ap (λ l. first input ∷ l) (ih image (others input))
     lead ih p t s Param b = ap (λ l. first image ∷ l) (ih (others image) input)
     lead ih p t s Kept b = ap (λ l. first image ∷ l) (ih (others image) input)
@@ -63,15 +64,15 @@ others-drop (x ∷ xs) (suc n) = others-drop xs n
 pub record IsBegun (roles : List Role) (image input : List ℤ) (n stored given : ℕ) (values : List ℤ) : Type 0 where
   pub stored_few : stored ≤ n
   pub given_few : given ≤ n
-  pub same : AreLong input → take n values ++ begin_of (drop n roles) (drop stored image) (drop given input) ≡ begin_of roles image input
+  pub same : AreLong input → take n values ++ begin_by_roles (drop n roles) (drop stored image) (drop given input) ≡ begin_by_roles roles image input
 
 -- what begins from cell n on begins with its value
 begin-at : (roles : List Role) (image input : List ℤ) (n stored given : ℕ) (r : Role) (b : Bool) → n < length roles → is_input (get_or roles n r) ≡ b
-    → begin_of (drop n roles) (drop stored image) (drop given input)
-    ≡ begun b (get_or image stored (pos 0)) (get_or input given (pos 0)) ∷ begin_of (drop (suc n) roles) (behind (not b) (drop stored image)) (behind b (drop given input))
+    → begin_by_roles (drop n roles) (drop stored image) (drop given input)
+    ≡ begun b (get_or image stored (pos 0)) (get_or input given (pos 0)) ∷ begin_by_roles (drop (suc n) roles) (behind (not b) (drop stored image)) (behind b (drop given input))
 begin-at roles image input n stored given r b lt role =
-    let rest = λ (x : Bool). begin_of (drop (suc n) roles) (behind (not x) (drop stored image)) (behind x (drop given input)) in
-    ap (λ l. begin_of l (drop stored image) (drop given input)) (drop-cons roles n r lt)
+    let rest = λ (x : Bool). begin_by_roles (drop (suc n) roles) (behind (not x) (drop stored image)) (behind x (drop given input)) in
+    ap (λ l. begin_by_roles l (drop stored image) (drop given input)) (drop-cons roles n r lt)
     ∙ ap (λ x. begun x (first (drop stored image)) (first (drop given input)) ∷ rest x) role
     ∙ ap (λ v. begun b v (first (drop given input)) ∷ rest b) (first-drop image stored)
     ∙ ap (λ v. begun b (get_or image stored (pos 0)) v ∷ rest b) (first-drop input given)
@@ -94,8 +95,8 @@ begin-input roles image input n stored given next after values changed r v len l
     subst P (sym is_next) (subst Q (sym is_after) (subst R (sym is_changed) (record {
       stored_few = omega (arith, so_far.stored_few);
       given_few = omega (arith, so_far.given_few);
-      same = λ long. put n values v (get_or input given (pos 0)) (begin_of (drop (suc n) roles) (drop stored image) (drop (suc given) input)) (begin_of roles image input) (omega (arith, len, lt)) (is long)
-          (ap (λ l. take n values ++ get_or input given (pos 0) ∷ begin_of (drop (suc n) roles) (drop stored image) l) (sym (others-drop input given))
+      same = λ long. put n values v (get_or input given (pos 0)) (begin_by_roles (drop (suc n) roles) (drop stored image) (drop (suc given) input)) (begin_by_roles roles image input) (omega (arith, len, lt)) (is long)
+          (ap (λ l. take n values ++ get_or input given (pos 0) ∷ begin_by_roles (drop (suc n) roles) (drop stored image) l) (sym (others-drop input given))
           ∙ ap (λ l. take n values ++ l) (sym (begin-at roles image input n stored given r true lt (ap is_input (sym at) ∙ role)))
           ∙ so_far.same long);
     })))
@@ -111,8 +112,8 @@ begin-stored roles image input n stored given next after values changed r v len 
     subst P (sym is_next) (subst Q (sym is_after) (subst R (sym is_changed) (record {
       stored_few = omega (arith, so_far.stored_few);
       given_few = omega (arith, so_far.given_few);
-      same = λ long. put n values v (get_or image stored (pos 0)) (begin_of (drop (suc n) roles) (drop (suc stored) image) (drop given input)) (begin_of roles image input) (omega (arith, len, lt)) is
-          (ap (λ l. take n values ++ get_or image stored (pos 0) ∷ begin_of (drop (suc n) roles) l (drop given input)) (sym (others-drop image stored))
+      same = λ long. put n values v (get_or image stored (pos 0)) (begin_by_roles (drop (suc n) roles) (drop (suc stored) image) (drop given input)) (begin_by_roles roles image input) (omega (arith, len, lt)) is
+          (ap (λ l. take n values ++ get_or image stored (pos 0) ∷ begin_by_roles (drop (suc n) roles) l (drop given input)) (sym (others-drop image stored))
           ∙ ap (λ l. take n values ++ l) (sym (begin-at roles image input n stored given r false lt (ap is_input (sym at) ∙ role)))
           ∙ so_far.same long);
     })))
@@ -121,10 +122,10 @@ pub begin-none : (roles : List Role) (image input values : List ℤ) → IsBegun
 begin-none roles image input values = record { stored_few = omega arith; given_few = omega arith; same = λ long. refl }
 
 pub begin-all : (roles : List Role) (image input : List ℤ) (n stored given : ℕ) (values : List ℤ) → length values ≡ length roles → length roles ≤ n
-    → IsBegun roles image input n stored given values → AreLong input → values ≡ begin_of roles image input
+    → IsBegun roles image input n stored given values → AreLong input → values ≡ begin_by_roles roles image input
 begin-all roles image input n stored given values len le so_far long =
-    sym (ap (λ f. f ++ begin_of (drop n roles) (drop stored image) (drop given input)) (take_all n values (omega (arith, len, le)))
-    ∙ ap (λ l. values ++ begin_of l (drop stored image) (drop given input)) (drop_all n roles le)
+    sym (ap (λ f. f ++ begin_by_roles (drop n roles) (drop stored image) (drop given input)) (take_all n values (omega (arith, len, le)))
+    ∙ ap (λ l. values ++ begin_by_roles l (drop stored image) (drop given input)) (drop_all n roles le)
     ∙ append-nil values)
     ∙ so_far.same long
 
@@ -326,10 +327,35 @@ copy-next from to n next v len lt is_next is so_far =
 pub copy-all : (from to : List ℤ) (n : ℕ) → length to ≡ length from → length from ≤ n → take n to ≡ take n from → to ≡ from
 copy-all from to n len le so_far = sym (take_all n to (omega (arith, len, le))) ∙ so_far ∙ take_all n from le
 
+-- values that 64 bits hold, copied up to this number
+pub record IsWidened (from to : List ℤ) (n : ℕ) : Type 0 where
+  pub same : take n to ≡ take n from
+  pub long : All IsLong (take n to)
+
+pub widen-none : (from to : List ℤ) → IsWidened from to 0
+widen-none from to = record { same = refl; long = All-nil IsLong }
+
+pub widen-next : (from to changed : List ℤ) (n next : ℕ) (v : ℤ) → length to ≡ length from → n < length from → next ≡ suc n → v ≡ get_or from n (pos 0) → changed ≡ set to n v
+    → IsLong v → IsWidened from to n → IsWidened from changed next
+widen-next from to changed n next v len lt is_next is is_changed fits so_far =
+    let P : List ℤ → Type 0 = λ l. IsWidened from l next in
+    subst P (sym is_changed) (record {
+      same = copy-next from to n next v len lt is_next is so_far.same;
+      long = subst (All IsLong) (sym (ap (λ m. take m (set to n v)) is_next ∙ take-suc-set to n v (omega (arith, len, lt))))
+          (All-push IsLong (take n to) v so_far.long fits);
+    })
+
+pub widen-all : (from to : List ℤ) (n : ℕ) → length to ≡ length from → length from ≤ n → IsWidened from to n → (to ≡ from) × All IsLong to
+widen-all from to n len le so_far =
+    (copy-all from to n len le so_far.same, subst (All IsLong) (take_all n to (omega (arith, len, le))) so_far.long)
+
 -- ---- numbers that 64 bits hold
 
 long-zero : IsLong (pos 0)
 long-zero = (omega (arith, ints), omega (arith, ints))
+
+pub long-zeros : (vs : List ℤ) (n : ℕ) → vs ≡ replicate n (pos 0) → All IsLong vs
+long-zeros vs n is = subst (All IsLong) (sym is) (All-replicate IsLong n (pos 0) long-zero)
 
 pub long-of : (ty : Ty) (v : ℤ) → IsWithin (range_of ty) v → IsLong v
 long-of BoolType v h = (omega (arith, ints, h.from, h.to), omega (arith, ints, h.from, h.to))

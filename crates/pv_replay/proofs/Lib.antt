@@ -1,2 +1,3 @@
 mod ImageLaws
+mod RangeLaws
 mod ReplayLaws

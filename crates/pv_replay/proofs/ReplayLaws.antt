@@ -1,11 +1,11 @@
 -- What a replay has behind a scan, and with a new image.
-use Rattle.std.proofs.Common.{◌≡◌, ◌++◌, List, length, take, drop, ℤ, false, refl, sym, ap, subst, ◌∙◌, []}
+use Rattle.std.proofs.Common.{◌≡◌, ◌++◌, List, length, take, drop, ℤ, Bool, true, false, ◌&&◌, refl, sym, ap, subst, ◌∙◌, []}
 use Rattle.std.proofs.lemmas.List.{with_items_is}
 use Rattle.pv_machine.specs.Roles.{is_input, is_stored}
 use Rattle.pv_machine.specs.Ranges.{AreWithin}
 use Rattle.pv_mean.specs.Sources.{Source}
 use Rattle.pv_mean.specs.Cells.{most_calls}
-use Rattle.pv_mean.specs.Frames.{is_free, param_ranges, image_ranges, input_ranges, begin, image_after, start_image}
+use Rattle.pv_mean.specs.Frames.{is_free, param_ranges, image_ranges, input_ranges, visible_ranges, begin, image_after, start_image}
 use Rattle.pv_mean.specs.Endings.{ended}
 use Rattle.pv_mean.specs.Scans.{ScanEnd as End, scan_from}
 use Rattle.pv_mean.specs.Runs.{start}
@@ -20,17 +20,25 @@ use Rattle.pv_replay.specs.Images.{AreLong, BeginLong, stored_count}
 use Rattle.pv_replay.specs.Ends.{scan_end, is_done}
 use Rattle.pv_replay.specs.Replays.{IsReplayOf, IsScanned, Leaves, image_of, begin_of, end_of}
 use Rattle.pv_replay.proofs.ImageLaws.{begin-roles, left-roles, count-roles, length-within, long-values, begin-long}
+use Rattle.pv_replay.proofs.RangeLaws.{within-begin}
 
 -- the visible cells at a scan's beginning
 begins : (source : Source) (r : Replay) (input values : List ℤ) → IsReplayOf source r → AreWithin (input_ranges source.cells) input
-    → (AreLong input → values ≡ images.begin_of r.roles.items r.image.items input) → values ≡ begin source.cells r.image.items input
+    → (AreLong input → values ≡ images.begin_by_roles r.roles.items r.image.items input) → values ≡ begin source.cells r.image.items input
 begins source r input values is within put =
     put (long-values (λ c. is_input c.role) source.cells input is.starts.bound within)
-    ∙ ap (λ rs. images.begin_of rs r.image.items input) is.roles
+    ∙ ap (λ rs. images.begin_by_roles rs r.image.items input) is.roles
     ∙ sym (begin-roles source.cells r.image.items input)
 
+pub range_scanned : (source : Source) (before : Replay) (input values told : List ℤ) → IsReplayOf source before → AreWithin (image_ranges source.cells) (image_of before)
+    → AreWithin (input_ranges source.cells) input → (AreLong input → values ≡ images.begin_by_roles before.roles.items before.image.items input)
+    → told ≡ values → AreWithin (visible_ranges source.cells) told
+range_scanned source before input values told is imaged within put begun =
+    subst (AreWithin (visible_ranges source.cells)) (sym (begun ∙ begins source before input values is within put))
+    (within-begin source.cells before.image.items input is.starts.bound imaged within)
+
 pub scanned_done : (source : Source) (before after : Replay) (input values ran : List ℤ) → IsReplayOf source before → AreWithin (input_ranges source.cells) input
-    → (AreLong input → values ≡ images.begin_of before.roles.items before.image.items input)
+    → (AreLong input → values ≡ images.begin_by_roles before.roles.items before.image.items input)
     → ended ran ≡ (scan_from source most_calls values).end
     → begin_of after ≡ values → end_of after ≡ ran → image_of after ≡ images.left_of before.roles.items before.image.items ran
     → IsScanned source before after input Done
@@ -59,8 +67,18 @@ stops_not_done Done (stop.Over place) is = let e = is [] in absurd cc
 stops_not_done (Trap kind place) s is = refl
 stops_not_done (Over place) s is = refl
 
+-- ---- readiness
+
+pub stays_ready : (r : Bool) → r ≡ (r && true)
+stays_ready true = refl
+stays_ready false = refl
+
+pub not_ready : (r : Bool) (end : ScanEnd) (s : Stop) → ((vs : List ℤ) → scan_end end vs ≡ stop_end s) → false ≡ (r && is_done end)
+not_ready true end s is = stops_not_done end s is
+not_ready false end s is = refl
+
 pub scanned_stop : (source : Source) (before after : Replay) (input values : List ℤ) (end : ScanEnd) (s : Stop) → IsReplayOf source before → AreWithin (input_ranges source.cells) input
-    → (AreLong input → values ≡ images.begin_of before.roles.items before.image.items input)
+    → (AreLong input → values ≡ images.begin_by_roles before.roles.items before.image.items input)
     → stop_end s ≡ (scan_from source most_calls values).end → ((vs : List ℤ) → scan_end end vs ≡ stop_end s)
     → begin_of after ≡ values
     → IsScanned source before after input end

@@ -1,4 +1,4 @@
--- Images and the visible cells at a scan's beginning, by the roles of the visible cells alone.
+-- Numbers that 64 bits hold; images and the visible cells at a scan's beginning, by the roles of the visible cells alone.
 use Rattle.std.specs.Prelude.{ℕ, ◌^◌, ◌<◌, ℤ, pos, neg_ℤ, ◌≤ℤ◌, ◌<ℤ◌, List, [], ◌∷◌, map, length, filter, not, Bool, true, false, Option, Some, None, cond, slice_index_or, ◌≡◌}
 use Rattle.pv_word.specs.Types.{InRange}
 use Rattle.pv_machine.specs.declared.role.Role.{Role}
@@ -35,10 +35,10 @@ abbrev pub behind : Bool → List ℤ → List ℤ
 behind true values = others values
 behind false values = values
 
-abbrev pub begin_of : List Role → List ℤ → List ℤ → List ℤ
-begin_of [] image input = []
-begin_of (r ∷ rs) image input = begun (is_input r) (first image) (first input)
-    ∷ begin_of rs (behind (not (is_input r)) image) (behind (is_input r) input)
+abbrev pub begin_by_roles : List Role → List ℤ → List ℤ → List ℤ
+begin_by_roles [] image input = []
+begin_by_roles (r ∷ rs) image input = begun (is_input r) (first image) (first input)
+    ∷ begin_by_roles rs (behind (not (is_input r)) image) (behind (is_input r) input)
 
 -- ---- what a scan leaves
 
@@ -64,7 +64,7 @@ started Param (Some v) start next = v
 started Kept bound start next = start
 started Brief bound start next = start
 
--- a cell whose values before the first scan 64 bits hold
+-- a cell whose values before the first scan lie in its type, and so 64 bits hold them
 pub record BeginsLong (c : Cell) : Type 0 where
   pub start : InRange c.ty c.start
   pub bound : BindsInRange c

@@ -1,5 +1,5 @@
 -- Replays: which sources one is a replay of, and what a scan makes of it.
-use Rattle.std.specs.Prelude.{◌≡◌, List, Bool, ⊤}
+use Rattle.std.specs.Prelude.{◌≡◌, List, Bool, ⊤, Some, slice_get}
 use Rattle.std.specs.List.{AllByRecursion}
 use Rattle.pv_word.specs.Types.{InRange}
 use Rattle.pv_mean.specs.declared.cell.Cell.{Cell}
@@ -44,8 +44,11 @@ pub record HasStarts (source : Source) : Type 0 where
   pub starts : AllByRecursion (λ c. InRange c.ty c.start) source.cells
   pub bound : AllByRecursion BindsInRange source.cells
 
+-- the view says which block of the project is entered, and the bound on the turns of a loop
 pub record IsReplayOf (source : Source) (r : Replay) : Type 0 where
   pub cells : source.cells ≡ cells_of r
+  pub bound : source.bound ≡ (view_of r).loop_bound
+  pub entry : slice_get source.project.blocks (view_of r).entry ≡ Some source.entry
   pub starts : HasStarts source
   pub program : IsProgram source r.program
   pub roles : r.roles.items ≡ roles_of source.cells

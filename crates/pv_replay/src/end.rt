@@ -11,7 +11,7 @@ use pv_run::Stop;
 pub enum ScanEnd {
     /// The entered block has run to its end.
     Done,
-    /// An instruction or an operator at this place can't go on.
+    /// What stands at this place can't go on: an operator, an index by its `[`, an operand or a call by its first token.
     Trap(TrapKind, Place),
     /// An entry into the loop at this place would take one turn more than the bound.
     Over(Place),

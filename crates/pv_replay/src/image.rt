@@ -1,8 +1,8 @@
 //! Images: what is stored from scan to scan, and the visible cells at a scan's beginning.
-ghost use Rattle.std.specs.Prelude.{◌≡◌, ◌≤◌, length, slice_index_or, pos};
+ghost use Rattle.std.specs.Prelude.{◌≡◌, ◌≤◌, length, slice_index_or, pos, All};
 ghost use Rattle.std.specs.List.{AllByRecursion};
 ghost use Rattle.pv_mean.specs.Frames.{image_len, start_image, is_free};
-ghost use Rattle.pv_replay.specs.Images.{IsLong, AreLong, BeginLong, BeginsLong, stored_count, begun, begin_of, left_of, started};
+ghost use Rattle.pv_replay.specs.Images.{IsLong, AreLong, BeginLong, BeginsLong, stored_count, begun, begin_by_roles, left_of, started};
 ghost use Rattle.pv_replay.specs.Images as images;
 
 use pv_machine::Role;
@@ -41,7 +41,7 @@ fn long(v: i128) -> i64
 /// The visible cells at a scan's beginning: those of an input take the values of the input, and the others those of the image.
 pub(crate) fn begin(roles: &[Role], image: &[i64], input: &[i128], values: &mut [i64])
     requires { length values.old ≡ length roles.now }
-    ensures { AreLong input.now → values.new ≡ begin_of roles.now image.now input.now }
+    ensures { AreLong input.now → values.new ≡ begin_by_roles roles.now image.now input.now }
 {
     let mut stored = 0;
     let mut given = 0;
@@ -137,7 +137,8 @@ pub(crate) fn narrow(from: &[i128], to: &mut [i64])
 /// The same values, in 128 bits.
 pub(crate) fn widen(from: &[i64], to: &mut [i128])
     requires { length to.old ≡ length from.now }
-    ensures { to.new ≡ from.now }
+    ensures same { to.new ≡ from.now }
+    ensures long { All IsLong to.new }
 {
     for (number, v) in from.iter().enumerate() {
         to[number] = i128::from(*v);

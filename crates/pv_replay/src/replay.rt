@@ -1,8 +1,8 @@
 //! A project's entered block, ready to be run scan by scan.
-ghost use Rattle.std.specs.Prelude.{◌≡◌, ◌≤◌, ◌+◌, ◌*◌, length, not, true, false, IfOk};
+ghost use Rattle.std.specs.Prelude.{◌≡◌, ◌≤◌, ◌+◌, ◌*◌, ◌&&◌, length, not, true, false, IfOk, All};
 ghost use Rattle.pv_mean.specs.Cells.{most_calls};
 ghost use Rattle.pv_mean.specs.Frames.{is_brief, image_len};
-ghost use Rattle.pv_replay.specs.Images.{roles_of, stored_count};
+ghost use Rattle.pv_replay.specs.Images.{IsLong, roles_of, stored_count};
 
 use crate::end::ScanEnd;
 use crate::image;
@@ -33,6 +33,8 @@ pub struct Replay<'a> {
     ghost visible: { length values.items ≡ length roles.items },
     ghost beginning: { length begin.items ≡ length values.items },
     ghost ending: { length end.items ≡ length values.items },
+    ghost long_beginning: { All IsLong begin.items },
+    ghost long_ending: { All IsLong end.items },
     ghost room: { (most_calls + 1) * program.widest ≤ length brief.items },
     ghost space: { program.scratch ≤ length scratch.items },
 }
@@ -78,19 +80,22 @@ fn brief_cells(alloc: Global, widest: usize) -> Result<Vec<Option<i64>>, AllocEr
 impl<'a> Replay<'a> {
     ghost use Rattle.pv_machine.specs.Ranges.{AreWithin};
     ghost use Rattle.pv_mean.specs.Sources.{Source};
-    ghost use Rattle.pv_mean.specs.Frames.{param_ranges, image_ranges, input_ranges};
+    ghost use Rattle.pv_mean.specs.Frames.{param_ranges, image_ranges, input_ranges, visible_ranges};
     ghost use Rattle.pv_mean.specs.Runs.{start};
     ghost use Rattle.pv_run.specs.Code.{IsProgram};
     ghost use Rattle.pv_replay.specs.Ends.{scan_end, is_done};
     ghost use Rattle.pv_replay.specs.Replays.{IsReplayOf, IsScanned, HasStarts, image_of, begin_of, end_of, is_ready, cells_of, view_of};
 
-    /// The replay of a program on these cells. It isn't ready before an image is given.
+    /// The replay of a program on these cells. The program enters the view's block, and loops have the view's bound. It isn't ready
+    /// before an image is given.
     pub fn of(
         alloc: Global,
         program: Program,
         view: &'a CaseView,
         cells: &'a [Cell],
     ) -> Result<Replay<'a>, AllocError>
+        requires bound { program.bound ≡ view.now.loop_bound }
+        requires entry { program.entry ≡ view.now.entry }
         ensures of { IfOk result (λ r. (source : Source) → source.cells ≡ cells.now
             → HasStarts source → IsProgram source program → IsReplayOf source r) }
         ensures lent { IfOk result (λ r. (cells_of r ≡ cells.now) × (view_of r ≡ view.now)) }
@@ -125,6 +130,8 @@ impl<'a> Replay<'a> {
             → AreWithin (param_ranges source.cells) params.now
             → image_of self.new ≡ start source params.now }
         ensures ready { is_ready self.new ≡ true }
+        ensures told { (begin_of self.new ≡ begin_of self.old) × (end_of self.new ≡ end_of self.old) }
+        ensures lent { (cells_of self.new ≡ cells_of self.old) × (view_of self.new ≡ view_of self.old) }
         ensures of { (source : Source) → IsReplayOf source self.old → IsReplayOf source self.new }
     {
         image::start(self.cells, params, &mut self.image);
@@ -137,19 +144,29 @@ impl<'a> Replay<'a> {
         ensures image { (source : Source) → IsReplayOf source self.old
             → AreWithin (image_ranges source.cells) image.now → image_of self.new ≡ image.now }
         ensures ready { is_ready self.new ≡ true }
+        ensures told { (begin_of self.new ≡ begin_of self.old) × (end_of self.new ≡ end_of self.old) }
+        ensures lent { (cells_of self.new ≡ cells_of self.old) × (view_of self.new ≡ view_of self.old) }
         ensures of { (source : Source) → IsReplayOf source self.old → IsReplayOf source self.new }
     {
         image::narrow(image, &mut self.image);
         self.ready = true;
     }
 
-    /// One scan, with these values of the input cells, in the order of the table, each in its range. After a scan that is done the
-    /// replay stays ready; after a trap or a loop that is over its bound it isn't, until an image is given.
+    /// One scan, with these values of the input cells, in the order of the table, each in its range. It is for a replay that is ready,
+    /// which stays so after a scan that is done; after a trap or a loop that is over its bound it isn't, until an image is given, and
+    /// what is stored is as before.
     pub fn scan(&mut self, input: &[i128]) -> ScanEnd
         ensures scan { (source : Source) → IsReplayOf source self.old → is_ready self.old ≡ true
             → AreWithin (input_ranges source.cells) input.now
             → IsScanned source self.old self.new input.now result }
-        ensures ready { is_ready self.new ≡ is_done result }
+        ensures range { (source : Source) → IsReplayOf source self.old
+            → AreWithin (image_ranges source.cells) (image_of self.old)
+            → AreWithin (input_ranges source.cells) input.now
+            → AreWithin (visible_ranges source.cells) (begin_of self.new) }
+        ensures stopped { is_done result ≡ false
+            → (image_of self.new ≡ image_of self.old) × (end_of self.new ≡ end_of self.old) }
+        ensures ready { is_ready self.new ≡ (is_ready self.old && is_done result) }
+        ensures lent { (cells_of self.new ≡ cells_of self.old) × (view_of self.new ≡ view_of self.old) }
         ensures of { (source : Source) → IsReplayOf source self.old → IsReplayOf source self.new }
     {
         image::begin(&self.roles, &self.image, input, &mut self.values);
@@ -161,7 +178,6 @@ impl<'a> Replay<'a> {
             Ok(()) => {
                 image::widen(&self.values, &mut self.end);
                 image::keep(&self.roles, &self.values, &mut self.image);
-                self.ready = true;
                 ScanEnd::Done
             }
             Err(stop) => {
@@ -171,16 +187,19 @@ impl<'a> Replay<'a> {
         }
     }
 
-    /// The visible cells at the last scan's beginning, in the order of the table.
+    /// The visible cells at the last scan's beginning, in the order of the table; before there is one no clause says what they are.
     pub fn begin(&self) -> &[i128]
-        ensures { result.now ≡ begin_of self.now }
+        ensures told { result.now ≡ begin_of self.now }
+        ensures long { All IsLong result.now }
     {
         &self.begin
     }
 
-    /// The visible cells at the end of the last scan that was done, in the order of the table.
+    /// The visible cells at the end of the last scan that was done, in the order of the table; before there is one no clause says what
+    /// they are.
     pub fn end(&self) -> &[i128]
-        ensures { result.now ≡ end_of self.now }
+        ensures told { result.now ≡ end_of self.now }
+        ensures long { All IsLong result.now }
     {
         &self.end
     }

@@ -3,6 +3,7 @@ pub mod Names
 pub mod Least
 pub mod Patterns
 pub mod Answers
+pub mod StartPieces
 -- what only private clauses cite
 pub mod BlockLists
 pub mod Declarations
@@ -11,7 +12,6 @@ pub mod Graphs
 pub mod Links
 pub mod OnDeclarations
 pub mod Searches
-pub mod StartPieces
 pub mod Starts
 pub mod TypeNames
 pub mod TypeNumbers

@@ -13,7 +13,7 @@ use pv_types::Name;
 use pv_word::Ty;
 
 /// The project of these blocks and symbols, or the first breach, by the nearest place of each rule that they may break.
-pub(crate) fn answered(
+pub fn answered(
     blocks: Blocks,
     symbols: Vec<(Name, Operand, Ty)>,
     all: &[Found],

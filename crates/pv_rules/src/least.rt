@@ -7,13 +7,13 @@ use pv_machine::Place;
 
 /// The nearest place at which a rule is broken, if it is.
 #[derive(Clone, Copy)]
-pub(crate) struct Found {
-    pub(crate) rule: Rule,
-    pub(crate) place: Option<Place>,
+pub struct Found {
+    pub rule: Rule,
+    pub place: Option<Place>,
 }
 
 /// A rule with the nearest place at which it is broken.
-pub(crate) fn make_found(rule: Rule, place: Option<Place>) -> Found
+pub fn make_found(rule: Rule, place: Option<Place>) -> Found
     ensures { result ≡ record { rule = rule; place = place } }
 {
     Found { rule, place }

@@ -21,9 +21,18 @@ mod starts;
 mod types;
 
 pub use fault::{Breach, Rule, RuleFault};
+pub use joining::answered;
+pub use least::{Found, make_found};
+pub use on_declarations::{doubled_name, misplaced_date, wrong_array};
+pub use on_starts::{
+    address_in_values, beyond_in_values, misfit_in_values, misfit_start, missing_in_values,
+    outside_in_values, outside_start, wrong_value,
+};
 pub use pattern_expression::{
     beyond_in, check_expression, misfit_in, no_pattern_in, pattern_breach,
 };
+pub use starts::StartLook;
+pub use types::missing_type;
 
 #[cfg(test)]
 mod tests;

@@ -33,7 +33,7 @@ fn wrong_arrays_of(
 }
 
 /// The least place of an array that can't be laid out.
-pub(crate) fn wrong_array(alloc: Global, blocks: &[Block]) -> Result<Option<Place>, AllocError>
+pub fn wrong_array(alloc: Global, blocks: &[Block]) -> Result<Option<Place>, AllocError>
     ensures { (project : ProjectTree) → project.blocks ≡ map block_tree blocks.now
         → IfOk result (λ r. IsNearest (IsWrongArray project) r) }
 {
@@ -57,7 +57,7 @@ fn misplaced_dates_of(
 }
 
 /// The least place of a variable of DATE_AND_TIME that may not stand there, which is a misfit.
-pub(crate) fn misplaced_date(alloc: Global, blocks: &[Block]) -> Result<Option<Place>, AllocError>
+pub fn misplaced_date(alloc: Global, blocks: &[Block]) -> Result<Option<Place>, AllocError>
     ensures { (project : ProjectTree) → project.blocks ≡ map block_tree blocks.now
         → IfOk result (λ r. IsNearest (λ at. Any (MisplacesDate at) project.blocks) r) }
 {
@@ -125,7 +125,7 @@ fn doubled_names_of(
 }
 
 /// The least place of a name that is declared twice.
-pub(crate) fn doubled_name(alloc: Global, blocks: &[Block]) -> Result<Option<Place>, AllocError>
+pub fn doubled_name(alloc: Global, blocks: &[Block]) -> Result<Option<Place>, AllocError>
     ensures { (project : ProjectTree) → project.blocks ≡ map block_tree blocks.now
         → IfOk result (λ r. IsNearest (IsDoubledName project) r) }
 {

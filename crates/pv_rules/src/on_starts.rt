@@ -95,20 +95,14 @@ pub(crate) fn nearest_piece<'p>(
 }
 
 /// The least place of a start value that doesn't fit its declaration.
-pub(crate) fn misfit_start<'p>(
-    alloc: Global,
-    tables: &'p Tables<'p>,
-) -> Result<Option<Place>, AllocError>
+pub fn misfit_start<'p>(alloc: Global, tables: &'p Tables<'p>) -> Result<Option<Place>, AllocError>
     ensures { IfOk result (IsNearest (InBlocks MisfitsStart (project_of tables.now))) }
 {
     nearest_piece(alloc, tables, Piece::MisfitStart)
 }
 
 /// The least place of a start value outside its type.
-pub(crate) fn outside_start<'p>(
-    alloc: Global,
-    tables: &'p Tables<'p>,
-) -> Result<Option<Place>, AllocError>
+pub fn outside_start<'p>(alloc: Global, tables: &'p Tables<'p>) -> Result<Option<Place>, AllocError>
     ensures { IfOk result (IsNearest (InBlocks HasOutsideStart (project_of tables.now))) }
 {
     nearest_piece(alloc, tables, Piece::OutsideStart)
@@ -116,7 +110,7 @@ pub(crate) fn outside_start<'p>(
 
 /// The least place where the name of a part of a data block that is given a value isn't there, where an index on the way there
 /// breaks a rule, or where the value does.
-pub(crate) fn wrong_value<'p>(
+pub fn wrong_value<'p>(
     alloc: Global,
     tables: &'p Tables<'p>,
     what: StartLook,
@@ -127,7 +121,7 @@ pub(crate) fn wrong_value<'p>(
 }
 
 /// The least place, in the indexes of parts of data blocks that are given values, of a name that isn't there.
-pub(crate) fn missing_in_values<'p>(
+pub fn missing_in_values<'p>(
     alloc: Global,
     tables: &'p Tables<'p>,
 ) -> Result<Option<Place>, AllocError>
@@ -137,7 +131,7 @@ pub(crate) fn missing_in_values<'p>(
 }
 
 /// The least place, in the indexes of parts of data blocks that are given values, of a literal outside its type.
-pub(crate) fn outside_in_values<'p>(
+pub fn outside_in_values<'p>(
     alloc: Global,
     tables: &'p Tables<'p>,
 ) -> Result<Option<Place>, AllocError>
@@ -147,7 +141,7 @@ pub(crate) fn outside_in_values<'p>(
 }
 
 /// The least place, in the indexes of parts of data blocks that are given values, of a literal index beyond its bounds.
-pub(crate) fn beyond_in_values<'p>(
+pub fn beyond_in_values<'p>(
     alloc: Global,
     tables: &'p Tables<'p>,
 ) -> Result<Option<Place>, AllocError>
@@ -167,7 +161,7 @@ pub(crate) fn void_in_values<'p>(
 }
 
 /// The least place, in the indexes of parts of data blocks that are given values, of an address that there isn't.
-pub(crate) fn address_in_values<'p>(
+pub fn address_in_values<'p>(
     alloc: Global,
     tables: &'p Tables<'p>,
 ) -> Result<Option<Place>, AllocError>
@@ -177,7 +171,7 @@ pub(crate) fn address_in_values<'p>(
 }
 
 /// The least place, in the indexes of parts of data blocks that are given values, of a misfit.
-pub(crate) fn misfit_in_values<'p>(
+pub fn misfit_in_values<'p>(
     alloc: Global,
     tables: &'p Tables<'p>,
 ) -> Result<Option<Place>, AllocError>

@@ -259,7 +259,7 @@ impl TypeGraph {
 }
 
 /// The least place of a name of a type that isn't declared, or contains itself.
-pub(crate) fn missing_type(alloc: Global, blocks: &[Block]) -> Result<Option<Place>, AllocError>
+pub fn missing_type(alloc: Global, blocks: &[Block]) -> Result<Option<Place>, AllocError>
     ensures { (project : ProjectTree) → project.blocks ≡ map block_tree blocks.now
         → IfOk result (λ r. IsNearest (IsMissingType project) r) }
 {

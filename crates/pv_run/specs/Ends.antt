@@ -29,7 +29,7 @@ abbrev pub ending_of : Result Flow Stop → Frame → Ending
 ending_of (Ok f) frame = flow_ending f frame
 ending_of (Err s) frame = stop_ending s
 
--- what gives a value, and never goes over a loop's bound
+-- what gives a value or stops
 abbrev pub value_of : Result ℤ Stop → Ended ℤ
 value_of (Ok v) = ended v
 value_of (Err s) = stop_end s

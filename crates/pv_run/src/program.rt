@@ -6,7 +6,7 @@ use pv_eval::{Expression, Target};
 use pv_machine::Place;
 use pv_word::Ty;
 
-/// A program has fewer statements.
+/// Each body ends before the statement of this number.
 pub const MOST_STATEMENTS: u32 = 2_147_483_648;
 
 /// A part of an array: from the number `first` up to before `end`.
@@ -158,7 +158,7 @@ pub struct Program {
     pub calls: Vec<Called>,
     pub inward: Vec<Inward>,
     pub outward: Vec<Outward>,
-    /// By the numbers of the project's blocks: of the one that is entered, and of those that calls lead to from there.
+    /// By the numbers of the project's blocks: at least of the one that is entered, and of those that calls lead to from there.
     pub blocks: Vec<Option<Code>>,
     /// The number of the block that is entered.
     pub entry: u32,

@@ -1,5 +1,5 @@
 -- What reading a text of SCL answers.
-use Rattle.std.specs.Prelude.{◌≡◌, ◌≤◌, ℕ, List, Result, Ok, Err}
+use Rattle.std.specs.Prelude.{◌≡◌, ◌≤◌, ℕ, List, Contains, Result, Ok, Err}
 use Rattle.pv_machine.specs.declared.place.Place.{Place}
 use Rattle.pv_lex.specs.declared.token.Token.{Token}
 use Rattle.pv_lex.specs.declared.token.Language.TheVariants.{Scl}
@@ -20,9 +20,10 @@ pub record IsOnlyExpression (tokens : List Lexeme) (tree : ExprTree) : Type 0 wh
   pub only : (other : ExprTree) → ReadAsExpression other reads.inner → other ≡ tree
   pub levels : levels tree ≤ most_levels
 
--- the first token outside the profile
+-- the first token outside the profile, one of the text's
 pub record IsOutsideAt (text : List ℕ) (tokens : List Token) (place : Place) (len : ℕ) : Type 0 where
   pub token : Token
+  pub there : Contains tokens token
   pub first : IsFirstOutside Scl (lexemes_of text tokens) (lexeme_of text token)
   pub placed : place ≡ token.place
   pub long : len ≡ token.len

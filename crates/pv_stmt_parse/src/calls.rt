@@ -197,7 +197,7 @@ fn first_argument(alloc: Global, stack: &mut Vec<Item>) -> Result<(), Stop>
     ensures { Leaves result (stack_of stack.new) (first_argument_deed (stack_of stack.old)) }
 {
     let arg = pop_named(alloc, stack)?;
-    let mut args = Vec::new(alloc);
+    let mut args = Vec::with_capacity(alloc, 1)?;
     args.push(arg)?;
     push(stack, Item::Code(CodeItem::Args(args)))?;
     Ok(())
@@ -243,7 +243,7 @@ fn alone(alloc: Global, stack: &mut Vec<Item>) -> Result<(), Stop>
 {
     let value = pop_expr(stack)?;
     let place = first_place(&value);
-    let mut args = Vec::new(alloc);
+    let mut args = Vec::with_capacity(alloc, 1)?;
     args.push(Arg {
         name: None,
         value,

@@ -142,6 +142,15 @@ pub fn pop_stmts<'a>(stack: &mut Vec<Item<'a>>) -> Result<Vec<Stmt>, Stop>
     Ok(found)
 }
 
+/// Takes a list of statements to which no more comes, with no room beyond them.
+pub fn pop_whole<'a>(stack: &mut Vec<Item<'a>>) -> Result<Vec<Stmt>, Stop>
+    ensures { Pops stmt_list result (stack_of stack.new) (stmts_on (stack_of stack.old)) }
+{
+    let mut found = pop_stmts(stack)?;
+    found.shrink_to_fit();
+    Ok(found)
+}
+
 fn arms_in(item: CodeItem) -> Result<Vec<(Expr, Vec<Stmt>)>, Stop>
     ensures { Finds arm_list result (arms_in (code_of item)) }
 {

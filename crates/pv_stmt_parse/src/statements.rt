@@ -11,7 +11,7 @@ ghost use Rattle.pv_parse.specs.StmtDeeds.{single_of, drop_deed, empty_deed, sin
 use crate::calls::root_name;
 use crate::code_stack::{
     pop_arms, pop_branches, pop_by, pop_call, pop_choice, pop_choices, pop_else, pop_literal,
-    pop_stmt, pop_stmts, pop_value,
+    pop_stmt, pop_stmts, pop_value, pop_whole,
 };
 use crate::making::{case_of, if_of};
 use pv_machine::Place;
@@ -127,7 +127,7 @@ fn add(stack: &mut Vec<Item>) -> Result<(), Stop>
 fn pop_arm(stack: &mut Vec<Item>) -> Result<(Expr, Vec<Stmt>), Stop>
     ensures { Pops arm_tree result (stack_of stack.new) (arm_on (stack_of stack.old)) }
 {
-    let body = pop_stmts(stack)?;
+    let body = pop_whole(stack)?;
     let _word = pop_token(stack)?;
     let cond = pop_expr(stack)?;
     Ok((cond, body))
@@ -138,7 +138,7 @@ fn first_arm(alloc: Global, stack: &mut Vec<Item>) -> Result<(), Stop>
     ensures { Leaves result (stack_of stack.new) (first_arm_deed (stack_of stack.old)) }
 {
     let arm = pop_arm(stack)?;
-    let mut arms = Vec::new(alloc);
+    let mut arms = Vec::with_capacity(alloc, 1)?;
     arms.push(arm)?;
     push(stack, Item::Code(CodeItem::Arms(arms)))?;
     Ok(())
@@ -160,7 +160,7 @@ fn next_arm(stack: &mut Vec<Item>) -> Result<(), Stop>
 fn otherwise(stack: &mut Vec<Item>) -> Result<(), Stop>
     ensures { Leaves result (stack_of stack.new) (else_deed (stack_of stack.old)) }
 {
-    let body = pop_stmts(stack)?;
+    let body = pop_whole(stack)?;
     let _word = pop_token(stack)?;
     push(stack, Item::Code(CodeItem::Else(Some(body))))?;
     Ok(())
@@ -224,7 +224,7 @@ fn first_range(alloc: Global, stack: &mut Vec<Item>) -> Result<(), Stop>
 {
     let upper = pop_upper(stack)?;
     let lower = pop_choice(stack)?;
-    let mut label = Vec::new(alloc);
+    let mut label = Vec::with_capacity(alloc, 1)?;
     label.push((lower, Some(upper)))?;
     push(stack, Item::Code(CodeItem::Choices(label)))?;
     Ok(())
@@ -235,7 +235,7 @@ fn first_choice(alloc: Global, stack: &mut Vec<Item>) -> Result<(), Stop>
     ensures { Leaves result (stack_of stack.new) (first_choice_deed (stack_of stack.old)) }
 {
     let choice = pop_choice(stack)?;
-    let mut label = Vec::new(alloc);
+    let mut label = Vec::with_capacity(alloc, 1)?;
     label.push((choice, None))?;
     push(stack, Item::Code(CodeItem::Choices(label)))?;
     Ok(())
@@ -305,7 +305,7 @@ fn label(alloc: Global, stack: &mut Vec<Item>) -> Result<(), Stop>
 fn pop_closed(stack: &mut Vec<Item>) -> Result<Vec<(Choices, Vec<Stmt>)>, Stop>
     ensures { Pops branch_list result (stack_of stack.new) (closed_on (stack_of stack.old)) }
 {
-    let body = pop_stmts(stack)?;
+    let body = pop_whole(stack)?;
     let label = pop_choices(stack)?;
     let mut branches = pop_branches(stack)?;
     branches.push((label, body))?;
@@ -368,7 +368,7 @@ fn pop_body(stack: &mut Vec<Item>) -> Result<Vec<Stmt>, Stop>
     ensures { Pops stmt_list result (stack_of stack.new) (body_on (stack_of stack.old)) }
 {
     let _end = pop_token(stack)?;
-    let body = pop_stmts(stack)?;
+    let body = pop_whole(stack)?;
     let _word = pop_token(stack)?;
     Ok(body)
 }
@@ -426,7 +426,7 @@ fn repeat_until(stack: &mut Vec<Item>) -> Result<(), Stop>
     let _end = pop_token(stack)?;
     let cond = pop_expr(stack)?;
     let _until = pop_token(stack)?;
-    let body = pop_stmts(stack)?;
+    let body = pop_whole(stack)?;
     let word = pop_token(stack)?;
     push(
         stack,

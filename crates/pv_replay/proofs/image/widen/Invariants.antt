@@ -1,5 +1,5 @@
-use Rattle.std.proofs.Common.{◌≡◌, take}
+use Rattle.pv_replay.proofs.ImageLaws.{IsWidened}
 use Rattle.pv_replay.proofs.image.widen.Given as goal
 
 abbrev pub invariant-loop-number : goal.invariant-loop-number
-invariant-loop-number l = take l.number l.to ≡ take l.number l.from
+invariant-loop-number l = IsWidened l.from l.to l.number

@@ -1,6 +1,6 @@
 use Rattle.std.proofs.Common.{◌≡◌, length, rules, ap, ◌∙◌}
 use Rattle.pv_replay.specs.Images.{stored_count}
-use Rattle.pv_replay.proofs.ImageLaws.{count-roles}
+use Rattle.pv_replay.proofs.ImageLaws.{count-roles, long-zeros}
 use Rattle.pv_replay.proofs.replay.Replay.of.Goals as goal
 
 pub invariant_of-result : goal.invariant_of-result
@@ -12,6 +12,8 @@ invariant_of-result c =
       visible = search rules;
       beginning = search rules;
       ending = search rules;
+      long_beginning = long-zeros c.in_ok-begin.begin.items c.in_ok-roles.roles.len (search rules);
+      long_ending = long-zeros c.in_ok-end.end.items c.in_ok-roles.roles.len (search rules);
       room = search rules;
       space = search rules;
     }

@@ -1,0 +1,5 @@
+pub mod Marking
+pub mod Rising
+pub mod Reading
+pub mod Listing
+pub mod Gathering

@@ -1,0 +1,10 @@
+use Rattle.std.proofs.Common.{take}
+use Rattle.std.specs.Prelude.{flat_map}
+use Rattle.pv_tree.specs.View.{expr_tree}
+use Rattle.pv_bytes.specs.Operands.{operands_in, MarksAlso}
+use Rattle.pv_bytes.proofs.marks.Marks.mark_call.Given as goal
+
+abbrev pub invariant-loop-arg : goal.invariant-loop-arg
+invariant-loop-arg l =
+    MarksAlso l.area l.fn.self.flags.items l.self.flags.items (flat_map (λ a. operands_in (expr_tree a.value))
+    (take l.arg-index l.arg-items))

@@ -1,0 +1,22 @@
+use Rattle.std.proofs.Common.{ap}
+use Rattle.std.specs.Prelude.{option_to_list}
+use Rattle.pv_tree.specs.View.{stmt_tree}
+use Rattle.pv_tree.specs.Parts.{target_of}
+use Rattle.pv_bytes.proofs.Marking.{also_nothing, also_more, also_all, also_same}
+use Rattle.pv_bytes.proofs.marks.Marks.mark_targets.Goals as goal
+
+pub loop-stmt-init : goal.loop-stmt-init
+loop-stmt-init c = also_nothing c.args.area c.args.self.now.flags.items
+
+pub loop-stmt-preserved : goal.loop-stmt-preserved
+loop-stmt-preserved c =
+    also_more c.args.area (λ s. option_to_list (target_of (stmt_tree s.now))) c.args.stmts.now c.loop-stmt.stmt-index
+    c.stmt-item.result c.args.self.now.flags.items
+    c.loop-stmt.self.flags.items c.mark_own_of.new.self.flags.items c.loop-stmt-test.true c.stmt-item.is c.loop-stmt.invariant
+    (also_same c.args.area c.loop-stmt.self.flags.items c.mark_own_of.new.self.flags.items _ _
+    (ap option_to_list c.target_of.ensures) c.mark_own_of.ensures)
+
+pub returns : goal.returns
+returns c =
+    also_all c.args.area (λ s. option_to_list (target_of (stmt_tree s.now))) c.args.stmts.now c.loop-stmt.stmt-index
+    c.args.self.now.flags.items c.loop-stmt.self.flags.items c.loop-stmt-test.false c.loop-stmt.invariant

@@ -1,0 +1,16 @@
+pub mod Results
+pub mod Pushing
+pub mod Sums
+pub mod TypeTables
+pub mod Leaves
+pub mod PlanParts
+pub mod Forming
+pub mod OwnCells
+pub mod Starting
+pub mod DataCells
+pub mod DataFields
+pub mod FirstCallees
+pub mod Below
+pub mod Graphing
+pub mod CallNumbers
+pub mod TableParts

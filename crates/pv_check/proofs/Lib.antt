@@ -1,0 +1,13 @@
+pub mod AllRules
+pub mod Gathering
+pub mod Making
+pub mod NoInstructions
+pub mod OutputLaws
+pub mod PlainLaws
+pub mod ReadLaws
+pub mod Sources
+pub mod StatementLaws
+pub mod ValueLaws
+pub mod Walks
+pub mod WholeBlocks
+pub mod WholeRules

@@ -1,0 +1,19 @@
+use Rattle.std.proofs.Common.{sym, ap, ◌∙◌, map}
+use Rattle.std.specs.Prelude.{flat_map}
+use Rattle.pv_tree.specs.View.{expr_tree, stmt_tree, stmts_of}
+use Rattle.pv_names.specs.InScope.{scope_of}
+use Rattle.pv_names.proofs.ForCallers.{stmt-if}
+use Rattle.pv_expr_rules.specs.NearestIn.{nearest_in}
+use Rattle.pv_check.specs.Reads.{reads_in, reads_of_stmt}
+use Rattle.pv_check.specs.Values.{value_at}
+use Rattle.pv_check.proofs.ReadLaws.{conditions_seen}
+use Rattle.pv_check.proofs.reads.value_in_stmt.Goals as goal
+
+pub returns-in-If : goal.returns-in-If
+returns-in-If c =
+    let f = value_at (scope_of c.args.scope.now) (map (λ s. stmt_tree s.now) c.args.statements.now) in
+    c.value_in_conditions.ensures
+    ∙ ap (λ l. nearest_in f (flat_map reads_in (map (λ a. expr_tree a.0) l)) c.args.nearest) c.as_slice-in-If.ensures.value
+    ∙ ap (λ l. nearest_in f (flat_map reads_in l) c.args.nearest)
+    (sym (conditions_seen (λ a. (expr_tree a.0, stmts_of (map stmt_tree a.1.items))) c.in-If.arms.items))
+    ∙ ap (λ t. nearest_in f (reads_of_stmt t) c.args.nearest) (sym (ap stmt_tree c.in-If.is ∙ stmt-if c.in-If.arms c.in-If.other c.in-If.place))

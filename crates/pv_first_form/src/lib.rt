@@ -1,0 +1,12 @@
+//! Blocks of the first form as Boolean programs, by the meaning of the whole language.
+//!
+//! The definitions stand in `specs/`. A scan of such a block is its program's (`laws`), so what decides
+//! on Boolean programs decides on the block.
+#![tactic(auto)]
+
+mod first;
+mod form;
+pub mod laws;
+mod words;
+
+pub use first::first_form;

@@ -1,0 +1,4 @@
+pub mod Marking
+pub mod Members
+pub mod RoundLaws
+pub mod Searching

@@ -1,0 +1,7 @@
+-- what public clauses cite
+pub mod Members
+pub mod Graphs
+pub mod Steps
+pub mod Rounds
+-- what only private clauses cite
+pub mod Searches

@@ -1,0 +1,4 @@
+pub mod Stopping
+pub mod Values
+pub mod Statements
+pub mod Calls

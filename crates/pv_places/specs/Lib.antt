@@ -1,0 +1,2 @@
+-- cited by public contracts
+pub mod Places

@@ -1,0 +1,13 @@
+mod Laying
+mod Beginning
+mod Starting
+mod Seen
+mod Naming
+mod Ordered
+mod FormLaws
+mod Arguments
+mod Applying
+mod Fields
+mod Walking
+mod Elements
+mod Loops

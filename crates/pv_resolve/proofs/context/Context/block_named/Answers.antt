@@ -1,0 +1,18 @@
+use Rattle.std.proofs.Common.{refl}
+use Rattle.std.proofs.lemmas.Result.{IfOk-weaker}
+use Rattle.pv_names.specs.Entries.{block_of}
+use Rattle.pv_resolve.specs.Begins.{begin_at}
+use Rattle.pv_mean.specs.Activations.{at}
+use Rattle.pv_mean.specs.Spots.{nowhere}
+use Rattle.pv_resolve.proofs.Naming.{block_found, block_missing}
+use Rattle.pv_resolve.proofs.context.Context.block_named.Goals as goal
+
+pub returns-in-Some-clause-value : goal.returns-in-Some-clause-value
+returns-in-Some-clause-value c =
+    λ source first is. IfOk-weaker c.block.result _ _ (λ b e.
+    block_found c.args.self.now source c.args.name.now.key (block_of c.in-Some.entry.now) (begin_at b first) (at nowhere) is c.in-Some.ensures e)
+    (c.block.ensures.value source first is)
+
+pub returns-in-None-clause-value : goal.returns-in-None-clause-value
+returns-in-None-clause-value c =
+    λ source first is. block_missing c.args.self.now source c.args.name.now.key (at nowhere) (at nowhere) is c.in-None.ensures refl

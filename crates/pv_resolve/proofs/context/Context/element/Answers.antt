@@ -1,0 +1,18 @@
+use Rattle.std.proofs.Common.{sym, subst, arith}
+use Rattle.std.specs.Prelude.{IfOk}
+use Rattle.pv_resolve.specs.Walks.{GoesOn}
+use Rattle.pv_resolve.proofs.Elements.{goes_nowhere}
+use Rattle.pv_resolve.proofs.context.Context.element.Goals as goal
+
+pub returns-in-In-clause-goes : goal.returns-in-In-clause-goes
+returns-in-In-clause-goes c =
+    λ source base values is m. subst (λ b. IfOk c.part_element.result (λ w. GoesOn source base c.part_element.new.nodes.items b w c.args.place values))
+    (sym c.in-In.is) (c.part_element.ensures.goes source base values is m)
+
+pub returns-in-At-clause-grows : goal.returns-in-At-clause-grows
+returns-in-At-clause-grows c =
+    record { ordered = c.requires.ordered; longer = omega arith }
+
+pub returns-in-At-clause-goes : goal.returns-in-At-clause-goes
+returns-in-At-clause-goes c =
+    λ source base values is m. goes_nowhere source base _ c.args.begin c.args.from c.args.index c.args.place values _ c.in-At.is m

@@ -1,0 +1,16 @@
+use Rattle.std.proofs.Common.{sym, subst}
+use Rattle.pv_tree.specs.View.{expr_tree}
+use Rattle.pv_eval.specs.Order.{AreNodes}
+use Rattle.pv_resolve.specs.Contexts.{block_in}
+use Rattle.pv_resolve.proofs.Ordered.{no_nodes}
+use Rattle.pv_resolve.proofs.Loops.{expression_made}
+use Rattle.pv_resolve.proofs.context.Context.expression.Goals as goal
+
+pub expr-requires : goal.expr-requires
+expr-requires c =
+    subst AreNodes (sym c.new-nodes.ensures.items) no_nodes
+
+pub returns : goal.returns
+returns c =
+    λ source is. expression_made source (block_in c.args.self.now) _ _ _ _ _ (expr_tree c.args.e.now) c.new-nodes.ensures.items c.of.ensures.nodes
+    c.of.ensures.at (c.in_ok-n.ensures.means source is)

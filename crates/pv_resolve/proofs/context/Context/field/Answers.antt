@@ -1,0 +1,15 @@
+use Rattle.std.specs.Prelude.{option_map}
+use Rattle.pv_resolve.specs.Laying.{laid_tree}
+use Rattle.pv_resolve.specs.Begins.{begin_at}
+use Rattle.pv_resolve.proofs.Fields.{field_leads, spot_leads}
+use Rattle.pv_resolve.proofs.context.Context.field.Goals as goal
+
+pub returns-in_ok-found-in-In-clause-value : goal.returns-in_ok-found-in-In-clause-value
+returns-in_ok-found-in-In-clause-value c =
+    λ source is address a first. field_leads source c.args.begin c.in-In.part c.in-In.laid c.args.name.now.key
+    (option_map laid_tree c.in_ok-found-in-In.found) address a first (begin_at c.begin_with.result first) c.in-In.is
+    (c.in_ok-found-in-In.ensures source is) (c.begin_with.ensures.value first)
+
+pub returns-in-At-clause-value : goal.returns-in-At-clause-value
+returns-in-At-clause-value c =
+    λ source is address a first. spot_leads source c.args.begin _ c.args.name.now.key address a first c.in-At.is

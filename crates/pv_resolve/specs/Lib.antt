@@ -1,0 +1,9 @@
+-- what public clauses cite
+pub mod Contexts
+pub mod Laying
+pub mod Begins
+-- what only private clauses cite
+pub mod Growing
+pub mod Kinds
+pub mod Functions
+pub mod Walks

@@ -1,0 +1,67 @@
+//! A block of a project whose names are found.
+ghost use Rattle.std.specs.Prelude.{◌≡◌, ◌+◌, ◌≤◌, ◌↔◌, IfOk, Err};
+ghost use Rattle.pv_mean.specs.declared.count.TheConstants.{BEYOND};
+ghost use Rattle.pv_resolve.specs.declared.fault.ResolveFault.TheVariants.{TooLarge};
+ghost use Rattle.pv_tree.specs.View.{block_tree};
+ghost use Rattle.pv_names.specs.Tables.{project_of};
+ghost use Rattle.pv_mean.specs.Layout as layout;
+ghost use Rattle.pv_mean.specs.Sources.{Source};
+ghost use Rattle.pv_mean.specs.Sized.{sized_project};
+ghost use Rattle.pv_resolve.specs.Contexts.{IsContext, bytes_tree};
+
+use crate::fault::ResolveFault;
+use pv_mean::{BEYOND, Sizes};
+use pv_names::Scope;
+use pv_tree::Block;
+
+/// The numbers of the bytes of each area that have cells, in the order of the table.
+#[derive(Clone, Copy)]
+pub struct AreaBytes<'p> {
+    pub inputs: &'p [u64],
+    pub outputs: &'p [u64],
+    pub flags: &'p [u64],
+}
+
+/// A block of a project, and where its cells lie.
+#[derive(Clone, Copy)]
+pub struct Context<'p> {
+    pub scope: Scope<'p>,
+    /// Those of the project.
+    pub sizes: &'p Sizes<'p>,
+    /// The number of the first cell of data blocks, behind the entered block's.
+    pub data_first: u32,
+    /// The number of the first cell of the areas' bytes, behind the data blocks'.
+    pub bytes_first: u32,
+    pub bytes: AreaBytes<'p>,
+}
+
+/// The context of a block of a project that is entered at a block, where these bytes have cells. It is too large exactly where the
+/// entered block and the data blocks have more cells than a table may have.
+pub fn context_of<'p>(
+    scope: Scope<'p>,
+    sizes: &'p Sizes<'p>,
+    entered: &Block,
+    bytes: AreaBytes<'p>,
+) -> Result<Context<'p>, ResolveFault>
+    ensures context { (source : Source) → project_of scope.entry.tables.now ≡ source.project
+        → sized_project sizes.now ≡ source.project → block_tree entered.now ≡ source.entry
+        → bytes_tree bytes.entry ≡ source.bytes → IfOk result (λ c. IsContext c source) }
+    ensures scope { IfOk result (λ c. c.scope ≡ scope.entry) }
+    ensures too_large { (result ≡ Err TooLarge)
+        ↔ (BEYOND ≤ layout.entry_size (sized_project sizes.now) (block_tree entered.now)
+        + layout.data_size (sized_project sizes.now) (sized_project sizes.now).blocks) }
+{
+    let data_first = sizes.of_entry(entered);
+    let behind = sizes.of_data_blocks();
+    let bytes_first = data_first + behind;
+    if bytes_first >= BEYOND {
+        return Err(ResolveFault::TooLarge);
+    }
+    Ok(Context {
+        scope,
+        sizes,
+        data_first,
+        bytes_first,
+        bytes,
+    })
+}

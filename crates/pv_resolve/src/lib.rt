@@ -1,0 +1,21 @@
+//! Names of a block found: its expressions and operands as the nodes that pv_eval evaluates.
+//!
+//! A block's text is gone through once; nodes of a part stand before that of the whole. What is said of each call that adds nodes is
+//! what they mean behind those that are there (`Means`, `Names`), so that neither depth nor recursion is in any statement.
+#![tactic(auto)]
+
+mod begin;
+mod context;
+mod fault;
+mod forms;
+mod function;
+mod growing;
+mod laid;
+mod ready;
+mod resolve;
+mod walk;
+
+pub use begin::{Begin, Where, number_of, start_of};
+pub use context::{AreaBytes, Context, context_of};
+pub use fault::ResolveFault;
+pub use laid::Laid;
