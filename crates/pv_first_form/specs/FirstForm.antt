@@ -1,7 +1,8 @@
 -- The first form: function blocks of BOOL variables without start values and assignments to them, whose expressions are words,
 -- TRUE, FALSE, NOT, AND, OR and parentheses. What decides on Boolean programs takes this form alone.
-use Rattle.std.specs.Prelude.{◌≡◌, ◌⊎◌, ℤ, pos, List, All, true, false, is_some, Some, None, ⊤}
+use Rattle.std.specs.Prelude.{◌≡◌, ◌⊎◌, ◌≤◌, ℤ, pos, List, All, length, true, false, is_some, Some, None, ⊤}
 use Rattle.pv_word.specs.declared.types.Ty.TheVariants.{Bool}
+use Rattle.pv_types.specs.declared.layout.TheConstants.{MAX_LEAVES}
 use Rattle.pv_types.specs.declared.declaration.Section.{Section}
 use Rattle.pv_types.specs.declared.declaration.Section.TheVariants.{Input, Output, Static}
 use Rattle.pv_types.specs.Tree.{VarTree, var, plain}
@@ -77,3 +78,8 @@ pub record IsFirstForm (block : BlockTree) : Type 0 where
   pub value : block.value ≡ None
   pub vars : All IsFirstVar block.vars
   pub body : IsFirstBody block.vars block.body
+
+-- a block of which programs are made: one of the first form with no more variables than a table has cells
+pub record IsFirstBlock (block : BlockTree) : Type 0 where
+  pub form : IsFirstForm block
+  pub few : length block.vars ≤ MAX_LEAVES

@@ -1,30 +1,32 @@
 //! Blocks of the first form as Boolean programs.
 //!
 //! Each variable has one cell then, so the number of a word's cell is that of the variable.
-ghost use Rattle.std.specs.Prelude.{◌≡◌, ◌≤◌, ◌↔◌, ◌++◌, ℕ, List, All, OnOk, length, map, IfOk, IfSome, IsSome};
+ghost use Rattle.std.specs.Prelude.{◌≡◌, ◌↔◌, ◌++◌, ℕ, List, All, OnOk, map, IfOk, IfSome, IsSome};
 ghost use Rattle.pv_types.specs.View.{var_tree, var_trees};
 ghost use Rattle.pv_tree.specs.Tree.{OperandTree};
 ghost use Rattle.pv_tree.specs.View.{operand_tree, expr_tree, stmt_tree, stmt_trees, body_tree, block_tree};
 ghost use Rattle.pv_bool.specs.Tree.{term_tree, assignment_tree};
 ghost use Rattle.pv_bool.specs.Programs.{program_tree};
-ghost use Rattle.pv_first_form.specs.FirstForm.{IsFirstForm, IsFirstExpr, IsFirstOperand};
+ghost use Rattle.pv_first_form.specs.FirstForm.{IsFirstForm, IsFirstBlock, IsFirstExpr, IsFirstOperand};
 ghost use Rattle.pv_first_form.specs.Programs.{first_source, binary_term, term_by, assignments_of_stmt, assignments_by, assignments_of, program_of};
 ghost use Rattle.pv_first_form.specs.Numbering.{place_among, bit_of_var};
 
-use crate::form::{is_first_expr, is_first_form};
+use crate::form::{has_few_vars, is_first_expr, is_first_form};
 use crate::words::Words;
 use pv_bool::{Assignment, Bit, BitRole, Program, Term};
 use pv_tree::{BinaryOp, Block, Body, Expr, Operand, Stmt};
-use pv_types::{MAX_LEAVES, Section, Var};
+use pv_types::{Section, Var};
 use std::alloc::{AllocError, Global};
 
-/// The Boolean program of a block with a requirement: a program exactly where both are of the first
-/// form, each word of them one that the block declares. It is the program of the project that is
-/// this block alone, whatever words patterns name besides, and whatever the bound of loops. The one
-/// error is want of memory.
+/// The Boolean program of a block with a requirement: a program exactly where [`is_first_block`] says
+/// so of the block and [`is_first_requirement`] of the requirement. It is the program of the project
+/// that is this block alone, whichever of the block's words patterns name besides, and whatever the
+/// bound of loops. The one error is want of memory.
+///
+/// [`is_first_block`]: crate::is_first_block
+/// [`is_first_requirement`]: crate::is_first_requirement
 pub fn first_form(alloc: Global, block: &Block, a: &Expr) -> Result<Option<Program>, AllocError>
-    requires few { length (block_tree block.now).vars ≤ MAX_LEAVES }
-    ensures is_first { IfOk result (λ made. IsSome made ↔ (IsFirstForm (block_tree block.now)
+    ensures is_first { IfOk result (λ made. IsSome made ↔ (IsFirstBlock (block_tree block.now)
         × IsFirstExpr (block_tree block.now).vars (expr_tree a.now))) }
     ensures program { IfOk result (λ made. IfSome made (λ program.
         (patterns : List OperandTree) (bound : ℕ)
@@ -32,6 +34,9 @@ pub fn first_form(alloc: Global, block: &Block, a: &Expr) -> Result<Option<Progr
         → program_tree program
         ≡ program_of (first_source (block_tree block.now) patterns bound) (expr_tree a.now))) }
 {
+    if !has_few_vars(block) {
+        return Ok(None);
+    }
     let words = Words::of(alloc, block.interface.vars.as_slice())?;
     if !is_first_form(&words, block) || !is_first_expr(&words, a) {
         return Ok(None);

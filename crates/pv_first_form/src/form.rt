@@ -1,15 +1,45 @@
 //! Whether a block and an expression are of the first form: each test is of one part of the tree.
-ghost use Rattle.std.specs.Prelude.{◌≡◌, ◌↔◌, ◌⊎◌, ℕ, List, All, IsTrue, map, Some, None};
+ghost use Rattle.std.specs.Prelude.{◌≡◌, ◌≤◌, ◌↔◌, ◌⊎◌, ℕ, List, All, IfOk, IsTrue, length, map, Some, None};
 ghost use Rattle.pv_types.specs.Tree.{plain};
 ghost use Rattle.pv_types.specs.View.{type_tree, var_tree, var_trees};
 ghost use Rattle.pv_tree.specs.Tree.{no_steps};
 ghost use Rattle.pv_tree.specs.View.{operand_tree, step_tree, steps_of, expr_tree, stmt_tree, stmt_trees, body_tree, block_tree};
-ghost use Rattle.pv_first_form.specs.FirstForm.{IsFirstSection, IsFirstVar, IsFirstOperand, IsTruth, IsFirstExpr, IsFirstStmt, AreFirstStmts, IsFirstBody, IsFirstForm};
+ghost use Rattle.pv_first_form.specs.FirstForm.{IsFirstSection, IsFirstVar, IsFirstOperand, IsTruth, IsFirstExpr, IsFirstStmt, AreFirstStmts, IsFirstBody, IsFirstForm, IsFirstBlock};
 
 use crate::words::Words;
 use pv_tree::{BinaryOp, Block, BlockKind, Body, Expr, Operand, Step, Stmt, UnaryOp};
-use pv_types::{DeclType, Interface, Section, Var};
+use pv_types::{DeclType, Interface, MAX_LEAVES, Section, Var};
 use pv_word::Ty;
+use std::alloc::{AllocError, Global};
+
+/// Whether programs are made of the block: whether it is of the first form, with at most [`MAX_LEAVES`]
+/// variables. The one error is want of memory.
+pub fn is_first_block(alloc: Global, block: &Block) -> Result<bool, AllocError>
+    ensures { IfOk result (λ is. IsTrue is ↔ IsFirstBlock (block_tree block.now)) }
+{
+    if !has_few_vars(block) {
+        return Ok(false);
+    }
+    let words = Words::of(alloc, block.interface.vars.as_slice())?;
+    Ok(is_first_form(&words, block))
+}
+
+/// Whether a requirement is an expression of the first form over the words that the block declares.
+/// The one error is want of memory.
+pub fn is_first_requirement(alloc: Global, block: &Block, a: &Expr) -> Result<bool, AllocError>
+    requires few { length (block_tree block.now).vars ≤ MAX_LEAVES }
+    ensures { IfOk result (λ is. IsTrue is ↔ IsFirstExpr (block_tree block.now).vars (expr_tree a.now)) }
+{
+    let words = Words::of(alloc, block.interface.vars.as_slice())?;
+    Ok(is_first_expr(&words, a))
+}
+
+/// Whether the block has no more variables than a table has cells.
+pub(crate) fn has_few_vars(block: &Block) -> bool
+    ensures { IsTrue result ↔ (length (block_tree block.now).vars ≤ MAX_LEAVES) }
+{
+    block.interface.vars.len() <= MAX_LEAVES
+}
 
 /// Whether the block, whose words these are, is of the first form.
 pub(crate) fn is_first_form(words: &Words, block: &Block) -> bool

@@ -10,3 +10,4 @@ pub mod laws;
 mod words;
 
 pub use first::first_form;
+pub use form::{is_first_block, is_first_requirement};

@@ -1,3 +1,4 @@
+pub mod ForCallers
 pub mod Marking
 pub mod Members
 pub mod RoundLaws

@@ -3,7 +3,7 @@ use Rattle.std.proofs.Common.{◌≡◌, ℕ, suc, zero, ◌+◌, ◌<◌, List,
 use Rattle.std.specs.Prelude.{◌⊎◌, slice_set, if◌then◌else◌}
 use Rattle.std.proofs.lemmas.Bool.{true≢false, cases_Bool}
 use Rattle.pv_graph.proofs.Members.{has_front, has_behind, has_either}
-use Rattle.pv_graph.specs.Members.{HasSome, Has}
+use Rattle.pv_graph.specs.Members.{Has}
 use Rattle.pv_graph.specs.Searches.{Marks, is_new, marked, all_marked}
 
 -- ---- lists of truth values

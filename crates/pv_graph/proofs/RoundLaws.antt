@@ -1,11 +1,11 @@
 -- Marks, round by round: what a round marks is what marked nodes lead to.
-use Rattle.std.proofs.Common.{◌≡◌, ℕ, zero, suc, ◌+◌, ◌<◌, List, [], ◌∷◌, Bool, true, false, cond, map, drop, length, get_or, replicate, refl, ap, sym, subst, ◌∙◌, arith, inl, inr}
-use Rattle.std.specs.Prelude.{◌⊎◌, ◌↔◌, nat_lt, if◌then◌else◌, slice_index_or, slice_set, IsTrue}
+use Rattle.std.proofs.Common.{◌≡◌, ℕ, zero, suc, ◌+◌, ◌<◌, List, [], ◌∷◌, Bool, true, false, drop, length, get_or, replicate, refl, ap, sym, subst, ◌∙◌, arith, inl, inr}
+use Rattle.std.specs.Prelude.{◌⊎◌, nat_lt, if◌then◌else◌, slice_index_or, slice_set}
 use Rattle.std.proofs.Math.Seq.{drop-cons}
-use Rattle.std.proofs.lemmas.Bool.{true≢false, cases_Bool, ltb-true, ltb-false}
-use Rattle.pv_graph.specs.Members.{HasSome, Has}
+use Rattle.std.proofs.lemmas.Bool.{true≢false, cases_Bool, ltb-false}
+use Rattle.pv_graph.specs.Members.{Has}
 use Rattle.pv_graph.specs.declared.targets.Targets.{Targets}
-use Rattle.pv_graph.specs.Graphs.{lists_of, next_of, EndsAt}
+use Rattle.pv_graph.specs.Graphs.{lists_of, next_of}
 use Rattle.pv_graph.specs.Rounds.{mark_one, mark_each, step_marks, IsMarked, AreEnds}
 use Rattle.pv_graph.proofs.Searching.{nodes_counted}
 

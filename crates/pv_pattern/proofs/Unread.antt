@@ -63,7 +63,7 @@ behind_same source act f g b (steps step more) h =
     and_then_both (step_behind source act f b step) (step_behind source act g b step) (λ c. behind source act f c more)
     (λ c. behind source act g c more) (step_same source act f g b step h.0) (λ c. behind_same source act f g c more h.1)
 
-located_same : (source : Source) (act : Activation) (f g : Frame) (o : OperandTree) → IsFixedOperand o
+pub located_same : (source : Source) (act : Activation) (f g : Frame) (o : OperandTree) → IsFixedOperand o
     → locate source act f o ≡ locate source act g o
 located_same source act f g (operand root path place) h =
     ap (λ t. and_then t (λ b. got (spot_of b))) (behind_same source act f g (root_begins source act root) path h)

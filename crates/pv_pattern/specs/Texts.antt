@@ -1,6 +1,6 @@
 -- What the texts of a pattern say. A text is at fault where it reads as no expression, where its expression breaks a rule, reads a
 -- brief cell or isn't BOOL; the first of these counts, and of several texts the first that is at fault.
-use Rattle.std.specs.Prelude.{◌≡◌, ◌⊎◌, ℕ, zero, suc, List, [], ◌∷◌, ◌++◌, filter, Bool as Truth, false, Option, Some, None, IsTrue}
+use Rattle.std.specs.Prelude.{◌≡◌, ◌⊎◌, ℕ, zero, suc, List, [], ◌∷◌, ◌++◌, map, filter, All, Contains, Bool as Truth, false, Option, Some, None, IsTrue}
 use Rattle.std.specs.List.{list_any}
 use Rattle.pv_word.specs.declared.types.Ty.TheVariants.{Bool}
 use Rattle.pv_machine.specs.declared.place.Place.{Place}
@@ -9,6 +9,8 @@ use Rattle.pv_types.specs.View.{section_of}
 use Rattle.pv_lex.specs.declared.token.Token.{Token}
 use Rattle.pv_lex.specs.declared.token.Language.TheVariants.{Scl}
 use Rattle.pv_lex.specs.Tokens.{AreTokens}
+use Rattle.pv_tree.specs.declared.expr.Area.{Area as In}
+use Rattle.pv_tree.specs.declared.expr.Area.TheVariants.{I, Q, M}
 use Rattle.pv_tree.specs.declared.expr.Root.{Root}
 use Rattle.pv_tree.specs.declared.expr.Root.TheVariants.{Local, Named, Area}
 use Rattle.pv_tree.specs.Tree.{ExprTree, lit, read, unary, binary, std, paren, ExprTrees, no_exprs, exprs, OperandTree, operand, StepTree, field, index, StepTrees, no_steps, steps, BlockTree}
@@ -21,6 +23,7 @@ use Rattle.pv_tree.specs.Reading.{IsReadExpression}
 use Rattle.pv_tree.specs.Rules.{Rule, BreaksInPattern}
 use Rattle.pv_tree.specs.Least.{IsLeast}
 use Rattle.pv_mean.specs.Layout.{is_brief_in}
+use Rattle.pv_mean.specs.AreaBytes.{Bytes, bytes_of_operand}
 use Rattle.pv_pattern.specs.Patterns.{Pattern, expressions_of}
 use Rattle.pv_pattern.specs.declared.kind.PatternKind.{PatternKind}
 use Rattle.pv_pattern.specs.Kinds.{kind_of}
@@ -147,13 +150,32 @@ is_address_root (Area area bits byte bit) = is_address bits byte bit
 abbrev pub is_address_operand : OperandTree → Truth
 is_address_operand (operand root path place) = is_address_root root
 
-abbrev pub addresses_in : ExprTree → List OperandTree
-addresses_in e = filter is_address_operand (operands_in e)
+-- the address without what stands behind it, which names no byte more
+abbrev pub alone : OperandTree → OperandTree
+alone (operand root path place) = operand root no_steps place
 
--- the addresses that the texts name, whose bytes have cells: those of each text that reads, whatever else is at fault with it
+abbrev pub addresses_in : ExprTree → List OperandTree
+addresses_in e = map alone (filter is_address_operand (operands_in e))
+
+-- the addresses that the texts name: those of each text that reads, whatever else is at fault with it
 abbrev pub AreNamed : List (List ℕ) → List OperandTree → Type 0
 AreNamed [] named = named ≡ []
 AreNamed (text ∷ texts) named =
     ((e : ExprTree) × (others : List OperandTree) × IsTextOf text e
     × (named ≡ addresses_in e ++ others) × AreNamed texts others)
     ⊎ (((e : ExprTree) → IsTextOf text e → ⊥) × AreNamed texts named)
+
+-- the numbers of an area's bytes that have cells
+abbrev pub bytes_in : Bytes → In → List ℕ
+bytes_in bytes I = bytes.inputs
+bytes_in bytes Q = bytes.outputs
+bytes_in bytes M = bytes.flags
+
+-- each byte that the operand names has a cell
+abbrev pub HasCells : Bytes → OperandTree → Type 0
+HasCells bytes o = (area : In) → All (Contains (bytes_in bytes area)) (bytes_of_operand area o)
+
+-- so has each that one of the texts names. Others may have cells too: what sources, symbols and other texts name
+abbrev pub HaveCells : Bytes → List (List ℕ) → Type 0
+HaveCells bytes texts = (text : List ℕ) (e : ExprTree) → Contains texts text → IsTextOf text e
+    → All (HasCells bytes) (addresses_in e)

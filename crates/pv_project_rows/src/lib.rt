@@ -1,5 +1,9 @@
-//! Whole sources of SCL with the first rule that each breaks, worked out by hand from the rules of the language: a crate of tests alone.
+//! Sources, statements and expressions with the rules that they break, worked out by hand from the rules of the language: a crate of tests alone.
 #![tactic(auto)]
 
 #[cfg(test)]
+mod pattern_rows;
+#[cfg(test)]
 mod project_rows;
+#[cfg(test)]
+mod statement_rows;

@@ -6,8 +6,4 @@ mod commands;
 #[cfg(test)]
 mod gates;
 #[cfg(test)]
-mod pattern_rows;
-#[cfg(test)]
 mod readers;
-#[cfg(test)]
-mod statement_rows;

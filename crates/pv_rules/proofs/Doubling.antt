@@ -1,13 +1,12 @@
 -- Names that stand twice: one more name that is met, and the definition of a later name.
-use Rattle.std.proofs.Common.{◌≡◌, ℕ, zero, suc, ◌+◌, ◌<◌, true, false, List, [], ◌∷◌, ◌++◌, map, length, get_or, take, add-one, refl, ap, sym, subst, ◌∙◌, arith, inl, inr, append_assoc}
-use Rattle.std.specs.Prelude.{◌⊎◌, Option, Some, None, is_some, bytes_eq, cond, slice_index_or, Contains}
+use Rattle.std.proofs.Common.{◌≡◌, ℕ, true, false, List, [], ◌∷◌, ◌++◌, map, refl, ap, sym, subst, ◌∙◌, inl, inr, append_assoc}
+use Rattle.std.specs.Prelude.{◌⊎◌, Option, Some, None, is_some, bytes_eq, cond}
 use Rattle.std.specs.Map.{lookup}
 use Rattle.std.proofs.lemmas.Bool.{true≢false, cases_Bool}
 use Rattle.std.proofs.lemmas.Slice.Eq.{bytes_eq-Decides}
 use Rattle.indexmap.specs.IndexMap.{insert_entry}
 use Rattle.pv_machine.specs.declared.place.Place.{Place}
 use Rattle.pv_tree.specs.Tree.{PlacedName}
-use Rattle.pv_tree.specs.Interfaces.{IsLater}
 use Rattle.pv_expr_rules.specs.Members.{Has}
 use Rattle.pv_expr_rules.specs.Nearest.{Nears}
 use Rattle.pv_expr_rules.specs.Members.{IsLaterBehind}

@@ -1,14 +1,11 @@
 pub mod Doubling
 pub mod Entering
 pub mod FirstLaws
-pub mod Linking
-pub mod Marking
 pub mod NearPieces
 pub mod NearStarts
 pub mod PartsAppended
 pub mod PatternBreaches
 pub mod ProjectFirst
 pub mod Projecting
-pub mod Searching
 pub mod StartWalks
 pub mod TypeCycles

@@ -12,10 +12,11 @@ use Rattle.pv_tree.specs.Scopes.{ProjectTree, has_key, is_type, block_where, typ
 use Rattle.pv_tree.specs.Interfaces.{types_in, types_in_vars, all_types}
 use Rattle.pv_tree.specs.Rules.MissingTypes.{names_in, names_in_vars, name_of_kind, named_types, named_within, Holds, at_once, within, IsMissingOrEndless, IsMissingType}
 use Rattle.pv_expr_rules.specs.Members.{HasSome, Has}
-use Rattle.pv_rules.specs.Graphs.{next_of, Leads, here, by, LeadFrom}
+use Rattle.pv_graph.specs.Graphs.{next_of, Leads, here, by, LeadFrom}
+use Rattle.pv_graph.specs.Members.{Has as HasNode}
+use Rattle.pv_graph.proofs.ForCallers.{has_front as node_front, has_behind as node_behind, has_either as node_either, some_of as some_node, of_some as of_node}
 use Rattle.pv_rules.specs.TypeNumbers.{type_number, numbers_of_type, targets_in, types_graph, IsWrongNumber, IsWrongName, NamesWrongType, HasWrongType}
 use Rattle.pv_expr_rules.proofs.ForCallers.{has_front, has_behind, has_either}
-use Rattle.pv_rules.proofs.Searching.{some_of, of_some}
 use Rattle.std.specs.Prelude.{◌↔◌, slice_index_or}
 use Rattle.pv_tree.specs.View.{block_tree}
 use Rattle.pv_tree.specs.declared.block.Block.{Block}
@@ -23,12 +24,21 @@ use Rattle.pv_expr_rules.specs.Nearest.{Nears, IsNearest}
 use Rattle.pv_names.specs.Firsts.{number_in, first_number, FindsFirsts}
 use Rattle.pv_rules.specs.TypeNames.{NumbersTypes}
 use Rattle.pv_rules.specs.declared.types.TypeNames.{TypeNames}
-use Rattle.pv_rules.specs.declared.graph.Targets.{Targets}
-use Rattle.pv_rules.specs.Graphs.{lists_of}
-use Rattle.pv_rules.proofs.Searching.{nodes_counted}
 use Rattle.pv_expr_rules.proofs.ForCallers.{any_has, has_any, nearest_by, near_then, all_taken}
 use Rattle.pv_expr_rules.proofs.ForCallers.{has_contains, contains_has}
 use Rattle.pv_rules.proofs.Projecting.{some_each}
+
+-- ---- the one of a list that has it
+
+some_of : {X : Type 0} (P : X → Type 0) (xs : List X) → HasSome P xs → (x : X) × Has xs x × P x
+some_of P [] h = absurd h
+some_of P (x ∷ xs) (inl p) = (x, inl refl, p)
+some_of P (x ∷ xs) (inr h) = let rest = some_of P xs h in (rest.0, inr rest.1, rest.2)
+
+of_some : {X : Type 0} (P : X → Type 0) (xs : List X) (x : X) → Has xs x → P x → HasSome P xs
+of_some P [] x h p = absurd h
+of_some P (y ∷ ys) x (inl same) p = inl (subst P (sym same) p)
+of_some P (y ∷ ys) x (inr h) p = inr (of_some P ys x h p)
 
 -- ---- a name and the number of its type
 
@@ -150,31 +160,31 @@ mutual
 
 -- ---- targets
 
-flat_has : {X : Type 0} (f : X → List ℕ) (xs : List X) (j : ℕ) → Has (flat_map f xs) j → HasSome (λ x. Has (f x) j) xs
+flat_has : {X : Type 0} (f : X → List ℕ) (xs : List X) (j : ℕ) → HasNode (flat_map f xs) j → HasSome (λ x. HasNode (f x) j) xs
 flat_has f [] j h = h
-flat_has f (x ∷ xs) j h = elim (has_either (λ y. y ≡ j) (f x) (flat_map f xs) h) [ inl p ↦ inl p | inr p ↦ inr (flat_has f xs j p) ]
+flat_has f (x ∷ xs) j h = elim (node_either (λ y. y ≡ j) (f x) (flat_map f xs) h) [ inl p ↦ inl p | inr p ↦ inr (flat_has f xs j p) ]
 
-has_flat : {X : Type 0} (f : X → List ℕ) (xs : List X) (j : ℕ) → HasSome (λ x. Has (f x) j) xs → Has (flat_map f xs) j
+has_flat : {X : Type 0} (f : X → List ℕ) (xs : List X) (j : ℕ) → HasSome (λ x. HasNode (f x) j) xs → HasNode (flat_map f xs) j
 has_flat f [] j h = h
-has_flat f (x ∷ xs) j (inl p) = has_front (λ y. y ≡ j) (f x) (flat_map f xs) p
-has_flat f (x ∷ xs) j (inr p) = has_behind (λ y. y ≡ j) (f x) (flat_map f xs) (has_flat f xs j p)
+has_flat f (x ∷ xs) j (inl p) = node_front (λ y. y ≡ j) (f x) (flat_map f xs) p
+has_flat f (x ∷ xs) j (inr p) = node_behind (λ y. y ≡ j) (f x) (flat_map f xs) (has_flat f xs j p)
 
-one_of : (o : Option ℕ) (j : ℕ) → Has (option_to_list o) j → o ≡ Some j
+one_of : (o : Option ℕ) (j : ℕ) → HasNode (option_to_list o) j → o ≡ Some j
 one_of None j h = absurd h
 one_of (Some i) j (inl is) = ap Some is
 one_of (Some i) j (inr never) = absurd never
 
-of_one : (o : Option ℕ) (j : ℕ) → o ≡ Some j → Has (option_to_list o) j
-of_one o j is = subst (λ x. Has (option_to_list x) j) (sym is) (inl refl)
+of_one : (o : Option ℕ) (j : ℕ) → o ≡ Some j → HasNode (option_to_list o) j
+of_one o j is = subst (λ x. HasNode (option_to_list x) j) (sym is) (inl refl)
 
-number_named : (bs : List BlockTree) (j : ℕ) (t : TypeTree) → Has (numbers_of_type bs t) j → IsNamed (λ n p. type_number bs n.key ≡ Some j) t
+number_named : (bs : List BlockTree) (j : ℕ) (t : TypeTree) → HasNode (numbers_of_type bs t) j → IsNamed (λ n p. type_number bs n.key ≡ Some j) t
 number_named bs j (plain ty) h = h
 number_named bs j (array low high of place) h = h
 number_named bs j (structure vars) h = h
 number_named bs j (named name place) h = one_of (type_number bs name.key) j h
 number_named bs j unread h = h
 
-named_number : (bs : List BlockTree) (j : ℕ) (t : TypeTree) → IsNamed (λ n p. type_number bs n.key ≡ Some j) t → Has (numbers_of_type bs t) j
+named_number : (bs : List BlockTree) (j : ℕ) (t : TypeTree) → IsNamed (λ n p. type_number bs n.key ≡ Some j) t → HasNode (numbers_of_type bs t) j
 named_number bs j (plain ty) h = h
 named_number bs j (array low high of place) h = h
 named_number bs j (structure vars) h = h
@@ -193,18 +203,18 @@ targets_at bs key i f =
     ∙ ap (λ t. if t then flat_map (numbers_of_type bs) (all_types f.block.vars) else []) f.typed
 
 -- a target is a type that the block names
-target_name : (bs : List BlockTree) (key : List ℕ) (i j : ℕ) (f : Found bs key i) → Has (next_of (types_graph bs) i) j
+target_name : (bs : List BlockTree) (key : List ℕ) (i j : ℕ) (f : Found bs key i) → HasNode (next_of (types_graph bs) i) j
     → (n : PlacedName) × Has (names_in_vars (listed f.block.vars)) n × (type_number bs n.0.key ≡ Some j)
 target_name bs key i j f h =
     some_of (λ n. type_number bs n.0.key ≡ Some j) (names_in_vars (listed f.block.vars))
     (name_in_vars (λ n p. type_number bs n.key ≡ Some j) (listed f.block.vars)
     (some_each (all_types f.block.vars) (number_named bs j)
-    (flat_has (numbers_of_type bs) (all_types f.block.vars) j (subst (λ l. Has l j) (targets_at bs key i f) h))))
+    (flat_has (numbers_of_type bs) (all_types f.block.vars) j (subst (λ l. HasNode l j) (targets_at bs key i f) h))))
 
 name_target : (bs : List BlockTree) (key : List ℕ) (i j : ℕ) (f : Found bs key i) (n : PlacedName) → Has (names_in_vars (listed f.block.vars)) n
-    → type_number bs n.0.key ≡ Some j → Has (next_of (types_graph bs) i) j
+    → type_number bs n.0.key ≡ Some j → HasNode (next_of (types_graph bs) i) j
 name_target bs key i j f n h is =
-    subst (λ l. Has l j) (sym (targets_at bs key i f))
+    subst (λ l. HasNode l j) (sym (targets_at bs key i f))
     (has_flat (numbers_of_type bs) (all_types f.block.vars) j
     (some_each (all_types f.block.vars) (named_number bs j)
     (type_in_vars (λ m p. type_number bs m.key ≡ Some j) (listed f.block.vars)
@@ -234,7 +244,7 @@ module _ (project : ProjectTree) (bs : List BlockTree) (same : project.blocks �
 
   -- a key that a type names is one of its targets
   step : (outer inner : List ℕ) (j : ℕ) → Contains (named_within project outer) inner → type_number bs inner ≡ Some j
-      → (i : ℕ) × (type_number bs outer ≡ Some i) × Has (next_of (types_graph bs) i) j
+      → (i : ℕ) × (type_number bs outer ≡ Some i) × HasNode (next_of (types_graph bs) i) j
   step outer inner j c is = elim (told bs outer) [
     | inl none ↦ absurd (contains_has [] inner (subst (λ l. Contains l inner) (within_none outer none.1) c))
     | inr it ↦
@@ -246,15 +256,15 @@ module _ (project : ProjectTree) (bs : List BlockTree) (same : project.blocks �
       → (i : ℕ) × (type_number bs outer ≡ Some i) × LeadFrom (types_graph bs) (next_of (types_graph bs) i) j
   to_leads outer inner j (at_once c) is =
       let one = step outer inner j c is in
-      (one.0, one.1, of_some (λ a. Leads (types_graph bs) a j) (next_of (types_graph bs) one.0) j one.2 here)
+      (one.0, one.1, of_node (λ a. Leads (types_graph bs) a j) (next_of (types_graph bs) one.0) j one.2 here)
   to_leads outer inner j (within {middle = middle} c h) is =
       let rest = to_leads middle inner j h is in
       let one = step outer middle rest.0 c rest.1 in
-      let first = some_of (λ a. Leads (types_graph bs) a j) (next_of (types_graph bs) rest.0) rest.2 in
-      (one.0, one.1, of_some (λ a. Leads (types_graph bs) a j) (next_of (types_graph bs) one.0) rest.0 one.2 (by first.1 first.2))
+      let first = some_node (λ a. Leads (types_graph bs) a j) (next_of (types_graph bs) rest.0) rest.2 in
+      (one.0, one.1, of_node (λ a. Leads (types_graph bs) a j) (next_of (types_graph bs) one.0) rest.0 one.2 (by first.1 first.2))
 
   -- a target is a key that the type names
-  back : (outer : List ℕ) (i j : ℕ) → Found bs outer i → Has (next_of (types_graph bs) i) j
+  back : (outer : List ℕ) (i j : ℕ) → Found bs outer i → HasNode (next_of (types_graph bs) i) j
       → (key : List ℕ) × Contains (named_within project outer) key × (type_number bs key ≡ Some j)
   back outer i j f h =
       let n = target_name bs outer i j f h in
@@ -275,7 +285,7 @@ module _ (project : ProjectTree) (bs : List BlockTree) (same : project.blocks �
     | inl none ↦ inl (named_as key ∙ none.1)
     | inr it ↦
         let l = subst (IsWrongNumber bs) it.1.numbered w in
-        let first = some_of (λ a. Leads (types_graph bs) a it.0) (next_of (types_graph bs) it.0) l in
+        let first = some_node (λ a. Leads (types_graph bs) a it.0) (next_of (types_graph bs) it.0) l in
         let next = back key it.0 first.0 it.1 first.1 in
         inr (from_leads first.0 it.0 key next.0 key first.2 next.2 it.1.numbered next.1)
   ]
@@ -360,13 +370,11 @@ number_found names bs key o r are is so =
     so ∙ ap (type_there names.kinds.items) (is ∙ are.numbers key) ∙ ap (λ k. type_there k (first_number (bytes_eq key) (map (λ b. b.name.key) bs))) are.types
     ∙ sym (there_is bs key)
 
-pub number_below : (bs : List BlockTree) (next : List Targets) (key : List ℕ) (i : ℕ) → lists_of next ≡ types_graph bs → Some i ≡ type_number bs key
-    → i < length next
-number_below bs next key i are is =
+pub number_below : (bs : List BlockTree) (g : List (List ℕ)) (key : List ℕ) (i : ℕ) → g ≡ types_graph bs → Some i ≡ type_number bs key → i < length g
+number_below bs g key i are is =
     let f = (found bs key i (sym is)).below in
-    let n = nodes_counted next in
-    let m : length (lists_of next) ≡ length (types_graph bs) = ap length are in
-    let k = counted bs in omega (arith, f, n, m, k)
+    let m : length g ≡ length (types_graph bs) = ap length are in
+    let k = counted bs in omega (arith, f, m, k)
   where
     counted_map : {X Y : Type 0} (g : X → Y) (xs : List X) → length (map g xs) ≡ length xs
     counted_map g [] = refl
@@ -374,11 +382,6 @@ number_below bs next key i are is =
 
     counted : (bs : List BlockTree) → length (types_graph bs) ≡ length bs
     counted bs = counted_map (targets_in bs) bs
-
-pub wrong_number : (bs : List BlockTree) (next : List Targets) (key : List ℕ) (i : ℕ) (b : Bool) → lists_of next ≡ types_graph bs → Some i ≡ type_number bs key
-    → (b ≡ true) ↔ LeadFrom (lists_of next) (next_of (lists_of next) i) i → (b ≡ true) ↔ IsWrongNumber bs (type_number bs key)
-wrong_number bs next key i b are is both =
-    subst (λ o. (b ≡ true) ↔ IsWrongNumber bs o) is (subst (λ g. (b ≡ true) ↔ LeadFrom g (next_of g i) i) are both)
 
 pub no_number : (bs : List BlockTree) (key : List ℕ) (b : Bool) → b ≡ true → None ≡ type_number bs key → (b ≡ true) ↔ IsWrongNumber bs (type_number bs key)
 no_number bs key b so is = ((λ t. subst (IsWrongNumber bs) is tt), (λ w. so))

@@ -1,7 +1,6 @@
 -- Names that stand twice, name by name: those before one are known when it is met.
-use Rattle.std.specs.Prelude.{◌≡◌, ◌⊎◌, ℕ, List, [], ◌∷◌, ◌++◌, map, true, is_some, bytes_eq}
+use Rattle.std.specs.Prelude.{◌≡◌, ℕ, List, map, true, is_some, bytes_eq}
 use Rattle.std.specs.Map.{lookup}
-use Rattle.pv_machine.specs.declared.place.Place.{Place}
 use Rattle.pv_types.specs.declared.declaration.Var.{Var}
 use Rattle.pv_tree.specs.declared.block.Block.{Block}
 use Rattle.pv_tree.specs.Tree.{PlacedName}

@@ -8,10 +8,7 @@ pub mod StartPieces
 pub mod BlockLists
 pub mod Declarations
 pub mod Doubles
-pub mod Graphs
-pub mod Links
 pub mod OnDeclarations
-pub mod Searches
 pub mod Starts
 pub mod TypeNames
 pub mod TypeNumbers

@@ -3,7 +3,7 @@ use Rattle.std.specs.Prelude.{◌≡◌, List, map}
 use Rattle.pv_tree.specs.Tree.{BlockTree}
 use Rattle.pv_tree.specs.Scopes.{is_type}
 use Rattle.pv_names.specs.Firsts.{FindsFirsts}
-use Rattle.pv_rules.specs.Graphs.{lists_of}
+use Rattle.pv_graph.specs.Steps.{steps_of}
 use Rattle.pv_rules.specs.TypeNumbers.{types_graph}
 use Rattle.pv_rules.specs.declared.types.TypeNames.{TypeNames}
 use Rattle.pv_rules.specs.declared.types.TypeGraph.{TypeGraph}
@@ -15,4 +15,4 @@ pub record NumbersTypes (names : TypeNames) (bs : List BlockTree) : Type 0 where
 
 pub record IsGraphOf (types : TypeGraph) (bs : List BlockTree) : Type 0 where
   pub names : NumbersTypes types.names bs
-  pub steps : lists_of types.graph.next.items ≡ types_graph bs
+  pub steps : steps_of types.graph ≡ types_graph bs

@@ -7,7 +7,7 @@ use Rattle.pv_tree.specs.Scopes.{has_key, is_type}
 use Rattle.pv_tree.specs.Interfaces.{all_types}
 use Rattle.pv_tree.specs.Rules.MissingTypes.{name_of_kind}
 use Rattle.pv_expr_rules.specs.Members.{HasSome}
-use Rattle.pv_rules.specs.Graphs.{next_of, LeadFrom}
+use Rattle.pv_graph.specs.Graphs.{next_of, LeadFrom}
 
 -- the number of the first block of this name, where it is a type
 abbrev pub type_number : List BlockTree → List ℕ → Option ℕ

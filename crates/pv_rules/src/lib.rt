@@ -5,15 +5,12 @@
 //! puts two answers together, so that each rule is looked for by a function of its own, on each part of a block by itself.
 #![tactic(auto)]
 
-mod calls;
 mod declarations;
 mod doubled;
 mod fault;
 mod gathered;
-mod graph;
 mod joining;
 mod least;
-mod numbers;
 mod on_declarations;
 mod on_starts;
 mod pattern_expression;
@@ -33,6 +30,3 @@ pub use pattern_expression::{
 };
 pub use starts::StartLook;
 pub use types::missing_type;
-
-#[cfg(test)]
-mod tests;

@@ -2,7 +2,7 @@
 //! broken there.
 ghost use Rattle.std.specs.Prelude.{◌≡◌, IfOk, None};
 ghost use Rattle.pv_tree.specs.Parts.{starts_of};
-ghost use Rattle.pv_tree.specs.Rules.{missing_name, misfit, out_of_range, beyond_bounds, not_callable, wrong_address};
+ghost use Rattle.pv_tree.specs.Rules.{missing_name, misfit, out_of_range, beyond_bounds, wrong_address};
 ghost use Rattle.pv_names.specs.InScope.{scope_of};
 ghost use Rattle.pv_expr_rules.specs.Looks.{near_parts};
 ghost use Rattle.pv_expr_rules.specs.Nearest.{IsNearest};
@@ -148,16 +148,6 @@ pub fn beyond_in_values<'p>(
     ensures { IfOk result (IsNearest (InBlocks (BreaksInValues beyond_bounds) (project_of tables.now))) }
 {
     nearest_piece(alloc, tables, Piece::Index(Look::Beyond))
-}
-
-/// The least place, in the indexes of parts of data blocks that are given values, of the name of a function without a value.
-pub(crate) fn void_in_values<'p>(
-    alloc: Global,
-    tables: &'p Tables<'p>,
-) -> Result<Option<Place>, AllocError>
-    ensures { IfOk result (IsNearest (InBlocks (BreaksInValues not_callable) (project_of tables.now))) }
-{
-    nearest_piece(alloc, tables, Piece::Index(Look::Void))
 }
 
 /// The least place, in the indexes of parts of data blocks that are given values, of an address that there isn't.

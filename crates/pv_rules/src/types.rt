@@ -1,6 +1,7 @@
 //! Types that aren't declared, or contain themselves.
 //!
-//! The types are numbered as the blocks are, and each leads to those that it names: one that leads to itself contains itself, through however many others.
+//! The types are numbered as the blocks are, and each leads to those that it names (`pv_graph`): one that leads to itself contains itself, through however many
+//! others. A name is asked for only where it stands before the least place so far.
 ghost use Rattle.std.specs.Prelude.{◌≡◌, ◌↔◌, ◌++◌, List, map, flat_map, IfOk, OnOk, IsTrue, slice_index_or, false};
 ghost use Rattle.pv_types.specs.View.{type_tree};
 ghost use Rattle.pv_tree.specs.Tree.{BlockTree};
@@ -8,14 +9,14 @@ ghost use Rattle.pv_tree.specs.View.{block_tree};
 ghost use Rattle.pv_tree.specs.Scopes.{ProjectTree, is_type};
 ghost use Rattle.pv_tree.specs.Rules.MissingTypes.{name_of_kind, IsMissingType};
 ghost use Rattle.pv_expr_rules.specs.Members.{HasSome};
-ghost use Rattle.pv_rules.specs.Graphs.{lists_of};
 ghost use Rattle.pv_expr_rules.specs.Nearest.{Nears, IsNearest};
+ghost use Rattle.pv_graph.specs.Graphs.{lists_of};
 ghost use Rattle.pv_rules.specs.TypeNumbers.{type_number, numbers_of_type, targets_in, types_graph, IsWrongNumber, IsWrongName, NamesWrongType, HasWrongType};
 ghost use Rattle.pv_rules.specs.TypeNames.{NumbersTypes, IsGraphOf};
 
 use crate::gathered::Gathered;
-use crate::graph::{Graph, Targets};
 use pv_expr_rules::is_nearer;
+use pv_graph::{Graph, Targets};
 use pv_machine::Place;
 use pv_names::Firsts;
 use pv_tree::{Block, BlockKind};

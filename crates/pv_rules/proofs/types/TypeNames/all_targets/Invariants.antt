@@ -1,7 +1,7 @@
 use Rattle.std.proofs.Common.{◌≡◌, List, map, take}
 use Rattle.pv_tree.specs.Tree.{BlockTree}
 use Rattle.pv_tree.specs.View.{block_tree}
-use Rattle.pv_rules.specs.Graphs.{lists_of}
+use Rattle.pv_graph.specs.Graphs.{lists_of}
 use Rattle.pv_rules.specs.TypeNumbers.{targets_in}
 use Rattle.pv_rules.specs.TypeNames.{NumbersTypes}
 use Rattle.pv_rules.proofs.types.TypeNames.all_targets.Given as goal

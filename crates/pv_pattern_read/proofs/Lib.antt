@@ -1,0 +1,11 @@
+mod Readings
+mod Telling
+mod Faults
+mod Seen
+mod Termed
+mod Gathering
+mod PatternLaws
+mod Spotted
+mod Walks
+mod TextLaws
+mod NamingLaws

@@ -1,0 +1,6 @@
+-- what public clauses cite
+pub mod Answers
+-- what private clauses cite
+pub mod Making
+pub mod InContext
+pub mod Naming

@@ -1,0 +1,14 @@
+mod Growing
+mod Keeping
+mod Pairing
+mod Standing
+mod Passing
+mod FirstCallees
+mod Numbers
+mod Making
+mod Arguments
+mod Instances
+mod Choosing
+mod Reaching
+mod Measuring
+mod Forms

@@ -1,0 +1,26 @@
+-- That the making of statements ends: what stands in a statement is less deep.
+use Rattle.std.proofs.Common.{ℕ, List, Option, Some, None}
+use Rattle.std.specs.Prelude.{Vec}
+use Rattle.std.specs.declared.alloc.Global.{Global}
+use denote.Param.Weighed.{most}
+use Rattle.pv_tree.specs.declared.stmt.Stmt.{Stmt, size-Stmt}
+use Rattle.pv_tree.specs.declared.stmt.Choice as tree
+use Rattle.pv_tree.specs.declared.expr.Expr.{Expr}
+
+-- ---- how deep statements are at most: of a list, in the arms of an IF, in the branches of a CASE, behind ELSE
+
+abbrev pub of_list : List Stmt → ℕ
+of_list list = most size-Stmt list
+
+abbrev pub of_arms : List (Expr × Vec Stmt Global) → ℕ
+of_arms arms = most (λ a. of_list a.1.items) arms
+
+abbrev Values : Type 0
+Values = Vec (tree.Choice × Option tree.Choice) Global
+
+abbrev pub of_branches : List (Values × Vec Stmt Global) → ℕ
+of_branches branches = most (λ b. of_list b.1.items) branches
+
+abbrev pub of_other : Option (Vec Stmt Global) → ℕ
+of_other None = 0
+of_other (Some v) = of_list v.items

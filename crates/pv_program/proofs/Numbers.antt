@@ -1,0 +1,41 @@
+-- The number of a block that is the first of its name.
+use Rattle.std.proofs.Common.{◌≡◌, ℕ, suc, List, [], ◌∷◌, map, Option, Some, None, Bool, true, false, cond, option_map, bytes_eq, refl, ap, ◌∙◌, subst}
+use Rattle.std.specs.Prelude.{slice_get, if◌then◌else◌}
+use Rattle.std.proofs.lemmas.Option.{same_Some}
+use Rattle.pv_tree.specs.Tree.{BlockTree}
+use Rattle.pv_tree.specs.Scopes.{Scope, first_block}
+use Rattle.pv_tree.specs.Callees.{CallSite, runs, callee_of}
+use Rattle.pv_mean.specs.Chains.{RunsSuch}
+use Rattle.pv_names.specs.Firsts.{first_number}
+use Rattle.pv_program.proofs.FirstCallees.{In, callee_in}
+
+later : (o : Option ℕ) (x : BlockTree) (xs : List BlockTree) (n : ℕ) (b : BlockTree) → ((m : ℕ) → Some m ≡ o → slice_get xs m ≡ Some b)
+    → Some n ≡ option_map (λ n. suc n) o → slice_get (x ∷ xs) n ≡ Some b
+later None x xs n b f e = cc
+later (Some m) x xs n b f e = ap (slice_get (x ∷ xs)) (same_Some n (suc m) e) ∙ f m refl
+
+pub number-finds : (key : List ℕ) (blocks : List BlockTree) (n : ℕ) (b : BlockTree)
+    → Some n ≡ first_number (bytes_eq key) (map (λ b. b.name.key) blocks) → first_block blocks key ≡ Some b → slice_get blocks n ≡ Some b
+number-finds key [] n b e f = cc
+number-finds key (x ∷ xs) n b e f = lead (bytes_eq key x.name.key) (λ m is rest. number-finds key xs m b is rest) e f
+  where
+    lead : (t : Bool)
+        → ((m : ℕ) → Some m ≡ first_number (bytes_eq key) (map (λ b. b.name.key) xs) → first_block xs key ≡ Some b → slice_get xs m ≡ Some b)
+        → Some n ≡ (if t then Some 0 else option_map (λ n. suc n) (first_number (bytes_eq key) (map (λ b. b.name.key) xs)))
+        → cond t (Some x) (first_block xs key) ≡ Some b → slice_get (x ∷ xs) n ≡ Some b
+    lead true ih is found = ap (slice_get (x ∷ xs)) (same_Some n 0 is) ∙ found
+    lead false ih is found = later (first_number (bytes_eq key) (map (λ b. b.name.key) xs)) x xs n b (λ m at. ih m at found) is
+
+-- the block that a call runs is the first of its name
+pub called-first : (scope : Scope) (s : CallSite) (b : BlockTree) → callee_of scope s ≡ runs b → first_block scope.project.blocks b.name.key ≡ Some b
+called-first scope s b e = subst (RunsSuch (In scope.project)) e (callee_in scope s)
+
+-- by the number of its name in a table
+pub block-number : (blocks other : List BlockTree) (key : List ℕ) (b : BlockTree) (n v : ℕ) → other ≡ blocks → key ≡ b.name.key
+    → Some n ≡ first_number (bytes_eq key) (map (λ b. b.name.key) other) → first_block blocks b.name.key ≡ Some b → v ≡ n
+    → slice_get blocks v ≡ Some b
+block-number blocks other key b n v same name found first is =
+    ap (slice_get blocks) is
+    ∙ number-finds b.name.key blocks n b
+    (found ∙ ap (λ l. first_number (bytes_eq key) (map (λ b. b.name.key) l)) same
+    ∙ ap (λ k. first_number (bytes_eq k) (map (λ b. b.name.key) blocks)) name) first

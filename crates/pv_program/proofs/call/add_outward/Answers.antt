@@ -1,0 +1,40 @@
+use Rattle.std.proofs.Common.{refl, arith}
+use Rattle.pv_types.specs.View.{var_tree, var_trees}
+use Rattle.pv_resolve.specs.Contexts.{block_in}
+use Rattle.pv_names.specs.Callees.{how_tree}
+use Rattle.std.proofs.Common.{ap, map, take}
+use Rattle.pv_program.specs.Handed.{goes_out, handed_of}
+use Rattle.pv_program.proofs.Growing.{extends-same, extends-then}
+use Rattle.pv_program.proofs.Passing.{taken-begun, taken-grown, taken-whole, parameters-out}
+use Rattle.pv_program.proofs.Standing.{are-outward}
+use Rattle.pv_program.proofs.call.add_outward.Goals as goal
+
+pub loop-var-init : goal.loop-var-init
+loop-var-init c = record {
+  grows = extends-same c.args.program.now;
+  are = λ source is inner. taken-begun c.new-made.result.items c.new-made.ensures.items;
+}
+
+pub loop-var-preserved : goal.loop-var-preserved
+loop-var-preserved c = record {
+  grows = extends-then _ _ _ c.loop-var.invariant.grows c.in_ok-hand_out.ensures.grows;
+  are = λ source is inner.
+      taken-grown goes_out c.as_slice-vars.result.now c.loop-var.var-index _ c.var-item.result c.hand_out.new.made.items c.loop-var-test.true
+      c.var-item.is refl
+      (c.in_ok-hand_out.ensures.taken source
+      (handed_of source (block_in c.args.inner.now) goes_out (map var_tree (take c.loop-var.var-index c.as_slice-vars.result.now))) is inner
+      (c.loop-var.invariant.are source is inner));
+}
+
+pub returns : goal.returns
+returns c = record {
+  grows = extends-then _ _ _ c.loop-var.invariant.grows c.in_ok-span.ensures.grows;
+  are = λ source is inner.
+      are-outward
+      (taken-whole goes_out c.as_slice-vars.result.now c.loop-var.var-index c.loop-var.made.items _ _ c.in_ok-span.ensures.grows (omega arith)
+      c.as_slice.ensures.value
+      (parameters-out source (how_tree c.args.how) (block_in c.args.inner.now) _ (var_trees c.as_slice-vars.result.now) c.requires c.block.ensures
+      (ap var_trees c.as_slice-vars.ensures.value))
+      (c.loop-var.invariant.are source is inner))
+      c.in_ok-span.ensures.stands;
+}

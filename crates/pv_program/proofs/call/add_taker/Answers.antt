@@ -1,0 +1,18 @@
+use Rattle.std.proofs.Common.{subst, Some, None}
+use Rattle.pv_resolve.specs.Contexts.{block_in}
+use Rattle.pv_run.specs.Code.{GoesTo}
+use Rattle.pv_program.proofs.Growing.{extends-same}
+use Rattle.pv_program.proofs.call.add_taker.Goals as goal
+
+pub returns-in_ok-to-in-Some : goal.returns-in_ok-to-in-Some
+returns-in_ok-to-in-Some c = record {
+  grows = c.in_ok-to-in-Some.ensures.grows;
+  goes = λ source is. subst (λ o. GoesTo source (block_in c.args.context.now) c.add_target.new.program (Some c.in_ok-to-in-Some.to) o)
+      c.in-Some.ensures (c.in_ok-to-in-Some.ensures.means source is);
+}
+
+pub returns-in-None : goal.returns-in-None
+returns-in-None c = record {
+  grows = extends-same c.args.program.now;
+  goes = λ source is. subst (λ o. GoesTo source (block_in c.args.context.now) c.args.program.now None o) c.in-None.ensures tt;
+}

@@ -1,0 +1,9 @@
+use Rattle.pv_program.proofs.Growing.{keeps-more, with-choices}
+use Rattle.pv_program.proofs.grow.append_choices.Goals as goal
+
+pub returns : goal.returns
+returns c = record {
+  grows = with-choices c.args.program.now c.append.new.all
+      (keeps-more c.args.program.now.choices.items c.append.new.all.items c.args.more.now c.in_ok-span.ensures.items);
+  stands = c.in_ok-span.ensures.stands;
+}

@@ -1,0 +1,229 @@
+use Rattle.std.proofs.Common.{refl, sym, ap, ◌∙◌, subst, arith}
+use Rattle.pv_tree.specs.Tree.{for_, while_, repeat_}
+use Rattle.pv_tree.specs.View.{expr_tree, stmt_tree, stmt_trees}
+use Rattle.pv_names.proofs.ForCallers.{stmt-for, stmt-if, stmt-case}
+use Rattle.pv_resolve.specs.Contexts.{block_in}
+use Rattle.pv_run.specs.Code.{AreChoices, decides, selects, counts, goes_while, repeats, exits, continues, returns, nothing, calls}
+use Rattle.pv_program.specs.Made.{IsNext, IsArm, IsBranch}
+use Rattle.pv_program.proofs.Growing.{extends-same, extends-then}
+use Rattle.pv_program.proofs.Keeping.{value-kept, choices-kept, counts-kept, stmt-kept, body-kept, arms-kept, branches-kept, arm-kept, branch-kept}
+use Rattle.pv_program.proofs.Pairing.{pairs-none, pairs-map, pairs-grown, gathered}
+use Rattle.pv_program.proofs.Standing.{are-arms, are-branches}
+use Rattle.pv_program.proofs.Making.{list-made, list-as, other-as, no-other, next-as, is-next-as, arm_of, branch_of}
+use Rattle.pv_program.proofs.Forms.{stmt-assign, stmt-assign_call, stmt-while, stmt-repeat, stmt-exit, stmt-continue, stmt-return, stmt-call, stmt-empty}
+use Rattle.pv_program.proofs.stmt.+making.Goals as goal
+
+pub make_arms-loop-arm-init : goal.make_arms-loop-arm-init
+make_arms-loop-arm-init t c = record {
+  grows = extends-same c.args.program.now;
+  are = λ source is.
+      pairs-none (IsArm source (block_in c.args.context.now) c.args.program.now) arm_of c.deref-arm-items.result.now c.new-made.result.items c.new-made.ensures.items;
+}
+
+pub make_arms-loop-arm-preserved : goal.make_arms-loop-arm-preserved
+make_arms-loop-arm-preserved t c =
+    let grown = extends-then _ _ _ c.in_ok-condition.ensures.grows c.in_ok-body.ensures.grows in
+    record {
+      grows = extends-then _ _ _ c.loop-arm.invariant.grows grown;
+      are = λ source is.
+          pairs-grown (IsArm source (block_in c.args.context.now) c.make_list.new.program) arm_of c.deref-arm-items.result.now
+          c.loop-arm.arm-index _ c.arm-item.result c.loop-arm.made.items c.push.new.self.items _ c.loop-arm-test.true c.arm-item.is
+          refl c.in_ok-push.ensures.items
+          (record {
+            condition = value-kept c.in_ok-body.ensures.grows (c.in_ok-condition.ensures.means source is);
+            body = list-as _ _ c.as_slice.ensures.value (c.in_ok-body.ensures.is source is);
+          })
+          (pairs-map _ _ (λ x y r. arm-kept grown r) (c.loop-arm.invariant.are source is));
+    }
+
+pub make_arms-returns : goal.make_arms-returns
+make_arms-returns t c = record {
+  grows = extends-then _ _ _ c.loop-arm.invariant.grows c.in_ok-span.ensures.grows;
+  are = λ source is.
+      are-arms c.in_ok-span.ensures.stands
+      (gathered (IsArm source (block_in c.args.context.now) _) arm_of c.deref-arm-items.result.now c.args.arms.now.items
+      c.loop-arm.arm-index c.loop-arm.made.items _ (omega arith) c.deref-arm-items.ensures.value c.as_slice-2.ensures.value
+      (pairs-map _ _ (λ x y r. arm-kept c.in_ok-span.ensures.grows r) (c.loop-arm.invariant.are source is)));
+}
+
+pub make_branches-loop-branch-init : goal.make_branches-loop-branch-init
+make_branches-loop-branch-init t c = record {
+  grows = extends-same c.args.program.now;
+  are = λ source is.
+      pairs-none (IsBranch source (block_in c.args.context.now) c.args.program.now) branch_of c.deref-branch-items.result.now c.new-made.result.items c.new-made.ensures.items;
+}
+
+pub make_branches-loop-branch-preserved : goal.make_branches-loop-branch-preserved
+make_branches-loop-branch-preserved t c =
+    let grown = extends-then _ _ _ c.in_ok-choices.ensures.grows c.in_ok-body.ensures.grows in
+    record {
+      grows = extends-then _ _ _ c.loop-branch.invariant.grows grown;
+      are = λ source is.
+          pairs-grown (IsBranch source (block_in c.args.context.now) c.make_list.new.program) branch_of c.deref-branch-items.result.now
+          c.loop-branch.branch-index _ c.branch-item.result c.loop-branch.made.items c.push.new.self.items _ c.loop-branch-test.true c.branch-item.is
+          refl c.in_ok-push.ensures.items
+          (record {
+            choices = choices-kept c.in_ok-body.ensures.grows (subst (λ l. AreChoices (block_in c.args.context.now) c.add_choices.new.program c.in_ok-choices.choices.first c.in_ok-choices.choices.end l) c.as_slice.ensures.value c.in_ok-choices.ensures.are);
+            body = list-as _ _ c.as_slice-in-loop-branch.ensures.value (c.in_ok-body.ensures.is source is);
+          })
+          (pairs-map _ _ (λ x y r. branch-kept grown r) (c.loop-branch.invariant.are source is));
+    }
+
+pub make_branches-returns : goal.make_branches-returns
+make_branches-returns t c = record {
+  grows = extends-then _ _ _ c.loop-branch.invariant.grows c.in_ok-span.ensures.grows;
+  are = λ source is.
+      are-branches c.in_ok-span.ensures.stands
+      (gathered (IsBranch source (block_in c.args.context.now) _) branch_of c.deref-branch-items.result.now c.args.branches.now.items
+      c.loop-branch.branch-index c.loop-branch.made.items _ (omega arith) c.deref-branch-items.ensures.value c.as_slice-2.ensures.value
+      (pairs-map _ _ (λ x y r. branch-kept c.in_ok-span.ensures.grows r) (c.loop-branch.invariant.are source is)));
+}
+
+pub make_other-returns-in-Some : goal.make_other-returns-in-Some
+make_other-returns-in-Some t c = record {
+  grows = c.make_list.ensures.grows;
+  is = λ source is. other-as source (block_in c.args.context.now) _ c.make_list.result _ _ _ c.in-Some.is c.as_slice.ensures.value (c.make_list.ensures.is source is);
+}
+
+pub make_other-returns-in-None : goal.make_other-returns-in-None
+make_other-returns-in-None t c = record { grows = extends-same c.args.program.now; is = λ source is. no-other c.in-None.is }
+
+pub make_if-returns : goal.make_if-returns
+make_if-returns t c = record {
+  grows = extends-then _ _ _ c.in_ok-span.ensures.grows c.in_ok-list.ensures.grows;
+  means = λ source is.
+      decides (arms-kept c.in_ok-list.ensures.grows c.in_ok-list.ensures.grows.longer (c.in_ok-span.ensures.are source is))
+      (c.in_ok-list.ensures.is source is);
+}
+
+pub make_case-returns : goal.make_case-returns
+make_case-returns t c =
+    let behind = extends-then _ _ _ c.in_ok-span.ensures.grows c.in_ok-list.ensures.grows in
+    record {
+      grows = extends-then _ _ _ c.in_ok-value.ensures.grows behind;
+      means = λ source is.
+          selects (value-kept behind (c.in_ok-value.ensures.means source is))
+          (branches-kept c.in_ok-list.ensures.grows c.in_ok-list.ensures.grows.longer (c.in_ok-span.ensures.are source is))
+          (c.in_ok-list.ensures.is source is);
+    }
+
+pub make_for-returns : goal.make_for-returns
+make_for-returns t c = record {
+  grows = extends-then _ _ _ c.in_ok-counting.ensures.grows c.in_ok-list.ensures.grows;
+  means = λ source is. counts (counts-kept c.in_ok-list.ensures.grows (c.in_ok-counting.ensures.counts source is)) (c.in_ok-list.ensures.is source is);
+}
+
+pub make_while-returns : goal.make_while-returns
+make_while-returns t c = record {
+  grows = extends-then _ _ _ c.in_ok-condition.ensures.grows c.in_ok-list.ensures.grows;
+  means = λ source is.
+      goes_while (value-kept c.in_ok-list.ensures.grows (c.in_ok-condition.ensures.means source is)) (c.in_ok-list.ensures.is source is);
+}
+
+pub make_repeat-returns : goal.make_repeat-returns
+make_repeat-returns t c = record {
+  grows = extends-then _ _ _ c.in_ok-list.ensures.grows c.in_ok-condition.ensures.grows;
+  means = λ source is.
+      repeats (body-kept c.in_ok-condition.ensures.grows c.in_ok-condition.ensures.grows.longer (c.in_ok-list.ensures.is source is))
+      (c.in_ok-condition.ensures.means source is);
+}
+
+pub make_list-loop-stmt-init : goal.make_list-loop-stmt-init
+make_list-loop-stmt-init t c = record {
+  grows = extends-same c.args.program.now;
+  are = λ source is.
+      pairs-none (IsNext source (block_in c.args.context.now) c.args.program.now) stmt_tree c.args.list.now c.new-made.result.items
+      c.new-made.ensures.items;
+}
+
+pub make_list-loop-stmt-preserved : goal.make_list-loop-stmt-preserved
+make_list-loop-stmt-preserved t c = record {
+  grows = extends-then _ _ _ c.loop-stmt.invariant.grows c.in_ok-next.ensures.grows;
+  are = λ source is.
+      pairs-grown (IsNext source (block_in c.args.context.now) c.make_stmt.new.program) stmt_tree c.args.list.now c.loop-stmt.stmt-index _
+      c.stmt-item.result c.loop-stmt.made.items c.push.new.self.items c.in_ok-next.next c.loop-stmt-test.true c.stmt-item.is refl
+      c.in_ok-push.ensures.items (c.in_ok-next.ensures.means source is)
+      (pairs-map _ _ (λ x y r. stmt-kept c.in_ok-next.ensures.grows c.in_ok-next.ensures.grows.longer r) (c.loop-stmt.invariant.are source is));
+}
+
+pub make_list-returns : goal.make_list-returns
+make_list-returns t c = record {
+  grows = extends-then _ _ _ c.loop-stmt.invariant.grows c.in_ok-all.ensures.grows;
+  is = λ source is.
+      list-made c.args.list.now c.loop-stmt.stmt-index c.loop-stmt.made.items _ c.in_ok-all.all c.in_ok-all.ensures.grows c.in_ok-all.ensures.stands
+      c.in_ok-all.ensures.first c.in_ok-all.ensures.end (omega arith) c.as_slice.ensures.value (c.loop-stmt.invariant.are source is);
+}
+
+pub make_stmt-returns-in-Assign : goal.make_stmt-returns-in-Assign
+make_stmt-returns-in-Assign t c = record {
+  grows = c.make_assign.ensures.grows;
+  means = λ source is. next-as source (block_in c.args.context.now) _ c.make_assign.result _ _ (ap stmt_tree c.in-Assign.is ∙ stmt-assign c.in-Assign.target c.in-Assign.place c.in-Assign.value) (c.make_assign.ensures.means source is);
+}
+
+pub make_stmt-returns-in-AssignCall : goal.make_stmt-returns-in-AssignCall
+make_stmt-returns-in-AssignCall t c = record {
+  grows = c.make_assign_call.ensures.grows;
+  means = λ source is. next-as source (block_in c.args.context.now) _ c.make_assign_call.result _ _ (ap stmt_tree c.in-AssignCall.is ∙ stmt-assign_call c.in-AssignCall.target c.in-AssignCall.place c.in-AssignCall.call) (c.make_assign_call.ensures.means source is);
+}
+
+pub make_stmt-returns-in-If : goal.make_stmt-returns-in-If
+make_stmt-returns-in-If t c = record {
+  grows = c.make_if.ensures.grows;
+  means = λ source is. next-as source (block_in c.args.context.now) _ c.make_if.result _ _ (ap stmt_tree c.in-If.is ∙ stmt-if c.in-If.arms c.in-If.other c.in-If.place) (c.make_if.ensures.means source is);
+}
+
+pub make_stmt-returns-in-Case : goal.make_stmt-returns-in-Case
+make_stmt-returns-in-Case t c = record {
+  grows = c.make_case.ensures.grows;
+  means = λ source is. next-as source (block_in c.args.context.now) _ c.make_case.result _ _ (ap stmt_tree c.in-Case.is ∙ stmt-case c.in-Case.selector c.in-Case.branches c.in-Case.other c.in-Case.place) (c.make_case.ensures.means source is);
+}
+
+pub make_stmt-returns-in-For : goal.make_stmt-returns-in-For
+make_stmt-returns-in-For t c = record {
+  grows = c.make_for.ensures.grows;
+  means = λ source is. next-as source (block_in c.args.context.now) _ c.make_for.result _ _ (ap stmt_tree c.in-For.is ∙ stmt-for c.in-For.var c.in-For.var_place c.in-For.first c.in-For.last c.in-For.by c.in-For.body c.in-For.place
+      ∙ ap (λ l. for_ c.in-For.var c.in-For.var_place (expr_tree c.in-For.first) (expr_tree c.in-For.last) c.in-For.by (stmt_trees l) c.in-For.place)
+      (sym c.as_slice.ensures.value)) (c.make_for.ensures.means source is);
+}
+
+pub make_stmt-returns-in-While : goal.make_stmt-returns-in-While
+make_stmt-returns-in-While t c = record {
+  grows = c.make_while.ensures.grows;
+  means = λ source is. next-as source (block_in c.args.context.now) _ c.make_while.result _ _ (ap stmt_tree c.in-While.is ∙ stmt-while c.in-While.cond c.in-While.body c.in-While.place ∙ ap (λ l. while_ (expr_tree c.in-While.cond) (stmt_trees l) c.in-While.place) (sym c.as_slice-in-While.ensures.value)) (c.make_while.ensures.means source is);
+}
+
+pub make_stmt-returns-in-Repeat : goal.make_stmt-returns-in-Repeat
+make_stmt-returns-in-Repeat t c = record {
+  grows = c.make_repeat.ensures.grows;
+  means = λ source is. next-as source (block_in c.args.context.now) _ c.make_repeat.result _ _ (ap stmt_tree c.in-Repeat.is ∙ stmt-repeat c.in-Repeat.body c.in-Repeat.cond c.in-Repeat.place ∙ ap (λ l. repeat_ (stmt_trees l) (expr_tree c.in-Repeat.cond) c.in-Repeat.place) (sym c.as_slice-in-Repeat.ensures.value)) (c.make_repeat.ensures.means source is);
+}
+
+pub make_stmt-returns-in-Exit : goal.make_stmt-returns-in-Exit
+make_stmt-returns-in-Exit t c = record {
+  grows = extends-same c.args.program.now;
+  means = λ source is. is-next-as _ _ (ap stmt_tree c.in-Exit.is ∙ stmt-exit c.in-Exit.field-0) exits;
+}
+
+pub make_stmt-returns-in-Continue : goal.make_stmt-returns-in-Continue
+make_stmt-returns-in-Continue t c = record {
+  grows = extends-same c.args.program.now;
+  means = λ source is. is-next-as _ _ (ap stmt_tree c.in-Continue.is ∙ stmt-continue c.in-Continue.field-0) continues;
+}
+
+pub make_stmt-returns-in-Return : goal.make_stmt-returns-in-Return
+make_stmt-returns-in-Return t c = record {
+  grows = extends-same c.args.program.now;
+  means = λ source is. is-next-as _ _ (ap stmt_tree c.in-Return.is ∙ stmt-return c.in-Return.field-0) returns;
+}
+
+pub make_stmt-returns-in-Empty : goal.make_stmt-returns-in-Empty
+make_stmt-returns-in-Empty t c = record {
+  grows = extends-same c.args.program.now;
+  means = λ source is. is-next-as _ _ (ap stmt_tree c.in-Empty.is ∙ stmt-empty c.in-Empty.field-0) nothing;
+}
+
+pub make_stmt-returns-in_ok-made-in-Call : goal.make_stmt-returns-in_ok-made-in-Call
+make_stmt-returns-in_ok-made-in-Call t c = record {
+  grows = c.in_ok-made-in-Call.ensures.grows;
+  means = λ source is. is-next-as _ _ (ap stmt_tree c.in-Call.is ∙ stmt-call c.in-Call.call) (calls (c.in_ok-made-in-Call.ensures.means source is));
+}

@@ -1,0 +1,6 @@
+-- what private clauses cite
+pub mod Growth
+pub mod Pairs
+pub mod Made
+pub mod Handed
+pub mod Reached

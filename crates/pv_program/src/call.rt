@@ -1,0 +1,399 @@
+//! Calls: which block one runs, on which instance, and what is handed in and out in the order of the declarations.
+//!
+//! Each parameter is looked for among the arguments of its call.
+ghost use Rattle.std.specs.Prelude.{◌≡◌, ◌++◌, ◌∷◌, [], List, find, bytes_eq, slice_get, option_map, IfOk, OnOk, None, Some, false};
+ghost use Rattle.pv_types.specs.View.{var_tree};
+ghost use Rattle.pv_tree.specs.View.{arg_tree, call_tree, expr_tree, operand_tree};
+ghost use Rattle.pv_tree.specs.Tree.{ArgTree, BlockTree};
+ghost use Rattle.pv_tree.specs.Callees as callees;
+ghost use Rattle.pv_tree.specs.Callees.{CallSite};
+ghost use Rattle.pv_tree.specs.Scopes as scopes;
+ghost use Rattle.pv_tree.specs.Parts as parts;
+ghost use Rattle.pv_tree.specs.Parts.{site};
+ghost use Rattle.pv_names.specs.Callees.{how_tree, param_tree};
+ghost use Rattle.pv_names.specs.Entries.{block_of};
+ghost use Rattle.pv_names.specs.InScope.{scope_of};
+ghost use Rattle.pv_mean.specs.Sources.{Source};
+ghost use Rattle.pv_mean.specs.Calls as calls;
+ghost use Rattle.pv_run.specs.Code.{GoesTo, AreInward, AreOutward, IsCall};
+ghost use Rattle.pv_run.specs.Handing.{Handed, handed_in, handed_out, argument_of};
+ghost use Rattle.pv_resolve.specs.Contexts.{IsContext, block_in};
+ghost use Rattle.pv_program.specs.Growth.{Extends};
+ghost use Rattle.pv_program.specs.Handed.{goes_in, goes_out, handed_if, IsSpotOf, AreGiven, AreTaken};
+
+use crate::grow::{append_inward, append_outward, number, push_call, see_code};
+use crate::instance::instance_of;
+use crate::slot::slot_of;
+use crate::value::{add_target, add_value};
+use pv_machine::Place;
+use pv_names::{Callee, Entry, How, Param, Scope, param_for};
+use pv_resolve::{Context, ResolveFault};
+use pv_run::{Called, First, Inward, Outward, Program, Span};
+use pv_tree::{Arg, CallTree, Expr, Operand};
+use pv_types::{Name, Section, Var};
+use std::alloc::Global;
+
+/// Whether what is declared in a section is copied in.
+fn goes_in(section: Section) -> bool
+    ensures { result ≡ goes_in section }
+{
+    match section {
+        Section::Input | Section::InOut => true,
+        Section::Output | Section::Static | Section::Temp | Section::Const => false,
+    }
+}
+
+/// Whether what is declared in a section is copied out.
+fn goes_out(section: Section) -> bool
+    ensures { result ≡ goes_out section }
+{
+    match section {
+        Section::Output | Section::InOut => true,
+        Section::Input | Section::Static | Section::Temp | Section::Const => false,
+    }
+}
+
+/// Whether a parameter has this name.
+fn has_name(param: Param, name: &Name) -> bool
+    ensures { result ≡ bytes_eq name.now.key (param_tree param.entry).key }
+{
+    match param {
+        Param::Var(var) => *name == var.name,
+        Param::Value(_) => name.key.bytes() == b"ret_val".as_slice(),
+    }
+}
+
+/// Whether an argument is for the parameter of this name.
+fn is_for(how: How, callee: &Entry, name: &Name, arg: &Arg) -> bool
+    ensures { result
+        ≡ calls.is_for (how_tree how) (block_of callee.now) name.now.key (arg_tree arg.now) }
+{
+    match param_for(how, callee, arg) {
+        Some(param) => has_name(param, name),
+        None => false,
+    }
+}
+
+/// The first argument for the parameter of this name.
+fn argument_for<'c>(how: How, callee: &Entry, name: &Name, call: &'c CallTree) -> Option<&'c Arg>
+    ensures { option_map (λ a. arg_tree a.now) result
+        ≡ find (calls.is_for (how_tree how) (block_of callee.now) name.now.key)
+        (call_tree call.now).args }
+{
+    for arg in &call.args {
+        if is_for(how, callee, name, arg) {
+            return Some(arg);
+        }
+    }
+    None
+}
+
+/// The operand that an expression reads.
+fn operand_of(e: &Expr) -> Option<&Operand>
+    ensures { option_map (λ o. operand_tree o.now) result ≡ parts.operand_of (expr_tree e.now) }
+{
+    match e {
+        Expr::Read(operand) => Some(operand),
+        Expr::Lit { .. } => None,
+        Expr::Unary { .. } => None,
+        Expr::Binary { .. } => None,
+        Expr::Std { .. } => None,
+        Expr::Paren(..) => None,
+    }
+}
+
+/// The context of another block of the project.
+pub(crate) fn context_in<'p>(context: &Context<'p>, entry: &'p Entry<'p>) -> Context<'p>
+    ensures is { (source : Source) → IsContext context.now source → IsContext result source }
+    ensures block { block_in result ≡ block_of entry.now }
+{
+    Context {
+        scope: Scope {
+            tables: context.scope.tables,
+            entry,
+        },
+        sizes: context.sizes,
+        data_first: context.data_first,
+        bytes_first: context.bytes_first,
+        bytes: context.bytes,
+    }
+}
+
+/// Hands an argument's value to the parameter of this name.
+fn give(
+    alloc: Global,
+    context: &Context,
+    inner: &Context,
+    program: &mut Program,
+    made: &mut Vec<Inward>,
+    name: &Name,
+    e: &Expr,
+) -> Result<(), ResolveFault>
+    ensures grows { OnOk result (Extends program.old program.new) }
+    ensures given { (source : Source) (at : CallSite) (h : Handed) (hs : List Handed)
+        (arg : ArgTree)
+        → IsContext context.now source → IsContext inner.now source
+        → argument_of at (block_in inner.now) h ≡ Some arg → arg.value ≡ expr_tree e.now
+        → IsSpotOf source (block_in inner.now) name.now h
+        → AreGiven source (block_in context.now) program.old at (block_in inner.now)
+        made.old.items hs
+        → OnOk result (AreGiven source (block_in context.now) program.new at (block_in inner.now)
+        made.new.items (hs ++ h ∷ [])) }
+{
+    let value = add_value(alloc, context, program, e)?;
+    let begin = inner.word(name, true)?;
+    let to = slot_of(begin)?;
+    made.push(Inward { value, to })?;
+    Ok(())
+}
+
+/// Hands a variable's argument in, if it is a parameter that has one.
+fn hand_in(
+    alloc: Global,
+    context: &Context,
+    inner: &Context,
+    how: How,
+    call: &CallTree,
+    program: &mut Program,
+    made: &mut Vec<Inward>,
+    var: &Var,
+) -> Result<(), ResolveFault>
+    ensures grows { OnOk result (Extends program.old program.new) }
+    ensures given { (source : Source) (hs : List Handed)
+        → IsContext context.now source → IsContext inner.now source
+        → AreGiven source (block_in context.now) program.old
+        (site (how_tree how) (call_tree call.now)) (block_in inner.now) made.old.items hs
+        → OnOk result (AreGiven source (block_in context.now) program.new
+        (site (how_tree how) (call_tree call.now)) (block_in inner.now) made.new.items
+        (hs ++ handed_if source (block_in inner.now) goes_in (var_tree var.now))) }
+{
+    if !goes_in(var.section) {
+        return Ok(());
+    }
+    match argument_for(how, inner.scope.entry, &var.name, call) {
+        Some(arg) => give(alloc, context, inner, program, made, &var.name, &arg.value),
+        None => Ok(()),
+    }
+}
+
+/// Puts what a call hands in behind that of the program.
+fn add_inward(
+    alloc: Global,
+    context: &Context,
+    inner: &Context,
+    how: How,
+    call: &CallTree,
+    program: &mut Program,
+) -> Result<Span, ResolveFault>
+    ensures grows { OnOk result (Extends program.old program.new) }
+    ensures are { (source : Source) → IsContext context.now source → IsContext inner.now source
+        → IfOk result (λ s. AreInward source (block_in context.now) program.new
+        (site (how_tree how) (call_tree call.now)) (block_in inner.now) s.first s.end
+        (handed_in source (block_in inner.now))) }
+{
+    let mut made = Vec::new(alloc);
+    let vars = inner.scope.entry.block().interface.vars.as_slice();
+    for var in vars {
+        hand_in(alloc, context, inner, how, call, program, &mut made, var)?;
+    }
+    let span = append_inward(program, made.as_slice())?;
+    Ok(span)
+}
+
+/// The target that an argument is, if it is an operand.
+fn add_taker(
+    alloc: Global,
+    context: &Context,
+    program: &mut Program,
+    e: &Expr,
+) -> Result<Option<u32>, ResolveFault>
+    ensures grows { OnOk result (Extends program.old program.new) }
+    ensures goes { (source : Source) → IsContext context.now source
+        → IfOk result (λ to. GoesTo source (block_in context.now) program.new to
+        (parts.operand_of (expr_tree e.now))) }
+{
+    match operand_of(e) {
+        Some(operand) => {
+            let to = add_target(alloc, context, program, operand)?;
+            Ok(Some(to))
+        }
+        None => Ok(None),
+    }
+}
+
+/// Hands the parameter of this name to its argument.
+fn take(
+    alloc: Global,
+    context: &Context,
+    inner: &Context,
+    program: &mut Program,
+    made: &mut Vec<Outward>,
+    name: &Name,
+    e: &Expr,
+) -> Result<(), ResolveFault>
+    ensures grows { OnOk result (Extends program.old program.new) }
+    ensures taken { (source : Source) (at : CallSite) (h : Handed) (hs : List Handed)
+        (arg : ArgTree)
+        → IsContext context.now source → IsContext inner.now source
+        → argument_of at (block_in inner.now) h ≡ Some arg → arg.value ≡ expr_tree e.now
+        → IsSpotOf source (block_in inner.now) name.now h
+        → AreTaken source (block_in context.now) program.old at (block_in inner.now)
+        made.old.items hs
+        → OnOk result (AreTaken source (block_in context.now) program.new at (block_in inner.now)
+        made.new.items (hs ++ h ∷ [])) }
+{
+    let to = add_taker(alloc, context, program, e)?;
+    let begin = inner.word(name, true)?;
+    let from = slot_of(begin)?;
+    made.push(Outward { from, to })?;
+    Ok(())
+}
+
+/// Hands a variable out to its argument, if it is a parameter that has one.
+fn hand_out(
+    alloc: Global,
+    context: &Context,
+    inner: &Context,
+    how: How,
+    call: &CallTree,
+    program: &mut Program,
+    made: &mut Vec<Outward>,
+    var: &Var,
+) -> Result<(), ResolveFault>
+    ensures grows { OnOk result (Extends program.old program.new) }
+    ensures taken { (source : Source) (hs : List Handed)
+        → IsContext context.now source → IsContext inner.now source
+        → AreTaken source (block_in context.now) program.old
+        (site (how_tree how) (call_tree call.now)) (block_in inner.now) made.old.items hs
+        → OnOk result (AreTaken source (block_in context.now) program.new
+        (site (how_tree how) (call_tree call.now)) (block_in inner.now) made.new.items
+        (hs ++ handed_if source (block_in inner.now) goes_out (var_tree var.now))) }
+{
+    if !goes_out(var.section) {
+        return Ok(());
+    }
+    match argument_for(how, inner.scope.entry, &var.name, call) {
+        Some(arg) => take(alloc, context, inner, program, made, &var.name, &arg.value),
+        None => Ok(()),
+    }
+}
+
+/// Puts what a call of SCL hands out behind that of the program.
+fn add_outward(
+    alloc: Global,
+    context: &Context,
+    inner: &Context,
+    how: How,
+    call: &CallTree,
+    program: &mut Program,
+) -> Result<Span, ResolveFault>
+    requires { callees.is_by_stl (how_tree how) ≡ false }
+    ensures grows { OnOk result (Extends program.old program.new) }
+    ensures are { (source : Source) → IsContext context.now source → IsContext inner.now source
+        → IfOk result (λ s. AreOutward source (block_in context.now) program.new
+        (site (how_tree how) (call_tree call.now)) (block_in inner.now) s.first s.end
+        (handed_out source (how_tree how) (block_in inner.now))) }
+{
+    let mut made = Vec::new(alloc);
+    let vars = inner.scope.entry.block().interface.vars.as_slice();
+    for var in vars {
+        hand_out(alloc, context, inner, how, call, program, &mut made, var)?;
+    }
+    let span = append_outward(program, made.as_slice())?;
+    Ok(span)
+}
+
+/// The number of a block, which is the first of its name.
+fn number_of_block(context: &Context, entry: &Entry) -> Result<u32, ResolveFault>
+    ensures { (source : Source) → IsContext context.now source
+        → scopes.first_block source.project.blocks (block_of entry.now).name.key
+        ≡ Some (block_of entry.now)
+        → IfOk result (λ n. slice_get source.project.blocks n ≡ Some (block_of entry.now)) }
+{
+    match context.scope.tables.number_of(&entry.block().name) {
+        Some(n) => number(n),
+        None => Err(ResolveFault::TooLarge),
+    }
+}
+
+/// Puts a call of SCL that runs a block behind those of the program, and gives its number.
+fn add_running(
+    alloc: Global,
+    context: &Context,
+    inner: &Context,
+    how: How,
+    call: &CallTree,
+    program: &mut Program,
+) -> Result<u32, ResolveFault>
+    requires { callees.is_by_stl (how_tree how) ≡ false }
+    ensures grows { OnOk result (Extends program.old program.new) }
+    ensures means { (source : Source) → IsContext context.now source → IsContext inner.now source
+        → callees.callee_of (record { project = source.project; block = block_in context.now })
+        (site (how_tree how) (call_tree call.now)) ≡ callees.runs (block_in inner.now)
+        → IfOk result (λ c. IsCall source (block_in context.now) program.new c
+        (site (how_tree how) (call_tree call.now))) }
+{
+    let block = number_of_block(context, inner.scope.entry)?;
+    let first = instance_of(context, call)?;
+    let inward = add_inward(alloc, context, inner, how, call, program)?;
+    let outward = add_outward(alloc, context, inner, how, call, program)?;
+    let made = push_call(
+        program,
+        Called {
+            block: Some(block),
+            first,
+            inward,
+            outward,
+            place: call.place,
+        },
+    )?;
+    see_code(program, block)?;
+    Ok(made)
+}
+
+/// Puts a call that runs no block behind those of the program, and gives its number.
+fn add_idle(program: &mut Program, place: Place) -> Result<u32, ResolveFault>
+    ensures grows { OnOk result (Extends program.old program.new) }
+    ensures means { (source : Source) (block : BlockTree) (at : CallSite)
+        → callees.block_of_callee (callees.callee_of
+        (record { project = source.project; block = block }) at) ≡ None
+        → IfOk result (λ c. IsCall source block program.new c at) }
+{
+    let nothing = Span { first: 0, end: 0 };
+    let made = push_call(
+        program,
+        Called {
+            block: None,
+            first: First::At(0),
+            inward: nothing,
+            outward: nothing,
+            place,
+        },
+    )?;
+    Ok(made)
+}
+
+/// Puts a call of SCL behind those of the program, and gives its number.
+pub(crate) fn add_call(
+    alloc: Global,
+    context: &Context,
+    how: How,
+    call: &CallTree,
+    program: &mut Program,
+) -> Result<u32, ResolveFault>
+    requires { callees.is_by_stl (how_tree how) ≡ false }
+    ensures grows { OnOk result (Extends program.old program.new) }
+    ensures means { (source : Source) → IsContext context.now source
+        → IfOk result (λ c. IsCall source (block_in context.now) program.new c
+        (site (how_tree how) (call_tree call.now))) }
+{
+    match context.scope.callee_of(how, call) {
+        Callee::Runs(entry) => {
+            let inner = context_in(context, entry);
+            add_running(alloc, context, &inner, how, call, program)
+        }
+        Callee::NotDeclared(_) => add_idle(program, call.place),
+        Callee::NotCallable(_) => add_idle(program, call.place),
+        Callee::Unknown => add_idle(program, call.place),
+    }
+}

@@ -1,0 +1,21 @@
+//! A project's entered block and those that calls lead to from there, as a program that pv_run runs.
+//!
+//! Each block's text is gone through once. The lists inside a statement are put behind the program before the statement itself, so a
+//! list is gathered apart and put behind it whole. What is said of each call is that what stood in the program stands there still
+//! (`Extends`), and what the number that it gives means there (`IsValue`, `IsBody`, `IsCall`, ..), for every source of the context.
+#![tactic(auto)]
+
+mod block;
+mod call;
+mod choice;
+mod fault;
+mod grow;
+mod instance;
+mod project;
+mod reach;
+mod slot;
+mod stmt;
+mod value;
+
+pub use fault::ProgramFault;
+pub use project::program_of;

@@ -1,0 +1,171 @@
+//! The program of a project.
+ghost use Rattle.std.specs.Prelude.{◌≡◌, ◌++◌, ◌∷◌, [], IfOk, OnOk, Some, length, map, slice_get};
+ghost use Rattle.pv_tree.specs.View.{block_tree};
+ghost use Rattle.pv_names.specs.Entries.{block_of};
+ghost use Rattle.pv_names.specs.Tables.{project_of};
+ghost use Rattle.pv_mean.specs.Frames as frames;
+ghost use Rattle.pv_mean.specs.Sources.{Source};
+ghost use Rattle.pv_mean.specs.ProjectSizes.{project_tree};
+ghost use Rattle.pv_mean.specs.Sized.{sized_project};
+ghost use Rattle.pv_eval.specs.Writes.{TypesOf};
+ghost use Rattle.pv_run.specs.Code.{IsProgram};
+ghost use Rattle.pv_resolve.specs.Contexts.{IsContext, bytes_tree};
+ghost use Rattle.pv_program.specs.Growth.{Coded};
+ghost use Rattle.pv_program.specs.Reached.{AreCodes, AreMade};
+
+use crate::fault::ProgramFault;
+use crate::reach::reached;
+use pv_machine::Role;
+use pv_mean::{Cell, Sizes};
+use pv_names::{Entry, Scope, Tables, entries};
+use pv_resolve::{AreaBytes, context_of};
+use pv_run::{Code, List, Program};
+use pv_tree::Project;
+use pv_word::Ty;
+use std::alloc::{AllocError, Global};
+
+fn is_brief(role: Role) -> bool
+    ensures { result ≡ frames.is_brief role }
+{
+    match role {
+        Role::Brief => true,
+        Role::Input | Role::Param | Role::Kept => false,
+    }
+}
+
+/// Puts the type of a cell behind others, if the cell is visible.
+fn push_visible(types: &mut Vec<Ty>, cell: &Cell) -> Result<(), AllocError>
+    ensures { OnOk result (types.new.items
+        ≡ types.old.items ++ map (λ c. c.ty) (frames.visible_cells (cell.now ∷ []))) }
+{
+    if !is_brief(cell.role) {
+        types.push(cell.ty)?;
+    }
+    Ok(())
+}
+
+/// The types of the visible cells.
+fn visible_types(alloc: Global, cells: &[Cell]) -> Result<Vec<Ty>, AllocError>
+    ensures { IfOk result (λ types. types.items
+        ≡ map (λ c. c.ty) (frames.visible_cells cells.now)) }
+{
+    let mut types = Vec::new(alloc);
+    for cell in cells {
+        push_visible(&mut types, cell)?;
+    }
+    Ok(types)
+}
+
+/// What stands for the code of a block while a program is made.
+const NOT_MADE: Code = Code {
+    body: List { first: 0, end: 0 },
+    brief: 0,
+    value: 0,
+};
+
+/// A program of nothing yet, for a project of so many blocks.
+fn begun(
+    alloc: Global,
+    types: Vec<Ty>,
+    bound: u32,
+    entry: u32,
+    blocks: usize,
+) -> Result<Program, AllocError>
+    ensures types { IfOk result (λ p. p.types ≡ types) }
+    ensures bound { IfOk result (λ p. p.bound ≡ bound) }
+    ensures entry { IfOk result (λ p. p.entry ≡ entry) }
+{
+    Ok(Program {
+        stmts: Vec::new(alloc),
+        arms: Vec::new(alloc),
+        branches: Vec::new(alloc),
+        choices: Vec::new(alloc),
+        calls: Vec::new(alloc),
+        inward: Vec::new(alloc),
+        outward: Vec::new(alloc),
+        blocks: vec![in alloc; Some(NOT_MADE); blocks]?,
+        entry,
+        values: Vec::new(alloc),
+        targets: Vec::new(alloc),
+        types,
+        bound,
+        scratch: 0,
+        widest: 0,
+    })
+}
+
+/// The program with this code of its blocks.
+fn with_blocks(program: Program, blocks: Vec<Option<Code>>) -> Program
+    ensures bound { result.bound ≡ program.bound }
+    ensures entry { result.entry ≡ program.entry }
+    ensures is { (source : Source) → AreCodes source program blocks.items
+        → AreMade blocks.items program.calls.items (length program.calls.items)
+        → Coded blocks.items program.entry → TypesOf source program.types.items
+        → source.bound ≡ program.bound
+        → slice_get source.project.blocks program.entry ≡ Some source.entry
+        → IsProgram source result }
+{
+    let mut program = program;
+    program.blocks = blocks;
+    program
+}
+
+/// The program of the project of these tables, entered at the block of this number.
+fn program_in<'p>(
+    alloc: Global,
+    tables: &'p Tables<'p>,
+    sizes: &'p Sizes<'p>,
+    entered: &'p Entry<'p>,
+    entry: u32,
+    bytes: AreaBytes<'p>,
+    cells: &[Cell],
+    bound: u32,
+) -> Result<Program, ProgramFault>
+    ensures bound { IfOk result (λ p. p.bound ≡ bound) }
+    ensures entry { IfOk result (λ p. p.entry ≡ entry) }
+    ensures is { (source : Source) → project_of tables.now ≡ source.project
+        → sized_project sizes.now ≡ source.project → block_of entered.now ≡ source.entry
+        → slice_get source.project.blocks entry ≡ Some source.entry
+        → bytes_tree bytes.entry ≡ source.bytes → cells.now ≡ source.cells → bound ≡ source.bound
+        → IfOk result (IsProgram source) }
+{
+    let scope = Scope {
+        tables,
+        entry: entered,
+    };
+    let context = context_of(scope, sizes, entered.block(), bytes)?;
+    let types = visible_types(alloc, cells)?;
+    let mut program = begun(alloc, types, bound, entry, tables.entries().len())?;
+    let blocks = reached(alloc, &context, &mut program)?;
+    Ok(with_blocks(program, blocks))
+}
+
+/// The program of a project that is entered at the block of this number, where these bytes of areas have cells, with this table of
+/// cells and the most turns that one entry into a loop takes. It has code of the block that is entered and of those that calls in
+/// the text lead to from there.
+///
+/// It is too large where a number of a cell lies beyond what a table may have, where a number of the text doesn't fit 64 bits, or
+/// where there is no such block.
+pub fn program_of(
+    alloc: Global,
+    project: &Project,
+    entry: u32,
+    bytes: AreaBytes,
+    cells: &[Cell],
+    bound: u32,
+) -> Result<Program, ProgramFault>
+    ensures bound { IfOk result (λ p. p.bound ≡ bound) }
+    ensures entry { IfOk result (λ p. p.entry ≡ entry) }
+    ensures is { (source : Source) → project_tree project.now ≡ source.project
+        → slice_get source.project.blocks entry ≡ Some source.entry
+        → bytes_tree bytes.entry ≡ source.bytes → cells.now ≡ source.cells → bound ≡ source.bound
+        → IfOk result (IsProgram source) }
+{
+    let list = entries(alloc, project.blocks().list.as_slice())?;
+    let tables = Tables::of(alloc, list.as_slice(), project.symbols())?;
+    let sizes = Sizes::of(alloc, project)?;
+    match tables.entries().get(entry as usize) {
+        Some(entered) => program_in(alloc, &tables, &sizes, entered, entry, bytes, cells, bound),
+        None => Err(ProgramFault::TooLarge),
+    }
+}

@@ -1,0 +1,387 @@
+//! Statements, each with the lists in it put behind the program before it.
+//!
+//! The recursion goes as deep as statements stand inside each other.
+ghost use Rattle.std.specs.Prelude.{◌≡◌, ◌≤◌, length, map, option_map, IfOk, OnOk};
+ghost use Rattle.pv_tree.specs.Tree.{if_, case_, for_, while_, repeat_, assign, assign_call};
+ghost use Rattle.pv_tree.specs.View.{expr_tree, operand_tree, call_tree, stmt_tree, stmt_trees, arms_of, branches_of, else_of};
+ghost use Rattle.pv_mean.specs.Sources.{Source};
+ghost use Rattle.pv_mean.specs.Statements.{step_of};
+ghost use Rattle.pv_run.specs.Code.{IsStmt, AreArms, AreBranches, Counts};
+ghost use Rattle.pv_resolve.specs.Contexts.{IsContext, block_in};
+ghost use Rattle.pv_program.specs.Growth.{Extends};
+ghost use Rattle.pv_program.specs.Made.{IsNext, IsList, IsOther};
+
+use crate::call::add_call;
+use crate::choice::add_choices;
+use crate::grow::{append_arms, append_branches, append_stmts};
+use crate::value::{add_counter, add_target, add_value};
+use pv_machine::Place;
+use pv_names::How;
+use pv_resolve::{Context, ResolveFault, number_of};
+use pv_run::{Arm, Branch, Counting, List, Program, Span, Stmt};
+use pv_tree::{CallTree, Choice as ChoiceTree, Expr, Operand, Stmt as StmtTree};
+use pv_types::{Literal, Name};
+use std::alloc::Global;
+
+fn make_assign(
+    alloc: Global,
+    context: &Context,
+    program: &mut Program,
+    target: &Operand,
+    place: Place,
+    value: &Expr,
+) -> Result<Stmt, ResolveFault>
+    ensures grows { OnOk result (Extends program.old program.new) }
+    ensures means { (source : Source) → IsContext context.now source
+        → IfOk result (λ c. IsNext source (block_in context.now) program.new c
+        (assign (operand_tree target.now) place (expr_tree value.now))) }
+{
+    let from = add_value(alloc, context, program, value)?;
+    let to = add_target(alloc, context, program, target)?;
+    Ok(Stmt::Assign {
+        value: from,
+        target: to,
+    })
+}
+
+fn make_assign_call(
+    alloc: Global,
+    context: &Context,
+    program: &mut Program,
+    target: &Operand,
+    place: Place,
+    call: &CallTree,
+) -> Result<Stmt, ResolveFault>
+    ensures grows { OnOk result (Extends program.old program.new) }
+    ensures means { (source : Source) → IsContext context.now source
+        → IfOk result (λ c. IsNext source (block_in context.now) program.new c
+        (assign_call (operand_tree target.now) place (call_tree call.now))) }
+{
+    let made = add_call(alloc, context, How::Value, call, program)?;
+    let to = add_target(alloc, context, program, target)?;
+    Ok(Stmt::AssignCall {
+        call: made,
+        target: to,
+        place: call.place,
+    })
+}
+
+/// The step of a FOR: 1 where none is written.
+fn step_of(by: &Option<Literal>) -> Result<i64, ResolveFault>
+    ensures { IfOk result (λ v. v ≡ step_of by.now) }
+{
+    match by {
+        Some(literal) => number_of(&literal.value),
+        None => Ok(1),
+    }
+}
+
+fn make_counting(
+    alloc: Global,
+    context: &Context,
+    program: &mut Program,
+    name: &Name,
+    name_place: Place,
+    first: &Expr,
+    last: &Expr,
+    by: &Option<Literal>,
+) -> Result<Counting, ResolveFault>
+    ensures grows { OnOk result (Extends program.old program.new) }
+    ensures counts { (source : Source) → IsContext context.now source
+        → IfOk result (λ c. Counts source (block_in context.now) program.new c name.now name_place
+        (expr_tree first.now) (expr_tree last.now) by.now) }
+{
+    let from = add_value(alloc, context, program, first)?;
+    let to = add_value(alloc, context, program, last)?;
+    let variable = add_counter(alloc, context, program, name, name_place)?;
+    let step = step_of(by)?;
+    Ok(Counting {
+        first: from,
+        last: to,
+        variable,
+        variable_place: name_place,
+        by: step,
+    })
+}
+
+/// Puts the arms of an IF behind those of the program, and what they run behind its statements.
+#[cycle(making)]
+fn make_arms(
+    alloc: Global,
+    context: &Context,
+    program: &mut Program,
+    arms: &Vec<(Expr, Vec<StmtTree>)>,
+) -> Result<Span, ResolveFault>
+    ensures grows { OnOk result (Extends program.old program.new) }
+    ensures are { (source : Source) → IsContext context.now source
+        → IfOk result (λ s. AreArms source (block_in context.now) program.new
+        (length program.new.stmts.items) s.first s.end
+        (arms_of (map (λ a. (expr_tree a.0, stmt_trees a.1.items)) arms.now.items))) }
+{
+    let mut made = Vec::new(alloc);
+    for arm in arms {
+        let condition = add_value(alloc, context, program, &arm.0)?;
+        let body = make_list(alloc, context, program, arm.1.as_slice())?;
+        made.push(Arm { condition, body })?;
+    }
+    let span = append_arms(program, made.as_slice())?;
+    Ok(span)
+}
+
+/// Puts the branches of a CASE behind those of the program, and what they run behind its statements.
+#[cycle(making)]
+fn make_branches(
+    alloc: Global,
+    context: &Context,
+    program: &mut Program,
+    branches: &Vec<(Vec<(ChoiceTree, Option<ChoiceTree>)>, Vec<StmtTree>)>,
+) -> Result<Span, ResolveFault>
+    ensures grows { OnOk result (Extends program.old program.new) }
+    ensures are { (source : Source) → IsContext context.now source
+        → IfOk result (λ s. AreBranches source (block_in context.now) program.new
+        (length program.new.stmts.items) s.first s.end
+        (branches_of (map (λ b. (b.0.items, stmt_trees b.1.items)) branches.now.items))) }
+{
+    let mut made = Vec::new(alloc);
+    for branch in branches {
+        let choices = add_choices(alloc, context, program, branch.0.as_slice())?;
+        let body = make_list(alloc, context, program, branch.1.as_slice())?;
+        made.push(Branch { choices, body })?;
+    }
+    let span = append_branches(program, made.as_slice())?;
+    Ok(span)
+}
+
+/// What stands behind ELSE; nothing where it isn't there.
+#[cycle(making)]
+fn make_other(
+    alloc: Global,
+    context: &Context,
+    program: &mut Program,
+    other: &Option<Vec<StmtTree>>,
+) -> Result<List, ResolveFault>
+    ensures grows { OnOk result (Extends program.old program.new) }
+    ensures is { (source : Source) → IsContext context.now source
+        → IfOk result (λ l. IsOther source (block_in context.now) program.new l
+        (else_of (option_map (λ o. stmt_trees o.items) other.now))) }
+{
+    match other {
+        Some(list) => make_list(alloc, context, program, list.as_slice()),
+        None => Ok(List { first: 0, end: 0 }),
+    }
+}
+
+#[cycle(making)]
+fn make_if(
+    alloc: Global,
+    context: &Context,
+    program: &mut Program,
+    arms: &Vec<(Expr, Vec<StmtTree>)>,
+    other: &Option<Vec<StmtTree>>,
+    place: Place,
+) -> Result<Stmt, ResolveFault>
+    ensures grows { OnOk result (Extends program.old program.new) }
+    ensures means { (source : Source) → IsContext context.now source
+        → IfOk result (λ c. IsNext source (block_in context.now) program.new c
+        (if_ (arms_of (map (λ a. (expr_tree a.0, stmt_trees a.1.items)) arms.now.items))
+        (else_of (option_map (λ o. stmt_trees o.items) other.now)) place)) }
+{
+    let span = make_arms(alloc, context, program, arms)?;
+    let list = make_other(alloc, context, program, other)?;
+    Ok(Stmt::If {
+        arms: span,
+        other: list,
+    })
+}
+
+#[cycle(making)]
+fn make_case(
+    alloc: Global,
+    context: &Context,
+    program: &mut Program,
+    selector: &Expr,
+    branches: &Vec<(Vec<(ChoiceTree, Option<ChoiceTree>)>, Vec<StmtTree>)>,
+    other: &Option<Vec<StmtTree>>,
+    place: Place,
+) -> Result<Stmt, ResolveFault>
+    ensures grows { OnOk result (Extends program.old program.new) }
+    ensures means { (source : Source) → IsContext context.now source
+        → IfOk result (λ c. IsNext source (block_in context.now) program.new c
+        (case_ (expr_tree selector.now)
+        (branches_of (map (λ b. (b.0.items, stmt_trees b.1.items)) branches.now.items))
+        (else_of (option_map (λ o. stmt_trees o.items) other.now)) place)) }
+{
+    let value = add_value(alloc, context, program, selector)?;
+    let span = make_branches(alloc, context, program, branches)?;
+    let list = make_other(alloc, context, program, other)?;
+    Ok(Stmt::Case {
+        selector: value,
+        branches: span,
+        other: list,
+    })
+}
+
+#[cycle(making)]
+fn make_for(
+    alloc: Global,
+    context: &Context,
+    program: &mut Program,
+    var: &Name,
+    var_place: Place,
+    first: &Expr,
+    last: &Expr,
+    by: &Option<Literal>,
+    body: &[StmtTree],
+    place: Place,
+) -> Result<Stmt, ResolveFault>
+    ensures grows { OnOk result (Extends program.old program.new) }
+    ensures means { (source : Source) → IsContext context.now source
+        → IfOk result (λ c. IsNext source (block_in context.now) program.new c
+        (for_ var.now var_place (expr_tree first.now) (expr_tree last.now) by.now
+        (stmt_trees body.now) place)) }
+{
+    let counting = make_counting(alloc, context, program, var, var_place, first, last, by)?;
+    let list = make_list(alloc, context, program, body)?;
+    Ok(Stmt::For {
+        counting,
+        body: list,
+        place,
+    })
+}
+
+#[cycle(making)]
+fn make_while(
+    alloc: Global,
+    context: &Context,
+    program: &mut Program,
+    cond: &Expr,
+    body: &[StmtTree],
+    place: Place,
+) -> Result<Stmt, ResolveFault>
+    ensures grows { OnOk result (Extends program.old program.new) }
+    ensures means { (source : Source) → IsContext context.now source
+        → IfOk result (λ c. IsNext source (block_in context.now) program.new c
+        (while_ (expr_tree cond.now) (stmt_trees body.now) place)) }
+{
+    let condition = add_value(alloc, context, program, cond)?;
+    let list = make_list(alloc, context, program, body)?;
+    Ok(Stmt::While {
+        condition,
+        body: list,
+        place,
+    })
+}
+
+#[cycle(making)]
+fn make_repeat(
+    alloc: Global,
+    context: &Context,
+    program: &mut Program,
+    body: &[StmtTree],
+    cond: &Expr,
+    place: Place,
+) -> Result<Stmt, ResolveFault>
+    ensures grows { OnOk result (Extends program.old program.new) }
+    ensures means { (source : Source) → IsContext context.now source
+        → IfOk result (λ c. IsNext source (block_in context.now) program.new c
+        (repeat_ (stmt_trees body.now) (expr_tree cond.now) place)) }
+{
+    let list = make_list(alloc, context, program, body)?;
+    let condition = add_value(alloc, context, program, cond)?;
+    Ok(Stmt::Repeat {
+        body: list,
+        condition,
+        place,
+    })
+}
+
+/// Makes a statement of the block, which may stand behind those of the program.
+#[cycle(making)]
+fn make_stmt(
+    alloc: Global,
+    context: &Context,
+    program: &mut Program,
+    stmt: &StmtTree,
+) -> Result<Stmt, ResolveFault>
+    ensures grows { OnOk result (Extends program.old program.new) }
+    ensures means { (source : Source) → IsContext context.now source
+        → IfOk result (λ c. IsNext source (block_in context.now) program.new c
+        (stmt_tree stmt.now)) }
+{
+    match stmt {
+        StmtTree::Assign {
+            target,
+            place,
+            value,
+        } => make_assign(alloc, context, program, target, *place, value),
+        StmtTree::AssignCall {
+            target,
+            place,
+            call,
+        } => make_assign_call(alloc, context, program, target, *place, call),
+        StmtTree::If { arms, other, place } => {
+            make_if(alloc, context, program, arms, other, *place)
+        }
+        StmtTree::Case {
+            selector,
+            branches,
+            other,
+            place,
+        } => make_case(alloc, context, program, selector, branches, other, *place),
+        StmtTree::For {
+            var,
+            var_place,
+            first,
+            last,
+            by,
+            body,
+            place,
+        } => make_for(
+            alloc,
+            context,
+            program,
+            var,
+            *var_place,
+            first,
+            last,
+            by,
+            body.as_slice(),
+            *place,
+        ),
+        StmtTree::While { cond, body, place } => {
+            make_while(alloc, context, program, cond, body.as_slice(), *place)
+        }
+        StmtTree::Repeat { body, cond, place } => {
+            make_repeat(alloc, context, program, body.as_slice(), cond, *place)
+        }
+        StmtTree::Exit(_) => Ok(Stmt::Exit),
+        StmtTree::Continue(_) => Ok(Stmt::Continue),
+        StmtTree::Return(_) => Ok(Stmt::Return),
+        StmtTree::Call(call) => {
+            let made = add_call(alloc, context, How::Statement, call, program)?;
+            Ok(Stmt::Call(made))
+        }
+        StmtTree::Empty(_) => Ok(Stmt::Empty),
+    }
+}
+
+/// Puts the statements of a list behind those of the program, one behind the other.
+#[cycle(making)]
+pub(crate) fn make_list(
+    alloc: Global,
+    context: &Context,
+    program: &mut Program,
+    list: &[StmtTree],
+) -> Result<List, ResolveFault>
+    ensures grows { OnOk result (Extends program.old program.new) }
+    ensures is { (source : Source) → IsContext context.now source
+        → IfOk result (λ l. IsList source (block_in context.now) program.new l (stmt_trees list.now)) }
+{
+    let mut made = Vec::new(alloc);
+    for stmt in list {
+        let next = make_stmt(alloc, context, program, stmt)?;
+        made.push(next)?;
+    }
+    let all = append_stmts(program, made.as_slice())?;
+    Ok(all)
+}

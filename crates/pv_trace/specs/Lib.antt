@@ -1,0 +1,5 @@
+-- what public clauses cite
+pub mod TraceText
+-- what private clauses cite
+pub mod Words
+pub mod Scans
