@@ -1,5 +1,5 @@
 mod Endings
-mod Starts
+pub mod Starts
 pub mod SclSorts
 mod Facts
 mod Groups
@@ -23,3 +23,4 @@ pub mod SclCasts
 pub mod Whole
 pub mod SclReads
 pub mod SourceEndings
+pub mod ForCallers
