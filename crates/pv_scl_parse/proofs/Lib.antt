@@ -1,4 +1,4 @@
-mod Endings
+pub mod Endings
 pub mod Starts
 pub mod SclSorts
 mod Facts
