@@ -1,8 +1,9 @@
 mod Entering
 mod Lengths
 mod Listing
-mod NameLaws
+pub mod NameLaws
 mod Numbers
 mod Seen
 mod Viewing
 mod Walking
+pub mod ForCallers

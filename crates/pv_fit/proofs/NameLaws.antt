@@ -125,12 +125,12 @@ alone_reads (paren place inner) name tokens sound e r = absurd (cc (e))
 
 -- ---- from the name to the expression
 
-record Alone (name : Name) (tokens : List Lexeme) : Type 0 where
-  tree : ExprTree
-  alone : name_alone tree ≡ Some name
-  reads : ReadAsExpression tree tokens
+pub record Alone (name : Name) (tokens : List Lexeme) : Type 0 where
+  pub tree : ExprTree
+  pub alone : name_alone tree ≡ Some name
+  pub reads : ReadAsExpression tree tokens
 
-name_expression : (name : Name) (place : Place) (tokens : List Lexeme) → SpellsName name place tokens → IsFree name → Alone name tokens
+pub name_expression : (name : Name) (place : Place) (tokens : List Lexeme) → SpellsName name place tokens → IsFree name → Alone name tokens
 name_expression name place tokens (inl one) free = record {
   tree = read (operand (Local name false place) no_steps place);
   alone = refl;
