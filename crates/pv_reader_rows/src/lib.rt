@@ -4,6 +4,12 @@
 #[cfg(test)]
 mod case;
 #[cfg(test)]
+mod case_rows;
+#[cfg(test)]
+mod case_says;
+#[cfg(test)]
+mod case_symbols;
+#[cfg(test)]
 mod fit;
 #[cfg(test)]
 mod parse;
