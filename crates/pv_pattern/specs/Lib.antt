@@ -1,6 +1,5 @@
 -- what public clauses cite
 pub mod Patterns
-pub mod Kinds
 pub mod Reads
 pub mod Texts
 pub mod Failing

@@ -24,9 +24,6 @@ use Rattle.pv_tree.specs.Rules.{Rule, BreaksInPattern}
 use Rattle.pv_tree.specs.Least.{IsLeast}
 use Rattle.pv_mean.specs.Layout.{is_brief_in}
 use Rattle.pv_mean.specs.AreaBytes.{Bytes, bytes_of_operand}
-use Rattle.pv_pattern.specs.Patterns.{Pattern, expressions_of}
-use Rattle.pv_pattern.specs.declared.kind.PatternKind.{PatternKind}
-use Rattle.pv_pattern.specs.Kinds.{kind_of}
 
 -- ---- texts
 
@@ -132,12 +129,6 @@ FailsAt scope [] n fault = ⊥
 FailsAt scope (text ∷ texts) zero fault = IsAtFault scope text fault
 FailsAt scope (text ∷ texts) (suc n) fault =
     ((e : ExprTree) × Says scope text e) × FailsAt scope texts n fault
-
--- the texts of a pattern of this kind are this pattern
-pub record IsReadPattern (scope : Scope) (kind : PatternKind) (texts : List (List ℕ)) (p : Pattern)
-    : Type 0 where
-  pub of_kind : kind_of p ≡ kind
-  pub say : Say scope texts (expressions_of p)
 
 -- ---- area bytes
 

@@ -4,11 +4,9 @@
 //! judged by them; which expression a term is says one record (`IsTermOf` of `specs/Terms`).
 #![tactic(auto)]
 
-mod kind;
 pub mod laws;
 mod pattern;
 mod term;
 
-pub use kind::PatternKind;
 pub use pattern::Pattern;
 pub use term::Term;

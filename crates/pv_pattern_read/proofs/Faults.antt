@@ -6,11 +6,12 @@ use Rattle.pv_tree.specs.Tree.{ExprTree}
 use Rattle.pv_tree.specs.Scopes.{Scope}
 use Rattle.pv_tree.specs.Rules.{BreaksInPattern}
 use Rattle.pv_tree.proofs.ForCallers.{least-one}
-use Rattle.pv_pattern.specs.declared.kind.PatternKind.{PatternKind}
-use Rattle.pv_pattern.specs.declared.kind.PatternKind.TheVariants.{Invariant, Forbidden, Implication, Within, Between, Reach}
-use Rattle.pv_pattern.specs.Kinds.{kind_of}
+use Rattle.pv_case.specs.declared.case.PatternKind.{PatternKind}
+use Rattle.pv_case.specs.declared.case.PatternKind.TheVariants.{Invariant, Forbidden, Implication, Within, Between, Reach}
+use Rattle.pv_pattern_read.specs.Kinds.{kind_of}
 use Rattle.pv_pattern.specs.Patterns.{Pattern, invariant, forbidden, implication, within, between, reach, expressions_of}
-use Rattle.pv_pattern.specs.Texts.{IsTextOf, reads_brief, Fault, unread, broken, brief_cell, no_bool, HasFault, IsAtFault, Says, Say, FailsAt, IsReadPattern}
+use Rattle.pv_pattern.specs.Texts.{IsTextOf, reads_brief, Fault, unread, broken, brief_cell, no_bool, HasFault, IsAtFault, Says, Say, FailsAt}
+use Rattle.pv_pattern_read.specs.Kinds.{IsReadPattern}
 
 -- a text is one expression at most
 abbrev pub IsOneText : Type 0

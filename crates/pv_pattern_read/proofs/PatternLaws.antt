@@ -10,16 +10,17 @@ use Rattle.pv_rules.specs.Names.{rule_of}
 use Rattle.pv_mean.specs.Sources.{Source}
 use Rattle.pv_resolve.specs.declared.context.Context.{Context}
 use Rattle.pv_resolve.specs.Contexts.{IsContext, block_in}
-use Rattle.pv_pattern.specs.declared.kind.PatternKind.{PatternKind}
-use Rattle.pv_pattern.specs.declared.kind.PatternKind.TheVariants as kind
+use Rattle.pv_case.specs.declared.case.PatternKind.{PatternKind}
+use Rattle.pv_case.specs.declared.case.PatternKind.TheVariants as kind
 use Rattle.pv_pattern.specs.declared.term.Term.{Term}
 use Rattle.pv_pattern.specs.declared.pattern.Pattern.{Pattern as Found}
 use Rattle.pv_pattern.specs.declared.pattern.Pattern.TheVariants as found
-use Rattle.pv_pattern.specs.Kinds.{count_of}
+use Rattle.pv_pattern_read.specs.Kinds.{count_of}
 use Rattle.pv_pattern.specs.Patterns.{invariant, forbidden, implication, within, between, reach}
 use Rattle.pv_pattern.specs.Found.{IsPatternOf, is_invariant, is_forbidden, is_implication, is_within, is_between, is_reach}
 use Rattle.pv_pattern.specs.Texts as texts
-use Rattle.pv_pattern.specs.Texts.{Fault, IsAtFault, FailsAt, IsReadPattern}
+use Rattle.pv_pattern.specs.Texts.{Fault, IsAtFault, FailsAt}
+use Rattle.pv_pattern_read.specs.Kinds.{IsReadPattern}
 use Rattle.pv_pattern_read.specs.declared.fault.PatternFault.{PatternFault}
 use Rattle.pv_pattern_read.specs.declared.fault.PatternFault.TheVariants as of
 use Rattle.pv_pattern_read.specs.Answers.{entered, FailsBy, AnswersPattern}

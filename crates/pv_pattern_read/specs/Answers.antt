@@ -8,12 +8,13 @@ use Rattle.pv_rules.specs.Names.{rule_of}
 use Rattle.pv_mean.specs.Sources.{Source}
 use Rattle.pv_mean.specs.Scans.{entry_activation}
 use Rattle.pv_mean.specs.Activations.{scope_in}
-use Rattle.pv_pattern.specs.declared.kind.PatternKind.{PatternKind}
+use Rattle.pv_case.specs.declared.case.PatternKind.{PatternKind}
 use Rattle.pv_pattern.specs.declared.pattern.Pattern.{Pattern as Found}
 use Rattle.pv_pattern.specs.Patterns.{Pattern}
 use Rattle.pv_pattern.specs.Found.{IsPatternOf}
 use Rattle.pv_pattern.specs.Texts as texts
-use Rattle.pv_pattern.specs.Texts.{IsTextOf, HasFault, IsAtFault, Says, FailsAt, IsReadPattern}
+use Rattle.pv_pattern.specs.Texts.{IsTextOf, HasFault, IsAtFault, Says, FailsAt}
+use Rattle.pv_pattern_read.specs.Kinds.{IsReadPattern}
 use Rattle.pv_pattern_read.specs.declared.fault.TextFault.{TextFault}
 use Rattle.pv_pattern_read.specs.declared.fault.TextFault.TheVariants as text
 use Rattle.pv_pattern_read.specs.declared.fault.PatternFault.{PatternFault}

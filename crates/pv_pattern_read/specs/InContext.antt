@@ -7,14 +7,15 @@ use Rattle.pv_rules.specs.Names.{rule_of}
 use Rattle.pv_mean.specs.Sources.{Source}
 use Rattle.pv_resolve.specs.declared.context.Context.{Context}
 use Rattle.pv_resolve.specs.Contexts.{IsContext, block_in}
-use Rattle.pv_pattern.specs.declared.kind.PatternKind.{PatternKind}
+use Rattle.pv_case.specs.declared.case.PatternKind.{PatternKind}
 use Rattle.pv_pattern.specs.declared.term.Term.{Term}
 use Rattle.pv_pattern.specs.declared.pattern.Pattern.{Pattern as Found}
 use Rattle.pv_pattern.specs.Patterns.{Pattern}
 use Rattle.pv_pattern.specs.Terms.{IsTermOf}
 use Rattle.pv_pattern.specs.Found.{IsPatternOf}
 use Rattle.pv_pattern.specs.Texts as texts
-use Rattle.pv_pattern.specs.Texts.{IsAtFault, Says, IsReadPattern}
+use Rattle.pv_pattern.specs.Texts.{IsAtFault, Says}
+use Rattle.pv_pattern_read.specs.Kinds.{IsReadPattern}
 use Rattle.pv_pattern_read.specs.declared.fault.PatternFault.{PatternFault}
 use Rattle.pv_pattern_read.specs.declared.fault.PatternFault.TheVariants as of
 use Rattle.pv_pattern_read.specs.Answers.{FailsBy}

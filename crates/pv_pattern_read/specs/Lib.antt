@@ -1,4 +1,5 @@
 -- what public clauses cite
+pub mod Kinds
 pub mod Answers
 -- what private clauses cite
 pub mod Making

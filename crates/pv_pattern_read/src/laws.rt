@@ -4,9 +4,10 @@ ghost use Rattle.pv_tree.specs.Tree.{ExprTree};
 ghost use Rattle.pv_tree.specs.Scopes.{Scope};
 ghost use Rattle.pv_tree.specs.Lexemes.{Lexeme};
 ghost use Rattle.pv_tree.specs.Reading.{ReadAsExpression};
-ghost use Rattle.pv_pattern.specs.declared.kind.PatternKind.{PatternKind as KindOf};
+ghost use Rattle.pv_case.specs.declared.case.PatternKind.{PatternKind as KindOf};
 ghost use Rattle.pv_pattern.specs.Patterns.{Pattern};
-ghost use Rattle.pv_pattern.specs.Texts.{IsTextOf, Fault, FailsAt, IsReadPattern};
+ghost use Rattle.pv_pattern.specs.Texts.{IsTextOf, Fault, FailsAt};
+ghost use Rattle.pv_pattern_read.specs.Kinds.{IsReadPattern};
 
 use pv_scl_parse::scl_expression;
 

@@ -7,6 +7,7 @@
 mod asking;
 mod brief;
 mod fault;
+mod kind;
 pub mod laws;
 mod making;
 mod named;
@@ -18,5 +19,7 @@ mod text;
 
 pub use asking::said;
 pub use fault::{PatternFault, TextFault};
+pub use kind::count;
 pub use named::named_in;
+pub use pv_case::PatternKind;
 pub use reading::read;

@@ -1,11 +1,10 @@
 //! Cases with the first thing that is at fault with them, in the case itself or against their project, and the member at fault.
 use crate::source::bytes;
-use pv_case::{Case, CaseFault, PatternKind as CaseKind, read as read_case};
+use pv_case::{Case, CaseFault, read as read_case};
 use pv_check::{check, has_no_instructions};
 use pv_fit::{EntryFault, entry_of};
 use pv_lex::{Language, MAX_SOURCE, tokens};
-use pv_pattern::PatternKind;
-use pv_pattern_read::{PatternFault, read};
+use pv_pattern_read::{PatternFault, count, read};
 use pv_scl_parse::parse;
 use pv_tree::{Blocks, Project};
 use std::alloc::{AllocError, Global};
@@ -47,17 +46,6 @@ const IN_WRITER: &str = "\
 \"entry\":\"Demo\",\"pattern\":{\"kind\":\"invariant\",\"a\":\"q = 1\"},\"depth\":3,>fits|\
 \"entry\":\"Demo\",\"pattern\":{\"kind\":\"implication\",\"a\":\"q\",\"b\":\"t = 1\"},\"depth\":3,>NotBool a";
 
-fn kind_of(kind: CaseKind) -> PatternKind {
-    match kind {
-        CaseKind::Invariant => PatternKind::Invariant,
-        CaseKind::Forbidden => PatternKind::Forbidden,
-        CaseKind::Implication => PatternKind::Implication,
-        CaseKind::Within => PatternKind::Within,
-        CaseKind::Between => PatternKind::Between,
-        CaseKind::Reach => PatternKind::Reach,
-    }
-}
-
 fn letter(expression: u8) -> &'static str {
     match expression {
         0 => "a",
@@ -90,9 +78,9 @@ fn told(alloc: Global, fault: PatternFault) -> Result<String, AllocError> {
 
 /// What is answered of the case's pattern.
 fn of_pattern(alloc: Global, case: &Case, project: &Project, entry: u32) -> Result<String, Fail> {
-    let kind = kind_of(case.pattern.kind);
+    let kind = case.pattern.kind;
     let texts = case.pattern.expressions.as_slice();
-    if texts.len() != kind.count() || entry as usize >= project.blocks().list.len() {
+    if texts.len() != count(kind) || entry as usize >= project.blocks().list.len() {
         return Ok(String::from_str(alloc, "count")?);
     }
     if !texts.iter().all(|t| t.len() <= MAX_SOURCE) {

@@ -6,8 +6,8 @@ ghost use Rattle.pv_pattern.specs.Terms.{IsStored};
 
 use crate::source::{BEGIN, DATA, DEMO, END, OB1, bytes, project};
 use pv_lex::MAX_SOURCE;
-use pv_pattern::{Pattern, PatternKind};
-use pv_pattern_read::{PatternFault, read};
+use pv_pattern::Pattern;
+use pv_pattern_read::{PatternFault, PatternKind, count, read};
 use pv_tree::Project;
 use std::alloc::{AllocError, Global};
 use std::test::Fail;
@@ -222,7 +222,7 @@ fn answer(
     kind: PatternKind,
     texts: &[String],
 ) -> Result<String, Fail> {
-    if texts.len() != kind.count() {
+    if texts.len() != count(kind) {
         return Ok(String::from_str(alloc, "count")?);
     }
     if !texts.iter().all(|t| t.len() <= MAX_SOURCE) {

@@ -1,5 +1,5 @@
 use Rattle.std.proofs.Common.{[], ◌∷◌}
-use Rattle.pv_pattern.specs.declared.kind.PatternKind.TheVariants as kind
+use Rattle.pv_case.specs.declared.case.PatternKind.TheVariants as kind
 use Rattle.pv_pattern_read.proofs.PatternLaws.{of_terms, found_invariant, found_forbidden, found_reach, found_implication, found_within, found_between}
 use Rattle.pv_pattern_read.proofs.reading.pattern_of.Goals as goal
 
