@@ -2,6 +2,8 @@
 #![tactic(auto)]
 
 #[cfg(test)]
+mod expression_rows;
+#[cfg(test)]
 mod pattern_rows;
 #[cfg(test)]
 mod project_rows;

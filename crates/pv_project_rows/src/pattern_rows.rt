@@ -174,7 +174,7 @@ fn blocks(alloc: Global) -> Result<Vec<Block>, AllocError> {
     Ok(all)
 }
 
-fn name_of(ty: Ty) -> &'static str {
+pub(crate) fn name_of(ty: Ty) -> &'static str {
     match ty {
         Ty::Bool => "BOOL",
         Ty::Byte => "BYTE",
