@@ -1,0 +1,23 @@
+-- What is said of a source of SCL by its tokens. A fault is told by the bytes before it.
+use Rattle.std.specs.Prelude.{◌≡◌, ℕ, List}
+use Rattle.pv_machine.specs.declared.place.Place.{Place}
+use Rattle.pv_lex.specs.declared.token.Language.TheVariants.{Scl}
+use Rattle.pv_tree.specs.Tree.{BlockTree}
+use Rattle.pv_tree.specs.Lexemes.{Lexeme}
+use Rattle.pv_tree.specs.Outside.{IsFirstOutside}
+use Rattle.pv_tree.specs.Reading.{ReadAsBlocks, IsRead, IsTooDeep, IsSyntaxFaultAt}
+
+-- it is these blocks; this word is the first outside the profile; its syntax is at fault there, or it nests too deep, first there
+pub data Judgement : Type 0 where
+  read : List BlockTree → Judgement
+  outside : Lexeme → Judgement
+  syntax : ℕ → Judgement
+  deep : ℕ → Judgement
+
+abbrev pub Judged : List Lexeme → Judgement → Type 0
+Judged tokens (read blocks) = IsRead Scl tokens blocks
+Judged tokens (outside word) = IsFirstOutside Scl tokens word
+Judged tokens (syntax offset) =
+    (place : Place) × IsSyntaxFaultAt (ReadAsBlocks Scl) Scl tokens place × (place.offset ≡ offset)
+Judged tokens (deep offset) =
+    (place : Place) × IsTooDeep Scl tokens place × (place.offset ≡ offset)

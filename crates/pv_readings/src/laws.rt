@@ -1,0 +1,40 @@
+//! What is said of a text, said of all texts.
+ghost use Rattle.std.specs.Prelude.{◌≡◌, ℕ, List};
+ghost use Rattle.pv_types.specs.declared.name.Name.{Name};
+ghost use Rattle.pv_lex.specs.declared.token.Token.{Token};
+ghost use Rattle.pv_lex.specs.declared.token.Language.TheVariants.{Scl};
+ghost use Rattle.pv_lex.specs.Tokens.{AreTokens};
+ghost use Rattle.pv_tree.specs.Tree.{BlockTree};
+ghost use Rattle.pv_tree.specs.Lexemes.{Lexeme, lexemes_of};
+ghost use Rattle.pv_tree.specs.Reading.{ReadAsBlocks};
+ghost use Rattle.pv_fit.specs.Entries.{IsNameText};
+ghost use Rattle.pv_readings.specs.Judgements.{Judgement, Judged};
+
+use pv_pattern_read::laws::tokens_read_as_one_expression;
+use pv_scl_parse::scl;
+
+/// Tokens read as one list of blocks at most.
+pub fn tokens_read_as_one_source()
+    ensures { (tokens : List Lexeme) (all other : List BlockTree) → ReadAsBlocks Scl all tokens
+        → ReadAsBlocks Scl other tokens → all ≡ other }
+{
+    let _language = scl();
+}
+
+/// A source of SCL reads in one way: it has one first word outside the profile, or else one place at which its syntax is at fault, or
+/// else is one list of blocks, which nests too deep first at one place or doesn't.
+pub fn sources_are_judged_in_one_way()
+    ensures { (file : ℕ) (text : List ℕ) (tokens : List Token) (one other : Judgement)
+        → AreTokens Scl file text tokens → Judged (lexemes_of text tokens) one
+        → Judged (lexemes_of text tokens) other → one ≡ other }
+{
+    let _language = scl();
+}
+
+/// A text, as that of a case's entry, is one name at most.
+pub fn texts_are_one_name()
+    ensures { (text : List ℕ) (one other : Name) → IsNameText text one → IsNameText text other
+        → one ≡ other }
+{
+    tokens_read_as_one_expression();
+}
