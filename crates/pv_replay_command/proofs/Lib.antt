@@ -1,0 +1,9 @@
+mod Examples
+pub mod OneEnd
+pub mod Ending
+pub mod Scanning
+pub mod Starts
+pub mod TraceLaws
+pub mod Saying
+pub mod Exactly
+pub mod ForCallers
