@@ -1,6 +1,6 @@
 -- The block that a call runs is one of the project's, and each call of a body is among the block's calls.
 use Rattle.std.proofs.Common.{◌≡◌, ◌+◌, ℕ, zero, suc, List, [], ◌∷◌, ◌++◌, Bool, true, false, cond, Option, Some, None, refl, sym, subst, arith}
-use Rattle.std.specs.Prelude.{⊤, Contains, flat_map, is_some, if◌then◌else◌, option_and_then}
+use Rattle.std.specs.Prelude.{⊤, Contains, IfSome, IsTrue, flat_map, map, option_to_list, is_some, if◌then◌else◌, option_and_then}
 use Rattle.std.proofs.lemmas.List.Elements.{Contains-append_left, Contains-append_right}
 use Rattle.std.proofs.lemmas.List.Concat.{flat_map-append}
 use Rattle.pv_machine.specs.declared.place.Place.{Place}
@@ -9,13 +9,15 @@ use Rattle.pv_types.specs.Tree.{TypeTree, plain, array, structure, named, unread
 use Rattle.pv_types.specs.View.{declared_type_of}
 use Rattle.pv_tree.specs.declared.block.BlockKind.{BlockKind}
 use Rattle.pv_tree.specs.declared.block.BlockKind.TheVariants.{Fb, Fc, Ob, Db, Udt}
-use Rattle.pv_tree.specs.Tree.{PlacedName, StmtTree, assign, assign_call, if_, case_, for_, while_, repeat_, exit_, continue_, return_, call_, empty_, StmtTrees, no_stmts, stmts, ArmTrees, no_arms, arms, BranchTrees, no_branches, branches, ElseTree, no_else, else_, BodyTree, scl, stl, starts, BlockTree}
+use Rattle.pv_tree.specs.Tree.{PlacedName, OperandTree, CallPlain, InstrTree, StmtTree, assign, assign_call, if_, case_, for_, while_, repeat_, exit_, continue_, return_, call_, empty_, StmtTrees, no_stmts, stmts, ArmTrees, no_arms, arms, BranchTrees, no_branches, branches, ElseTree, no_else, else_, BodyTree, scl, stl, starts, BlockTree}
 use Rattle.pv_tree.specs.Scopes.{ProjectTree, Scope, has_key, first_block, first_var, is_fb, is_type, block_where, type_named}
 use Rattle.pv_tree.specs.Callees.{How, as_statement, as_value, by_call, by_uc, is_by_stl, CallSite, is_word, Called, a_variable, block_called, no_callee, undeclared, called_where, called_block, called_name, Callee, runs, not_declared, not_callable, unknown, may_be_instance, function_runs, instance_runs, instance_of, variable_runs, block_runs, one_name_runs, data_block_runs, second_name_runs, first_name_runs, callee_of}
-use Rattle.pv_tree.specs.Parts.{Loop, a_for, another, Spot, spots_of, spots_of_stmts, spots_of_arms, spots_of_branches, spots_of_else, spots_of_body, calls_of_stmt, calls_of}
+use Rattle.pv_tree.specs.Parts.{Loop, a_for, another, Spot, spots_of, spots_of_stmts, spots_of_arms, spots_of_branches, spots_of_else, spots_of_body, site, how_of, instructions_of, calls_of_instruction, calls_of_stmt, calls_of}
+use Rattle.pv_tree.specs.InstructionGroups.{is_written, group_of}
 use Rattle.pv_tree.specs.Rules.{too_deep, KeepsRules}
 use Rattle.pv_tree.specs.Rules.Chains.{EndsChain}
-use Rattle.pv_mean.specs.Doings.{EachDoing, EachInList, EachInArms, EachInBranches, EachInElse}
+use Rattle.pv_mean.specs.Instructions.{site_of}
+use Rattle.pv_mean.specs.Doings.{EachDoing, EachInList, EachInArms, EachInBranches, EachInElse, EachInstruction}
 use Rattle.pv_mean.specs.Chains.{EachCallOf, RunsSuch, EndsWithin}
 
 -- ---- looked up blocks
@@ -261,12 +263,34 @@ mutual
   covered-else C loops no_else f = tt
   covered-else C loops (else_ body) f = covered-stmts C loops body f
 
-covered-body : (C : CallSite → Type 0) (body : BodyTree) (others : List CallSite)
-    → ((c : CallSite) → Contains (flat_map its_calls (spots_of_body body) ++ others) c → C c) → EachCallOf C body
-covered-body C (scl statements) others f =
-    covered-stmts C [] statements (λ c is. f c (Contains-append_left (flat_map its_calls (spots_of_stmts [] statements)) others c is))
-covered-body C (stl instructions) others f = tt
-covered-body C (starts values) others f = tt
+-- what a test says of a call it says of the call as STL makes it
+abbrev AsMade : (CallSite → Type 0) → Type 0
+AsMade C = (i : InstrTree) (call : CallPlain) → C (record { how = how_of i.op; call = call }) → C (site_of i call)
+
+covered-instructions : (C : CallSite → Type 0) → AsMade C → (is : List InstrTree)
+    → ((c : CallSite) → Contains (flat_map calls_of_instruction is) c → C c) → EachInstruction (λ o. ⊤) C is
+covered-instructions C made [] f = tt
+covered-instructions C made (i ∷ more) f = (
+  (of-operand i.operand, of-call i.call (λ c among. f c (Contains-append_left (calls_of_instruction i) (flat_map calls_of_instruction more) c among))),
+  covered-instructions C made more (λ c among. f c (Contains-append_right (calls_of_instruction i) (flat_map calls_of_instruction more) c among)),
+)
+  where
+    of-operand : (o : Option OperandTree) → IfSome o (λ x. IsTrue (is_written (group_of i.op)) → ⊤)
+    of-operand None = tt
+    of-operand (Some o) = λ w. tt
+
+    of-call : (o : Option CallPlain) → ((c : CallSite) → Contains (map (site (how_of i.op)) (option_to_list o)) c → C c)
+        → IfSome o (λ call. C (site_of i call))
+    of-call None g = tt
+    of-call (Some call) g = made i call (g _ (contains-first _ []))
+
+covered-body : (C : CallSite → Type 0) → AsMade C → (body : BodyTree)
+    → ((c : CallSite) → Contains (flat_map its_calls (spots_of_body body) ++ flat_map calls_of_instruction (instructions_of body)) c → C c)
+    → EachCallOf C body
+covered-body C made (scl statements) f =
+    covered-stmts C [] statements (λ c is. f c (Contains-append_left (flat_map its_calls (spots_of_stmts [] statements)) [] c is))
+covered-body C made (stl instructions) f = covered-instructions C made instructions f
+covered-body C made (starts values) f = tt
 
 -- ---- chains of calls
 
@@ -287,10 +311,10 @@ of_runs P c b is e = subst (RunsSuch P) e is
 
 pub ends_within : (project : ProjectTree) → ((block : BlockTree) → EndsChain project 8 block → ⊥) → (n k : ℕ) → n + k ≡ 7 → (block : BlockTree)
     → Contains project.blocks block → EndsChain project k block → EndsWithin project n block
-ends_within project none zero k sum block at chain = covered-body _ block.body _ (λ s among. such (λ b. ⊥) _
+ends_within project none zero k sum block at chain = covered-body _ (λ i call x. x) block.body (λ s among. such (λ b. ⊥) _
     (λ b is. let e : k ≡ 7 = omega arith in
     none b (subst (λ (m : ℕ). EndsChain project (suc m) b) e (longer project k block at chain s among b is))))
-ends_within project none (suc n) k sum block at chain = covered-body _ block.body _ (λ s among. such (λ b. EndsWithin project n b) _
+ends_within project none (suc n) k sum block at chain = covered-body _ (λ i call x. x) block.body (λ s among. such (λ b. EndsWithin project n b) _
     (λ b is. ends_within project none n (suc k) (omega arith) b
     (of_runs (λ c. Contains project.blocks c) _ b (callee_in (record { project = project; block = block }) s) is)
     (longer project k block at chain s among b is)))

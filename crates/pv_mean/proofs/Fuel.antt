@@ -17,13 +17,10 @@ use Rattle.pv_mean.specs.Scans.{scan_from, entry_activation, entry_frame, visibl
 use Rattle.pv_mean.specs.Doings.{EachDoing, EachInList, EachInArms, EachInBranches, EachInElse}
 use Rattle.pv_mean.specs.Chains.{EachCallOf, RunsSuch, EndsWithin}
 use Rattle.pv_mean.proofs.Passing.{passed}
+use Rattle.pv_mean.proofs.Instructing.{Agree, same-stl, passed-instructions}
 
 two : {A B C : Type 0} (f : A → B → C) {a x : A} {b y : B} → a ≡ x → b ≡ y → f a b ≡ f x y
 two f {a} {x} {b} {y} p q = ap (λ z. f z b) p ∙ ap (λ z. f x z) q
-
--- the two ways agree on a call
-abbrev pub Agree : Calls → Calls → Activation → CallSite → Type 0
-Agree c d act site = (frame : Frame) → c act site frame ≡ d act site frame
 
 mutual
   pub same-stmt : (source : Source) (c d : Calls) (act : Activation) (s : StmtTree) → EachDoing (λ o. ⊤) (Agree c d act) s
@@ -93,12 +90,12 @@ mutual
 same-code : (source : Source) (c d : Calls) (act : Activation) (body : BodyTree) → EachCallOf (Agree c d act) body → (frame : Frame)
     → run_code source c act body frame ≡ run_code source d act body frame
 same-code source c d act (scl statements) each frame = ap body_end (same-stmts source c d act statements each frame)
-same-code source c d act (stl instructions) each frame = refl
+same-code source c d act (stl instructions) each frame = same-stl source c d act instructions each frame
 same-code source c d act (starts values) each frame = refl
 
 more-code : (C D : CallSite → Type 0) → ((s : CallSite) → C s → D s) → (body : BodyTree) → EachCallOf C body → EachCallOf D body
 more-code C D f (scl statements) is = passed (λ o. ⊤) (λ o. ⊤) (λ o is'. tt) C D f statements is
-more-code C D f (stl instructions) is = tt
+more-code C D f (stl instructions) is = passed-instructions (λ o. ⊤) (λ o. ⊤) (λ o x. tt) C D f instructions is
 more-code C D f (starts values) is = tt
 
 same-call : (source : Source) (x y : Activation → Frame → Ended Frame) (caller : Activation) (site : CallSite) (callee : Activation)

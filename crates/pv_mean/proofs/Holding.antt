@@ -5,12 +5,12 @@ use Rattle.pv_tree.specs.Tree.{OperandTree, StmtTree, assign, assign_call, if_, 
 use Rattle.pv_tree.specs.Callees.{as_statement, as_value, CallSite}
 use Rattle.pv_mean.specs.Sources.{Source}
 use Rattle.pv_mean.specs.Frames.{Frame}
-use Rattle.pv_mean.specs.Endings.{Tried, got, trap, Value, Ended, ended, trapped, over, Ending, normal, at_exit, at_continue, at_return, by_trap, by_over, go_on, when_got, when_ended}
+use Rattle.pv_mean.specs.Endings.{Tried, got, trap, Value, Ended, ended, trapped, over, Ending, normal, at_exit, at_continue, at_return, by_trap, by_over, go_on, when_got, when_ended, and_then, end_of, and_end}
 use Rattle.pv_mean.specs.Spots.{Spot, told, read_spot, write_spot}
 use Rattle.pv_mean.specs.Activations.{Activation}
 use Rattle.pv_mean.specs.Values.{is_true, value, locate}
 use Rattle.pv_mean.specs.Statements.{Returned, Calls, is_chosen, after_turn, while_turns, repeat_turns, Counting, is_on_the_way, for_turns, counter, step_of, store, run_stmt, run_stmts, run_arms, run_branches, run_else}
-use Rattle.pv_mean.specs.Doings.{EachDoing, EachInList, EachInArms, EachInBranches, EachInElse, HoldsAt, HoldsOf}
+use Rattle.pv_mean.specs.Doings.{EachDoing, EachInList, EachInArms, EachInBranches, EachInElse, HoldsAt, HoldsOf, HoldsIfGot}
 
 -- ---- the ways of going on
 
@@ -49,6 +49,39 @@ pub holds-either : (P : Frame → Type 0) (b : Bool) (x y : Ending) → HoldsAt 
 ])
 holds-either P true x y p q = p
 holds-either P false x y p q = q
+
+-- ---- what is tried, and what ends
+
+pub then-holds : {A B : Type 0} (P : A → Type 0) (R : B → Type 0) (t : Tried A) (next : A → Tried B) → HoldsIfGot P t
+    → ((a : A) → P a → HoldsIfGot R (next a)) → HoldsIfGot R (and_then t next)
+then-holds P R (got a) next is h = h a is
+then-holds P R (trap kind place) next is h = tt
+
+pub any-holds : {A B : Type 0} (R : B → Type 0) (t : Tried A) (next : A → Tried B) → ((a : A) → HoldsIfGot R (next a))
+    → HoldsIfGot R (and_then t next)
+any-holds R (got a) next h = h a
+any-holds R (trap kind place) next h = tt
+
+pub end-holds : {A : Type 0} (P : A → Type 0) (t : Tried A) → HoldsIfGot P t → HoldsOf P (end_of t)
+end-holds P (got a) is = is
+end-holds P (trap kind place) is = tt
+
+pub also-holds : {A B : Type 0} (P : A → Type 0) (R : B → Type 0) (e : Ended A) (next : A → Ended B) → HoldsOf P e
+    → ((a : A) → P a → HoldsOf R (next a)) → HoldsOf R (and_end e next)
+also-holds P R (ended a) next is h = h a is
+also-holds P R (trapped kind place) next is h = tt
+also-holds P R (over place) next is h = tt
+
+pub from-holds : {A B : Type 0} (R : B → Type 0) (t : Tried A) (next : A → Tried B) → ((a : A) → t ≡ got a → HoldsIfGot R (next a))
+    → HoldsIfGot R (and_then t next)
+from-holds R (got a) next h = h a refl
+from-holds R (trap kind place) next h = tt
+
+pub ends-hold : {A B : Type 0} (R : B → Type 0) (e : Ended A) (next : A → Ended B) → ((a : A) → HoldsOf R (next a))
+    → HoldsOf R (and_end e next)
+ends-hold R (ended a) next h = h a
+ends-hold R (trapped kind place) next h = tt
+ends-hold R (over place) next h = tt
 
 -- ---- loops
 

@@ -1,7 +1,12 @@
 mod Samples
 mod Examples
 mod MoreExamples
+mod StepWords
+mod BitRows
+mod WordRows
+mod StlExamples
 pub mod Holding
+pub mod Instructing
 pub mod VisibleCells
 pub mod Images
 pub mod Runs
@@ -14,6 +19,8 @@ pub mod TypeTables
 pub mod DataStarts
 pub mod LaidVariables
 pub mod Fuel
+pub mod InstructionLaws
+pub mod NeverUnset
 pub mod Steps
 pub mod Divisions
 pub mod Copies

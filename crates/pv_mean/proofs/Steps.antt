@@ -1,11 +1,11 @@
 -- Single statements, spots and calls: what one step does.
-use Rattle.std.proofs.Common.{◌≡◌, ◌≢◌, ◌⊎◌, inl, inr, ◌<◌, ◌≤◌, ℕ, zero, suc, ◌+◌, ◌/◌, ◌%◌, ◌^◌, ℤ, pos, ◌+ℤ◌, length, Bool, true, false, Option, Some, None, refl, ap, sym, ◌∙◌, arith}
+use Rattle.std.proofs.Common.{◌≡◌, ◌≢◌, ◌⊎◌, inl, inr, ◌<◌, ◌≤◌, ℕ, zero, suc, ◌+◌, ◌/◌, ◌%◌, ◌^◌, ℤ, pos, ◌+ℤ◌, List, length, Bool, true, false, Option, Some, None, refl, ap, sym, ◌∙◌, arith}
 use Rattle.std.proofs.lemmas.List.{get_or-set_same, get_or-set_other}
 use Rattle.std.proofs.lemmas.Bool.{false≢true}
 use Rattle.pv_word.specs.declared.types.Ty.{Ty}
 use Rattle.pv_word.specs.Types.{wrap_of, pattern_of}
 use Rattle.pv_machine.specs.declared.place.Place.{Place}
-use Rattle.pv_tree.specs.Tree.{ExprTree, if_, while_, StmtTrees, arms, no_arms, else_}
+use Rattle.pv_tree.specs.Tree.{ExprTree, InstrTree, if_, while_, StmtTrees, arms, no_arms, else_}
 use Rattle.pv_mean.specs.Sources.{Source}
 use Rattle.pv_mean.specs.Frames.{Frame, visible_cells, type_of_visible, visible_value, with_visible}
 use Rattle.pv_mean.specs.Endings.{got, Value, Ending, normal, by_over, when_got}
@@ -13,10 +13,12 @@ use Rattle.pv_mean.specs.Spots.{Spot, visible, brief, bit, bytes, fixed, nowhere
 use Rattle.pv_mean.specs.Activations.{Activation}
 use Rattle.pv_mean.specs.Values.{is_true, value}
 use Rattle.pv_mean.specs.Statements.{Calls, after_turn, while_turns, Counting, is_on_the_way, for_turns, run_stmt, run_stmts}
-use Rattle.pv_mean.specs.Doings.{EachInList, HoldsAt}
+use Rattle.pv_mean.specs.InstructionRuns.{run_stl}
+use Rattle.pv_mean.specs.Doings.{EachInList, EachInstruction, HoldsAt, HoldsOf}
 use Rattle.pv_mean.specs.Correct.{Misses, IsApart, CallLeaves, Takes, behind_turns, LeavesVariable}
 use Rattle.pv_mean.proofs.Holding.{Writes, CallKeeps, holds-stmts}
 use Rattle.pv_mean.proofs.Passing.{passed}
+use Rattle.pv_mean.proofs.Instructing.{holds-stl, passed-instructions}
 
 -- ---- IF and loops
 
@@ -175,3 +177,12 @@ untouched source calls act n ss frame v each is =
     (passed (IsApart source act n) (Writes (λ f. visible_value f n ≡ v) source act)
     (λ o apart f spot g w at p. write-misses source n spot f w (apart g spot at) ∙ p)
     (CallLeaves calls act n) (CallKeeps (λ f. visible_value f n ≡ v) calls act) (λ c leaves f p. leaves f v p) ss each) frame is
+
+pub untouched-stl : (source : Source) (calls : Calls) (act : Activation) (n : ℕ) (is : List InstrTree) (frame : Frame) (v : ℤ)
+    → EachInstruction (IsApart source act n) (CallLeaves calls act n) is → visible_value frame n ≡ v
+    → HoldsOf (λ f. visible_value f n ≡ v) (run_stl source calls act is frame)
+untouched-stl source calls act n is frame v each has =
+    holds-stl (λ f. visible_value f n ≡ v) source calls act is
+    (passed-instructions (IsApart source act n) (Writes (λ f. visible_value f n ≡ v) source act)
+    (λ o apart f spot g w at p. write-misses source n spot f w (apart g spot at) ∙ p)
+    (CallLeaves calls act n) (CallKeeps (λ f. visible_value f n ≡ v) calls act) (λ c leaves f p. leaves f v p) is each) frame has

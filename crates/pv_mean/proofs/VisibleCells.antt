@@ -7,7 +7,7 @@ use Rattle.pv_tree.specs.Callees.{CallSite, Callee, runs, not_declared, not_call
 use Rattle.pv_tree.specs.Parts.{operand_of}
 use Rattle.pv_mean.specs.Sources.{Source}
 use Rattle.pv_mean.specs.Frames.{Frame, visible_cells, type_of_visible, with_visible}
-use Rattle.pv_mean.specs.Endings.{Tried, got, trap, Ended, ended, trapped, over, Ending, normal, at_exit, at_continue, at_return, by_trap, by_over, and_then, and_end, end_of, body_end}
+use Rattle.pv_mean.specs.Endings.{got, Ended, ended, trapped, over, Ending, normal, at_exit, at_continue, at_return, by_trap, by_over, and_then, body_end}
 use Rattle.pv_mean.specs.Spots.{Spot, visible, brief, bit, bytes, fixed, nowhere, with_bytes, read_spot, write_spot}
 use Rattle.pv_mean.specs.Activations.{Activation, scope_in}
 use Rattle.pv_mean.specs.Values.{value, locate}
@@ -15,7 +15,8 @@ use Rattle.pv_mean.specs.Statements.{Returned, Calls, run_stmts}
 use Rattle.pv_mean.specs.Calls.{Linked, outside, inside, with_inside, Passed, passed_in, passed_out, argument_for, copy_in, copy_all_in, hand_over, copy_out, copy_all_out, linked, run_call, run_code, run_body, run_callee, calls_within, instance_first}
 use Rattle.pv_mean.specs.Scans.{entry_activation, entry_frame, visible_end, scan_from}
 use Rattle.pv_mean.specs.Doings.{EachDoing, EachInList, EachInArms, EachInBranches, EachInElse, HoldsAt, HoldsOf, HoldsIfGot}
-use Rattle.pv_mean.proofs.Holding.{Writes, CallKeeps, holds-stmts}
+use Rattle.pv_mean.proofs.Holding.{Writes, CallKeeps, then-holds, any-holds, end-holds, also-holds, holds-stmts}
+use Rattle.pv_mean.proofs.Instructing.{holds-stl, any-instructions}
 
 -- a cell may take any value, wrapped to its type
 abbrev pub IsSafe : (List ℤ → Type 0) → Source → Type 0
@@ -98,30 +99,13 @@ safe-code Q source safe calls keep act (scl statements) frame is =
     (holds-stmts (λ f. Q f.visible) source calls act statements
     (all-stmts (Writes (λ f. Q f.visible) source act) (CallKeeps (λ f. Q f.visible) calls act)
     (λ target f spot g v _ p. safe-write Q source safe spot f v p) (λ site f p. keep act site f p) statements) frame is)
-safe-code Q source safe calls keep act (stl instructions) frame is = is
+safe-code Q source safe calls keep act (stl instructions) frame is =
+    holds-stl (λ f. Q f.visible) source calls act instructions
+    (any-instructions (Writes (λ f. Q f.visible) source act) (CallKeeps (λ f. Q f.visible) calls act)
+    (λ target f spot g v _ p. safe-write Q source safe spot f v p) (λ site f p. keep act site f p) instructions) frame is
 safe-code Q source safe calls keep act (starts values) frame is = is
 
 -- ---- calls
-
-then-holds : {A B : Type 0} (P : A → Type 0) (R : B → Type 0) (t : Tried A) (next : A → Tried B) → HoldsIfGot P t
-    → ((a : A) → P a → HoldsIfGot R (next a)) → HoldsIfGot R (and_then t next)
-then-holds P R (got a) next is h = h a is
-then-holds P R (trap kind place) next is h = tt
-
-any-holds : {A B : Type 0} (R : B → Type 0) (t : Tried A) (next : A → Tried B) → ((a : A) → HoldsIfGot R (next a))
-    → HoldsIfGot R (and_then t next)
-any-holds R (got a) next h = h a
-any-holds R (trap kind place) next h = tt
-
-end-holds : {A : Type 0} (P : A → Type 0) (t : Tried A) → HoldsIfGot P t → HoldsOf P (end_of t)
-end-holds P (got a) is = is
-end-holds P (trap kind place) is = tt
-
-also-holds : {A B : Type 0} (P : A → Type 0) (R : B → Type 0) (e : Ended A) (next : A → Ended B) → HoldsOf P e
-    → ((a : A) → P a → HoldsOf R (next a)) → HoldsOf R (and_end e next)
-also-holds P R (ended a) next is h = h a is
-also-holds P R (trapped kind place) next is h = tt
-also-holds P R (over place) next is h = tt
 
 copied_in : (Q : List ℤ → Type 0) (source : Source) → IsSafe Q source → (caller : Activation) (site : CallSite) (callee : Activation)
     (p : Passed) (l : Linked) → Q l.visible → HoldsIfGot (λ m. Q m.visible) (copy_in source caller site callee p l)

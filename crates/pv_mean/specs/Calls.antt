@@ -15,6 +15,7 @@ use Rattle.pv_mean.specs.Spots.{Spot, brief, nowhere, read_spot, write_spot}
 use Rattle.pv_mean.specs.Activations.{Activation, scope_in, value_number, unset_brief, Begins, word_begins, name_begins, spot_of, first_visible}
 use Rattle.pv_mean.specs.Values.{value, locate}
 use Rattle.pv_mean.specs.Statements.{Calls, Returned, run_stmts}
+use Rattle.pv_mean.specs.InstructionRuns.{run_stl}
 
 -- ---- two activations at once
 
@@ -157,11 +158,11 @@ run_call source body caller site callee frame =
 
 -- ---- bodies
 
--- what a body does in an activation. That of an STL block isn't defined yet: it does nothing, and nothing is claimed of it
+-- what a body does in an activation
 abbrev pub run_code : Source → Calls → Activation → BodyTree → Frame → Ended Frame
 run_code source calls act (scl statements) frame =
     body_end (run_stmts source calls act statements frame)
-run_code source calls act (stl instructions) frame = ended frame
+run_code source calls act (stl instructions) frame = run_stl source calls act instructions frame
 run_code source calls act (starts values) frame = ended frame
 
 abbrev pub run_body : Source → Calls → Activation → Frame → Ended Frame

@@ -3,12 +3,12 @@ use Rattle.std.specs.Prelude.{ℕ, zero, suc, ⊤}
 use Rattle.pv_tree.specs.Tree.{BodyTree, scl, stl, starts, BlockTree}
 use Rattle.pv_tree.specs.Scopes.{ProjectTree}
 use Rattle.pv_tree.specs.Callees.{CallSite, Callee, runs, not_declared, not_callable, unknown, callee_of}
-use Rattle.pv_mean.specs.Doings.{EachInList}
+use Rattle.pv_mean.specs.Doings.{EachInList, EachInstruction}
 
--- each call of a body of statements passes the test; of instructions nothing is said yet
+-- each call of a body passes the test
 abbrev pub EachCallOf : (CallSite → Type 0) → BodyTree → Type 0
 EachCallOf C (scl statements) = EachInList (λ o. ⊤) C statements
-EachCallOf C (stl instructions) = ⊤
+EachCallOf C (stl instructions) = EachInstruction (λ o. ⊤) C instructions
 EachCallOf C (starts values) = ⊤
 
 -- a call that runs a block runs one that passes the test

@@ -1,11 +1,14 @@
--- What statements do: their targets, of which a FOR's variable is one, and their calls; and what holds of the frames in which
+-- What statements and instructions do: their targets, of which a FOR's variable is one, and their calls; and what holds of the frames in which
 -- they end.
-use Rattle.std.specs.Prelude.{⊤}
-use Rattle.pv_tree.specs.Tree.{OperandTree, StmtTree, assign, assign_call, if_, case_, for_, while_, repeat_, exit_, continue_, return_, call_, empty_, StmtTrees, no_stmts, stmts, ArmTrees, no_arms, arms, BranchTrees, no_branches, branches, ElseTree, no_else, else_}
+use Rattle.std.specs.Prelude.{List, [], ◌∷◌, IfSome, IsTrue, ⊤}
+use Rattle.pv_tree.specs.Tree.{OperandTree, InstrTree, StmtTree, assign, assign_call, if_, case_, for_, while_, repeat_, exit_, continue_, return_, call_, empty_, StmtTrees, no_stmts, stmts, ArmTrees, no_arms, arms, BranchTrees, no_branches, branches, ElseTree, no_else, else_}
 use Rattle.pv_tree.specs.Callees.{as_statement, as_value, CallSite}
+use Rattle.pv_tree.specs.InstructionGroups.{is_written, group_of}
 use Rattle.pv_mean.specs.Frames.{Frame}
 use Rattle.pv_mean.specs.Endings.{Tried, got, trap, Ended, ended, trapped, over, Ending, normal, at_exit, at_continue, at_return, by_trap, by_over}
 use Rattle.pv_mean.specs.Statements.{counter}
+use Rattle.pv_mean.specs.Instructions.{Next, site_of}
+use Rattle.pv_mean.specs.InstructionRuns.{frame_left}
 
 -- each target passes the one test, and each call the other
 abbrev mutual
@@ -59,3 +62,19 @@ HoldsOf P (over place) = ⊤
 abbrev pub HoldsIfGot : {A : Type 0} → (A → Type 0) → Tried A → Type 0
 HoldsIfGot P (got a) = P a
 HoldsIfGot P (trap kind place) = ⊤
+
+-- ---- instructions
+
+-- what an instruction writes passes the one test, and the call that it makes the other
+abbrev pub InstructionDoing : (OperandTree → Type 0) → (CallSite → Type 0) → InstrTree → Type 0
+InstructionDoing T C i =
+    IfSome i.operand (λ o. IsTrue (is_written (group_of i.op)) → T o)
+    × IfSome i.call (λ call. C (site_of i call))
+
+abbrev pub EachInstruction : (OperandTree → Type 0) → (CallSite → Type 0) → List InstrTree → Type 0
+EachInstruction T C [] = ⊤
+EachInstruction T C (i ∷ more) = InstructionDoing T C i × EachInstruction T C more
+
+-- what holds of a frame holds of the one in which a block goes on
+abbrev pub Goes : (Frame → Type 0) → Next → Type 0
+Goes P next = P (frame_left next)

@@ -6,6 +6,7 @@
 mod cell;
 mod count;
 mod data_blocks;
+pub mod instruction_laws;
 mod known;
 mod laid;
 pub mod laws;

@@ -19,6 +19,7 @@ use Rattle.pv_places.specs.Places.{InExpr, InOperand, InArgs, InCall, Besides, I
 use Rattle.pv_places.proofs.Stopping.{TrapsIn, traps_wider, traps_then, stops_wider, stops_then, stops_tried, stops_body}
 use Rattle.pv_places.proofs.Values.{read_at, value_in, located_in}
 use Rattle.pv_places.proofs.Statements.{CallsStopIn, stmts_in}
+use Rattle.pv_places.proofs.Instructions.{stl_in}
 
 -- ---- arguments
 
@@ -113,7 +114,7 @@ called_in source body caller site callee frame P stops =
 code_in : (source : Source) (calls : Calls) (act : Activation) (C : Besides) (body : BodyTree) (frame : Frame) → CallsStopIn calls act C
     → StopsIn (λ q. InBody C q body) (run_code source calls act body frame)
 code_in source calls act C (scl ss) frame stop = stops_body (λ q. InBody C q (scl ss)) (run_stmts source calls act ss frame) (stmts_in source calls act C stop ss frame)
-code_in source calls act C (stl instructions) frame stop = tt
+code_in source calls act C (stl instructions) frame stop = stl_in source calls act C stop instructions frame
 code_in source calls act C (starts values) frame stop = tt
 
 -- what a call has besides its own places, where so many calls may stand behind one another

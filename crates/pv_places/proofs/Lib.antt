@@ -1,4 +1,5 @@
 pub mod Stopping
 pub mod Values
 pub mod Statements
+pub mod Instructions
 pub mod Calls

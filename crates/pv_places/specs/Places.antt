@@ -1,9 +1,11 @@
--- The places that a block's statements keep, with those of the blocks that its calls run; and where what can trap stops.
-use Rattle.std.specs.Prelude.{◌≡◌, ◌⊎◌, ⊤, ℕ, zero, suc, List, [], ◌∷◌}
+-- The places that a block's statements and instructions keep, with those of the blocks that its calls run; and where what can trap stops.
+use Rattle.std.specs.Prelude.{◌≡◌, ◌⊎◌, ⊤, ℕ, zero, suc, List, [], ◌∷◌, IsSomeAnd}
 use Rattle.pv_machine.specs.declared.place.Place.{Place}
-use Rattle.pv_tree.specs.Tree.{ExprTree, lit, read, unary, binary, std, paren, ExprTrees, no_exprs, exprs, OperandTree, operand, StepTree, field, index, StepTrees, no_steps, steps, ArgTree, CallPlain, StmtTree, assign, assign_call, if_, case_, for_, while_, repeat_, exit_, continue_, return_, call_, empty_, StmtTrees, no_stmts, stmts, ArmTrees, no_arms, arms, BranchTrees, no_branches, branches, ElseTree, no_else, else_, BodyTree, scl, stl, starts, BlockTree}
+use Rattle.pv_tree.specs.Tree.{ExprTree, lit, read, unary, binary, std, paren, ExprTrees, no_exprs, exprs, OperandTree, operand, StepTree, field, index, StepTrees, no_steps, steps, ArgTree, CallPlain, InstrTree, StmtTree, assign, assign_call, if_, case_, for_, while_, repeat_, exit_, continue_, return_, call_, empty_, StmtTrees, no_stmts, stmts, ArmTrees, no_arms, arms, BranchTrees, no_branches, branches, ElseTree, no_else, else_, BodyTree, scl, stl, starts, BlockTree}
 use Rattle.pv_tree.specs.Scopes.{ProjectTree}
 use Rattle.pv_tree.specs.Callees.{as_statement, as_value, CallSite, Callee, runs, not_declared, not_callable, unknown, callee_of}
+use Rattle.pv_mean.specs.Placed.{call_placed}
+use Rattle.pv_mean.specs.Instructions.{site_of}
 use Rattle.pv_mean.specs.Endings.{Ended, ended, trapped, over}
 
 -- ---- places of expressions, operands and calls
@@ -82,12 +84,22 @@ abbrev mutual
   InElse C p no_else = ⊥
   InElse C p (else_ body) = InStmts C p body
 
+-- ---- places of instructions: the word, the label where a turn too many would begin, and the call as it is made
+
+abbrev pub InInstruction : Besides → Place → InstrTree → Type 0
+InInstruction C p i = (p ≡ i.place) ⊎ (IsSomeAnd i.label (λ l. p ≡ l.1)
+    ⊎ IsSomeAnd i.call (λ call. InCall p (call_placed call) ⊎ C (site_of i call) p))
+
+abbrev pub InInstructions : Besides → Place → List InstrTree → Type 0
+InInstructions C p [] = ⊥
+InInstructions C p (i ∷ more) = InInstruction C p i ⊎ InInstructions C p more
+
 -- ---- places of a block and of those that calls lead to
 
--- of instructions nothing is said yet, and values of a data block aren't run
+-- values of a data block aren't run
 abbrev pub InBody : Besides → Place → BodyTree → Type 0
 InBody C p (scl statements) = InStmts C p statements
-InBody C p (stl instructions) = ⊥
+InBody C p (stl instructions) = InInstructions C p instructions
 InBody C p (starts values) = ⊥
 
 abbrev pub InCallee : (BlockTree → Type 0) → Callee → Type 0
