@@ -18,6 +18,7 @@ pub mod Sure
 pub mod Stacks
 pub mod CodeSorts
 pub mod DeclSorts
+pub mod InstrSorts
 pub mod Sorts
 pub mod Forms
 pub mod FunctionTexts
@@ -33,6 +34,7 @@ pub mod FunctionRuns
 pub mod Complete
 pub mod CodeShapes
 pub mod DeclShapes
+pub mod InstrShapes
 pub mod Shapes
 pub mod ExprSound
 pub mod Closed

@@ -11,7 +11,7 @@ use Rattle.pv_tree.specs.Tree.{ExprTree}
 use Rattle.pv_tree.specs.Lexemes.{Lexeme}
 use Rattle.pv_tree.specs.Reading.{ReadAsExpression}
 use Rattle.pv_parse.specs.declared.action.Action.{Action}
-use Rattle.pv_parse.specs.declared.action.Action.TheVariants.{Keep, Expr, Decl, Block, Call, Stmt}
+use Rattle.pv_parse.specs.declared.action.Action.TheVariants.{Keep, Expr, Decl, Block, Call, Stmt, Instr}
 use Rattle.pv_parse.specs.FrontNames as name
 use Rattle.pv_parse.specs.Front.{expression_productions}
 use Rattle.pv_parse.specs.ExprAnswers.{AreOthers}
@@ -32,6 +32,7 @@ is_followed (Decl action) = false
 is_followed (Block action) = false
 is_followed (Call action) = false
 is_followed (Stmt action) = false
+is_followed (Instr action) = false
 
 pub action_keeps : (action : Action) → is_followed action ≡ true → Keeps (deed action) (shading_of action)
 action_keeps Keep e s left h = seen s left h
@@ -40,6 +41,7 @@ action_keeps (Decl action) e s left h = absurd (true≢false (sym e))
 action_keeps (Block action) e s left h = absurd (true≢false (sym e))
 action_keeps (Call action) e s left h = absurd (true≢false (sym e))
 action_keeps (Stmt action) e s left h = absurd (true≢false (sym e))
+action_keeps (Instr action) e s left h = absurd (true≢false (sym e))
 
 -- the names of expressions
 abbrev pub is_of_expressions : ℕ → Bool

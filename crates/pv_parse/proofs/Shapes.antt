@@ -8,13 +8,16 @@ use Rattle.pv_parse.proofs.CodeSorts.{code_takes, code_puts}
 use Rattle.pv_parse.proofs.CodeShapes.{code_leaves}
 use Rattle.pv_parse.proofs.DeclSorts.{decl_takes, decl_puts}
 use Rattle.pv_parse.proofs.DeclShapes.{decl_leaves}
-use Rattle.pv_parse.proofs.Sorts.{Sure, Sort, other, label, word, firm, root, field, walk, chain, tail, literal_of, code_of, decl_of, Does, a_label, a_word, a_firm, a_root, a_field, walks, an_expr as does_expr, leads, a_literal_of, codes, decls, IsPath, on_path, IsExpr, on_expr, Wants, sort_of, sure_making, meaning}
+use Rattle.pv_parse.proofs.InstrSorts.{instr_takes, instr_puts}
+use Rattle.pv_parse.proofs.InstrShapes.{instr_leaves}
+use Rattle.pv_parse.proofs.Sorts.{Sure, Sort, other, label, word, firm, root, field, walk, chain, tail, literal_of, code_of, decl_of, instr_of, Does, a_label, a_word, a_firm, a_root, a_field, walks, an_expr as does_expr, leads, a_literal_of, codes, decls, instrs, IsPath, on_path, IsExpr, on_expr, Wants, sort_of, sure_making, meaning}
 
 abbrev pub takes_of : Sort → List Shape
 takes_of walk = a_path ∷ []
 takes_of (tail l m) = an_expr ∷ []
 takes_of (code_of x) = code_takes x
 takes_of (decl_of x) = decl_takes x
+takes_of (instr_of x) = instr_takes x
 takes_of _ = []
 
 abbrev pub puts_of : Sort → List Shape
@@ -30,6 +33,7 @@ puts_of (tail l m) = an_expr ∷ []
 puts_of literal_of = a_literal ∷ []
 puts_of (code_of x) = code_puts x
 puts_of (decl_of x) = decl_puts x
+puts_of (instr_of x) = instr_puts x
 
 abbrev pub shaping : List Sort → Shaping
 shaping sorts = record { token = 0; takes = λ n. numbers (takes_of (sort_of sorts n)); puts = λ n. numbers (puts_of (sort_of sorts n)) }
@@ -47,6 +51,7 @@ asks (tail l m) s (on_expr e below) = (refl, tt)
 asks literal_of s w = tt
 asks (code_of x) s w = asked w
 asks (decl_of x) s w = asked w
+asks (instr_of x) s w = asked w
 
 path_topped : (s : Stack) → Tops (a_path ∷ []) s → IsPath s
 path_topped s (top_path {s = below} p h) = on_path p below
@@ -67,6 +72,7 @@ meets (tail l m) s h = expr_topped s (met (an_expr ∷ []) s h)
 meets literal_of s h = tt
 meets (code_of x) s h = met (code_takes x) s h
 meets (decl_of x) s h = met (decl_takes x) s h
+meets (instr_of x) s h = met (instr_takes x) s h
 
 leaves : (x : Sort) (s behind : Stack) (ts : List Sure) (rest : List ℕ) → Does x s ts behind → IsTopped shape_of (numbers (takes_of x) ++ rest) s
     → IsTopped shape_of (numbers (puts_of x) ++ rest) behind
@@ -82,6 +88,7 @@ leaves (tail l m) s behind ts rest (leads e f h) k = (refl, k.1)
 leaves literal_of s behind ts rest (a_literal_of l h) k = (refl, k)
 leaves (code_of x) s behind ts rest (codes d) k = code_leaves x s behind ts rest d k
 leaves (decl_of x) s behind ts rest (decls d) k = decl_leaves x s behind ts rest d k
+leaves (instr_of x) s behind ts rest (instrs d) k = instr_leaves x s behind ts rest d k
 
 pub keeps : (sorts : List Sort) (actions : List Action) → Keeps (shaping sorts) shape_of (sure_making actions) (meaning sorts)
 keeps sorts actions = record {

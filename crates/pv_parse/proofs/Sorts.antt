@@ -23,6 +23,7 @@ pub use Rattle.pv_parse.proofs.Sure.{Sure, lexemes, sure_making, Holds, IsFreeWo
 use Rattle.pv_parse.proofs.Stacks.{Tops}
 use Rattle.pv_parse.proofs.DeclSorts.{DeclSort, DoesDecl, decl_takes, alone, numeral, begun, next, turned, kind, array_head, struct_head, own_head, starting, one, rest, declares, constants, section_head, const_head, sections, block_name, value_type, own_fields, data_type, dropped, data_head, data_values, data_walk, code_body, data_body, new_source, more_blocks, source}
 use Rattle.pv_parse.proofs.CodeSorts.{CodeSort, DoesCode, code_takes, plain_hash, quoted_hash, numbered_hash, first_arg, given, more_args}
+use Rattle.pv_parse.proofs.InstrSorts.{InstrSort, DoesInstr, instr_takes}
 
 -- ---- sorts
 
@@ -39,6 +40,7 @@ pub data Sort : Type 0 where
   literal_of : Sort  -- a literal of declarations, labels and BY
   code_of : CodeSort → Sort  -- one of statements and calls
   decl_of : DeclSort → Sort  -- one of declarations and blocks
+  instr_of : InstrSort → Sort  -- one of instructions
 
 -- ---- what a name means
 
@@ -58,6 +60,7 @@ pub data Does : Sort → Stack → List Sure → Stack → Type 0 where
   a_literal_of : {s : Stack} {ts : List Sure} (l : Literal) → SpellsLiteral l (lexemes ts) → Does literal_of s ts (literal l ∷ s)
   codes : {x : CodeSort} {s after : Stack} {ts : List Sure} → DoesCode x s ts after → Does (code_of x) s ts after
   decls : {x : DeclSort} {s after : Stack} {ts : List Sure} → DoesDecl x s ts after → Does (decl_of x) s ts after
+  instrs : {x : InstrSort} {s after : Stack} {ts : List Sure} → DoesInstr x s ts after → Does (instr_of x) s ts after
 
 -- ---- where a name can begin
 
@@ -72,6 +75,7 @@ Wants walk s = IsPath s
 Wants (tail l m) s = IsExpr s
 Wants (code_of x) s = Tops (code_takes x) s
 Wants (decl_of x) s = Tops (decl_takes x) s
+Wants (instr_of x) s = Tops (instr_takes x) s
 Wants _ s = Unit {0}
 
 -- ---- by the name's number

@@ -5,7 +5,7 @@ use Rattle.pv_tree.specs.declared.expr.BinaryOp.TheVariants as b
 use Rattle.pv_tree.specs.Lexemes.{Lexeme}
 use Rattle.pv_ll.specs.Making.{Making}
 use Rattle.pv_parse.specs.declared.action.Action.{Action}
-use Rattle.pv_parse.specs.declared.action.Action.TheVariants.{Keep, Expr, Decl, Block, Call, Stmt}
+use Rattle.pv_parse.specs.declared.action.Action.TheVariants.{Keep, Expr, Decl, Block, Call, Stmt, Instr}
 use Rattle.pv_parse.specs.declared.action.ExprAction.TheVariants as a
 use Rattle.pv_parse.specs.declared.action.DeclAction.TheVariants as d
 use Rattle.pv_parse.specs.declared.action.BlockAction.TheVariants as block
@@ -17,6 +17,7 @@ use Rattle.pv_parse.specs.DeclDeeds.{decl_deed}
 use Rattle.pv_parse.specs.BlockDeeds.{block_deed}
 use Rattle.pv_parse.specs.CallDeeds.{call_action_deed}
 use Rattle.pv_parse.specs.StmtDeeds.{stmt_deed}
+use Rattle.pv_parse.specs.InstrDeeds.{instr_deed}
 
 abbrev pub deed : Action → Stack → Option Stack
 deed Keep s = Some s
@@ -25,6 +26,7 @@ deed (Decl action) s = decl_deed action s
 deed (Block action) s = block_deed action s
 deed (Call action) s = call_action_deed action s
 deed (Stmt action) s = stmt_deed action s
+deed (Instr action) s = instr_deed action s
 
 -- the actions of the alternatives of expressions and operands, in the grammar's order
 abbrev pub expression_actions : List Action

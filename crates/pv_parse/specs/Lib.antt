@@ -19,11 +19,15 @@ pub mod DeclStack
 pub mod DeclTexts
 pub mod DeclDeeds
 pub mod BlockDeeds
+pub mod OpTexts
+pub mod InstrStack
+pub mod InstrDeeds
 pub mod Deeds
 pub mod Shades
 pub mod ExprShades
 pub mod StmtShades
 pub mod DeclShades
+pub mod InstrShades
 pub mod ItemShades
 pub mod Building
 pub mod ExprAnswers

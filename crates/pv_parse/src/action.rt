@@ -18,6 +18,8 @@ pub enum Action {
     Call(CallAction),
     /// What one of statements does.
     Stmt(StmtAction),
+    /// What one of instructions does.
+    Instr(InstrAction),
 }
 
 /// What an alternative of expressions and operands does.
@@ -241,6 +243,39 @@ pub enum StmtAction {
     While,
     /// A REPEAT.
     Repeat,
+}
+
+/// What an alternative of instructions does.
+#[derive(Clone, Copy, Debug)]
+pub enum InstrAction {
+    /// A body without instructions begins.
+    NewCode,
+    /// The instructions behind BEGIN are the body of a block.
+    Begun,
+    /// No label stands before an instruction so far.
+    NoLabel,
+    /// A word with `:` behind it is the instruction's label.
+    Label,
+    /// A number is a literal behind an instruction's word.
+    Number,
+    /// A number behind `-` is one.
+    Negative,
+    /// TRUE or FALSE is one.
+    Truth,
+    /// An instruction with `(`.
+    Opening,
+    /// An instruction with an operand.
+    Operand,
+    /// One with a literal.
+    Literal,
+    /// One with neither.
+    Alone,
+    /// A called function block has an instance data block, behind its comma.
+    Base,
+    /// What a path leads to is called without arguments.
+    Bare,
+    /// CALL or UC with its call.
+    Call,
 }
 
 /// The action of the alternative with this number.

@@ -18,7 +18,7 @@ ghost use Rattle.pv_parse.specs.Building.{Taken, Built};
 use crate::action::{Action, action_at};
 use crate::shade::{Shaded, Shading, push, sink};
 use crate::stack::Stop;
-use crate::{decl_shades, expr_shades, stmt_shades};
+use crate::{decl_shades, expr_shades, instr_shades, stmt_shades};
 use pv_lex::Token;
 use pv_ll::{Language, Step, Symbol, Walk};
 use pv_machine::Place;
@@ -38,6 +38,7 @@ pub fn shading(action: Action) -> Shading
         Action::Block(action) => decl_shades::block_shading(action),
         Action::Call(action) => stmt_shades::call_shading(action),
         Action::Stmt(action) => stmt_shades::stmt_shading(action),
+        Action::Instr(action) => instr_shades::instr_shading(action),
     }
 }
 

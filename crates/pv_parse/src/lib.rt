@@ -10,6 +10,7 @@ mod entries;
 mod expr_shades;
 mod expressions;
 mod fault;
+mod instr_shades;
 mod item;
 mod kind;
 mod laws;
@@ -24,7 +25,9 @@ mod stmt_shades;
 mod texts;
 mod token_kinds;
 
-pub use action::{Action, BlockAction, CallAction, DeclAction, ExprAction, StmtAction, action_at};
+pub use action::{
+    Action, BlockAction, CallAction, DeclAction, ExprAction, InstrAction, StmtAction, action_at,
+};
 pub use code_item::{CodeItem, Value};
 pub use decl_item::{Bounds, DeclItem, Fields, Heading};
 pub use depth::find_too_deep;

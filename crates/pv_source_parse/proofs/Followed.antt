@@ -5,7 +5,7 @@ use Rattle.std.proofs.lemmas.Bool.{and_parts, true≢false}
 use Rattle.pv_ll.specs.declared.table.Symbol.{Symbol}
 use Rattle.pv_ll.specs.Grammar.{Grammar, Production, ◌⟶◌, IsProduction}
 use Rattle.pv_parse.specs.declared.action.Action.{Action}
-use Rattle.pv_parse.specs.declared.action.Action.TheVariants.{Keep, Expr, Decl, Block, Call, Stmt}
+use Rattle.pv_parse.specs.declared.action.Action.TheVariants.{Keep, Expr, Decl, Block, Call, Stmt, Instr}
 use Rattle.pv_parse.specs.declared.action.DeclAction.TheVariants as d
 use Rattle.pv_parse.specs.Deeds.{deed, making}
 use Rattle.pv_parse.specs.ItemShades.{shade_of, shading_of, shade_making}
@@ -13,6 +13,7 @@ use Rattle.pv_parse.proofs.ForCallers.{Keeps, expr_keeps, seen, are_among, IsFol
 use Rattle.pv_source_parse.proofs.DeclFollows.{number_keeps, negative_keeps, truth_keeps}
 use Rattle.pv_source_parse.proofs.CallFollows.{call_keeps_of}
 use Rattle.pv_source_parse.proofs.StmtFollows.{stmt_keeps}
+use Rattle.pv_source_parse.proofs.InstrFollows.{instr_keeps}
 
 -- all but those of declarations and blocks, of which those of literals are
 abbrev pub is_followed : Action → Bool
@@ -25,6 +26,7 @@ is_followed (Decl _) = false
 is_followed (Block action) = false
 is_followed (Call action) = true
 is_followed (Stmt action) = true
+is_followed (Instr action) = true
 
 action_keeps : (action : Action) → is_followed action ≡ true → Keeps (deed action) (shading_of action)
 action_keeps Keep e s left h = seen s left h
@@ -36,6 +38,7 @@ action_keeps (Decl _) e s left h = absurd (true≢false (sym e))
 action_keeps (Block action) e s left h = absurd (true≢false (sym e))
 action_keeps (Call action) e s left h = call_keeps_of action s left h
 action_keeps (Stmt action) e s left h = stmt_keeps action s left h
+action_keeps (Instr action) e s left h = instr_keeps action s left h
 
 -- each alternative of these names is of these names, and has an action that is followed
 abbrev pub are_followed : (ℕ → Bool) → Grammar → List Action → Bool

@@ -10,5 +10,6 @@ pub use Rattle.pv_source_parse.proofs.Casts.{Casts, above, empty as no_cast, on 
 pub use Rattle.pv_source_parse.proofs.DeclCasts.{Dims, AreApart}
 pub use Rattle.pv_source_parse.proofs.BlockCasts.{group, begun_values_cast, BodyCast, BodyCasts}
 pub use Rattle.pv_source_parse.proofs.StmtMarks.{marks-stmts}
+pub use Rattle.pv_source_parse.proofs.InstrMarks.{marks-instrs}
 pub use Rattle.pv_source_parse.proofs.Followed.{are_followed, all_followed}
 pub use Rattle.pv_source_parse.proofs.ShadedSources.{shaded_source}

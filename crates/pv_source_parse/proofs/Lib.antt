@@ -13,7 +13,9 @@ pub mod CodePopped
 pub mod DeclFollows
 pub mod CallFollows
 pub mod StmtFollows
+pub mod InstrFollows
 pub mod StmtMarks
+pub mod InstrMarks
 pub mod Followed
 pub mod ShadedSources
 pub mod Answering

@@ -15,6 +15,7 @@ ghost use Rattle.pv_parse.specs.Building.{Taken, Built};
 
 use crate::blocks::act_on_block;
 use crate::declarations::act_on_decl;
+use pv_instr_parse::act_on_instr;
 use pv_lex::Token;
 use pv_ll::{Language, Step, Symbol, Walk};
 use pv_parse::{Action, Item, Sliced, Stop, act_on_expr, action_at, bytes_of, push};
@@ -44,6 +45,7 @@ fn act(alloc: Global, action: Action, stack: &mut Vec<Item>) -> Result<(), Stop>
         Action::Block(action) => act_on_block(alloc, action, stack),
         Action::Call(action) => act_on_call(alloc, action, stack),
         Action::Stmt(action) => act_on_stmt(alloc, action, stack),
+        Action::Instr(action) => act_on_instr(alloc, action, stack),
     }
 }
 

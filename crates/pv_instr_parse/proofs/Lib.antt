@@ -1,0 +1,2 @@
+mod OpTables
+mod LastWords

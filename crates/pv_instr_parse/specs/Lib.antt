@@ -1,0 +1,3 @@
+-- what private clauses cite
+pub mod Entries
+pub mod Fronts

@@ -1,0 +1,81 @@
+-- All laws of the productions of instructions and calls, in the grammar's order.
+use Rattle.pv_ll.specs.Meaning.{Each}
+use Rattle.pv_ll.proofs.ForCallers.{◌⋄◌}
+use Rattle.pv_stl_parse.specs.StlGrammar.{instruction_productions}
+use Rattle.pv_stl_parse.proofs.StlSorts.{Lawful}
+use Rattle.pv_stl_parse.proofs.BodyLaws as body
+use Rattle.pv_stl_parse.proofs.InstrLaws as instr
+use Rattle.pv_stl_parse.proofs.CalleeLaws as call
+
+pub instruction_laws : Each Lawful 143 instruction_productions
+instruction_laws =
+    body.body_1 ⋄
+    body.data_body_1 ⋄
+    instr.new_code_1 ⋄
+    instr.instructions_1 ⋄
+    instr.instructions_2 ⋄
+    instr.instruction_1 ⋄
+    instr.instruction_2 ⋄
+    instr.no_label_1 ⋄
+    instr.labelled_1 ⋄
+    instr.labelled_2 ⋄
+    instr.labelled_3 ⋄
+    instr.labelled_4 ⋄
+    instr.labelled_5 ⋄
+    instr.labelled_6 ⋄
+    instr.label_1 ⋄
+    instr.after_bit_op_1 ⋄
+    instr.after_bit_op_2 ⋄
+    instr.after_or_op_1 ⋄
+    instr.after_or_op_2 ⋄
+    instr.after_value_op_1 ⋄
+    instr.after_value_op_2 ⋄
+    instr.after_free_op_1 ⋄
+    instr.after_free_op_2 ⋄
+    instr.operation_1 ⋄
+    instr.operation_2 ⋄
+    instr.operation_3 ⋄
+    instr.operation_4 ⋄
+    instr.operation_5 ⋄
+    instr.firm_operation_1 ⋄
+    instr.firm_operation_2 ⋄
+    instr.firm_operation_3 ⋄
+    instr.firm_operation_4 ⋄
+    instr.firm_operation_5 ⋄
+    instr.firm_operation_6 ⋄
+    instr.firm_operation_7 ⋄
+    instr.bit_operand_1 ⋄
+    instr.bit_operand_2 ⋄
+    instr.or_operand_1 ⋄
+    instr.or_operand_2 ⋄
+    instr.opening_1 ⋄
+    instr.maybe_value_1 ⋄
+    instr.maybe_value_2 ⋄
+    instr.value_1 ⋄
+    instr.value_2 ⋄
+    call.operand_1 ⋄
+    call.operand_2 ⋄
+    call.operand_3 ⋄
+    call.operand_4 ⋄
+    call.hashed_word_1 ⋄
+    call.hashed_word_2 ⋄
+    call.number_value_1 ⋄
+    call.number_value_2 ⋄
+    call.number_value_3 ⋄
+    call.called_name_1 ⋄
+    call.called_name_2 ⋄
+    call.plain_called_1 ⋄
+    call.plain_called_2 ⋄
+    call.hashed_name_1 ⋄
+    call.hashed_name_2 ⋄
+    call.hashed_name_3 ⋄
+    call.hashed_name_4 ⋄
+    call.hashed_prefix_1 ⋄
+    call.hashed_prefix_2 ⋄
+    call.base_1 ⋄
+    call.base_2 ⋄
+    call.base_name_1 ⋄
+    call.call_arguments_1 ⋄
+    call.call_arguments_2 ⋄
+    call.bare_call_1 ⋄
+    tt

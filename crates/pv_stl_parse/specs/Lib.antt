@@ -1,0 +1,7 @@
+-- what public clauses cite
+pub mod OwnNames
+pub mod StlGrammar
+pub mod Answers
+-- what private ones cite
+pub mod OwnBodies
+pub mod StlActions
