@@ -6,3 +6,4 @@ pub mod NoBytes
 pub mod FirstLaws
 pub mod Places
 pub mod Made
+pub mod ForCallers

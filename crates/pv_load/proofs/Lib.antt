@@ -1,18 +1,19 @@
 mod Examples
-mod Exits
+pub mod Exits
 mod Lines
-mod CaseTexts
-mod PlainSources
-mod EntryLaws
+pub mod CaseTexts
+pub mod PlainSources
+pub mod EntryLaws
 mod ProjectLaws
 mod TableLaws
 mod FitLaws
-mod SubjectLaws
+pub mod SubjectLaws
 mod AsciiLaws
 mod SourceLaws
 mod Gathering
 mod CaseLaws
-mod OneCase
-mod OneSource
-mod OneSubject
-mod OneReading
+pub mod OneCase
+pub mod OneSource
+pub mod OneSubject
+pub mod OneReading
+pub mod ForCallers

@@ -182,7 +182,7 @@ module _ (one : IsOneJudgement) (number : ℕ) (source : SourceData) (bytes : Li
 -- ---- all sources
 
 module _ (one : IsOneJudgement) (files : FileMap) where
-  one_source : (number : ℕ) (source : SourceData) (a b : ReadSource) → HoldsSource (Some files) number source a → HoldsSource (Some files) number source b
+  pub one_source : (number : ℕ) (source : SourceData) (a b : ReadSource) → HoldsSource (Some files) number source a → HoldsSource (Some files) number source b
       → a ≡ b
   one_source number source a b r s =
       let bytes : a.text.bytes ≡ b.text.bytes = one_held files source.file a.text.bytes b.text.bytes r.held s.held in
@@ -191,13 +191,13 @@ module _ (one : IsOneJudgement) (files : FileMap) where
       ∙ ap (λ z. record { text = record { file = b.text.file; bytes = z }; blocks = a.blocks }) bytes
       ∙ ap (λ z. record { text = b.text; blocks = z }) blocks
 
-  source_apart : (number : ℕ) (source : SourceData) (a : ReadSource) (b : SourceRefusal) → HoldsSource (Some files) number source a
+  pub source_apart : (number : ℕ) (source : SourceData) (a : ReadSource) (b : SourceRefusal) → HoldsSource (Some files) number source a
       → IsRefused (Some files) b number source → ⊥
   source_apart number source a b r s =
       read_apart one number source a.text.bytes a.blocks b r.reads
       (subst (λ z. RefusesSource number source z b) (one_held files source.file s.bytes a.text.bytes s.held r.held) s.are)
 
-  refused_once : (number : ℕ) (source : SourceData) (a b : SourceRefusal) → IsRefused (Some files) a number source → IsRefused (Some files) b number source
+  pub refused_once : (number : ℕ) (source : SourceData) (a b : SourceRefusal) → IsRefused (Some files) a number source → IsRefused (Some files) b number source
       → a ≡ b
   refused_once number source a b r s = one_refusal one number source r.bytes a b r.are (held_both files source.file r s)
 

@@ -58,7 +58,7 @@ module _ (laws : TextLaws) where
   one_number blocks text m n r s =
       same_Some m n (sym r.is ∙ ap (λ z. number_of_entry blocks z.key) (laws.one_name text r.name s.name r.read s.read) ∙ s.is)
 
-  one_entered : (given : Given) (a b : Entered) → IsEntered given a → IsEntered given b → a ≡ b
+  pub one_entered : (given : Given) (a b : Entered) → IsEntered given a → IsEntered given b → a ≡ b
   one_entered given a b r s =
       let number = one_number (blocks_of given) given.case.entry r.number s.number r.entry s.entry in
       let block : a.block ≡ b.block = same_Some a.block b.block (sym r.is ∙ ap (slice_get (blocks_of given)) number ∙ s.is) in

@@ -45,6 +45,8 @@ is_case case = record {
   kind = refl;
   expressions = refl;
   limits = refl;
+  reductions = refl;
+  certificate = refl;
 }
 
 pub held_texts : (told : Option FileMap) (file : List ℕ) (case : CaseData) → HoldsCase told file case → HasTexts case

@@ -1,5 +1,5 @@
 -- What the stages make, by the code's types, against what is given.
-use Rattle.std.specs.Prelude.{◌≡◌, ℕ, List, map, slice_get, Some, string_bytes}
+use Rattle.std.specs.Prelude.{◌≡◌, ℕ, List, map, slice_get, Some, string_bytes, option_map}
 use Rattle.pv_word.specs.declared.types.Ty.{Ty}
 use Rattle.pv_types.specs.declared.name.Name.{Name}
 use Rattle.pv_tree.specs.declared.expr.Operand.{Operand}
@@ -36,6 +36,8 @@ pub record IsCase (case : Case) (d : CaseData) : Type 0 where
   pub kind : case.pattern.kind ≡ d.kind
   pub expressions : map string_bytes case.pattern.expressions.items ≡ d.expressions
   pub limits : case.limits ≡ d.limits
+  pub reductions : case.reductions ≡ d.reductions
+  pub certificate : option_map string_bytes case.certificate ≡ d.certificate
 
 -- these texts, blocks and symbols are those that are given
 pub record AreGiven (texts : List SourceText) (blocks : List Block) (symbols : List Symbol) (given : Given) : Type 0 where

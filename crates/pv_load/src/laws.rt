@@ -8,7 +8,7 @@ use pv_pattern_read::laws::{first_fault_is_one, texts_are_one_expression, texts_
 use pv_readings::laws::{sources_are_judged_in_one_way, texts_are_one_name};
 use pv_tree::least_fault_is_one;
 
-/// Files that tell what they hold have one thing that a command works on, or one refusal, and not both.
+/// Files that tell what they hold have one thing at most that a command works on, one refusal at most, and not both.
 pub fn files_decide_one()
     ensures { (files : FileMap) (file : List ℕ) → FilesDecideOne files file }
 {

@@ -21,8 +21,8 @@ pub fn tokens_read_as_one_source()
     let _language = scl();
 }
 
-/// A source of SCL reads in one way: it has one first word outside the profile, or else one place at which its syntax is at fault, or
-/// else is one list of blocks, which nests too deep first at one place or doesn't.
+/// A source of SCL reads in one way at most: what is said of its tokens, be it the first word outside the profile, the place at which the syntax is
+/// at fault, or the list of blocks and where it first nests too deep, is the same whoever says it.
 pub fn sources_are_judged_in_one_way()
     ensures { (file : ℕ) (text : List ℕ) (tokens : List Token) (one other : Judgement)
         → AreTokens Scl file text tokens → Judged (lexemes_of text tokens) one

@@ -12,7 +12,7 @@ pub fn runs_end_in_one_way()
         → RunsEndInOneWay source p params inputs }
 {}
 
-/// Where the files tell what they hold, a trace's file holds one trace of the source or has one line at fault, and not both.
+/// Where the files tell what they hold, a trace's file holds one trace of the source at most, has one line at fault at most, and not both.
 pub fn files_decide_one_trace()
     ensures { (files : FileMap) (file : List ℕ) (source : Source)
         → FilesDecideOneTrace files file source }
