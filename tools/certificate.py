@@ -41,7 +41,7 @@ trusted.
 
 Files are named from the folder in which the tool is called, also the source that the case names. A refusal is one line
 on standard error with status 1, and the file that the shell made for the output is empty; wrong words have status 2. It
-tells what of a case, a source or a requirement isn't read today, where plcv only says that the text isn't of the form;
+tells what of a case, a source or a requirement isn't of the form that certificates are for, where plcv only says `plcv: form`;
 it doesn't look for everything. docs/CERTIFICATES.md goes through it step by step, docs/FORMATS.md has the forms."""
 import json
 import os
@@ -50,9 +50,14 @@ import sys
 
 TRUE = 1
 MEMBERS = ["version", "name", "sources", "entry", "pattern", "loopBound", "depth", "lemmas", "regionWords", "reduce"]
-WORD = re.compile(r'\s*([A-Za-z_][A-Za-z0-9_]*|"[^"\n]*"|:=|[&():;,])')
-COMMENT = re.compile(r"\s*(\(\*|//)")
-FORM = "docs/FORMATS.md has the form that is read today"
+# Members that may stand there, empty.
+EMPTY = {"params": [], "bind": {}, "symbols": {}}
+WORD = re.compile(r'\s*((?:OB|FB|FC|DB|UDT)\s+[0-9]+|[A-Za-z_][A-Za-z0-9_]*|"[^"\n]*"|:=|[&():;,])', re.I)
+# Comments and attributes, then what a header line is told by.
+PIECE = re.compile(r'(?P<dropped>\(\*.*?\*\)|//[^\n]*|\{[^}]*\})|(?P<word>[A-Za-z_][A-Za-z0-9_]*)|"[^"\n]*"|.', re.S)
+HEADER = {"TITLE", "AUTHOR", "FAMILY", "NAME", "VERSION", "KNOW_HOW_PROTECT"}
+HEAD_ENDS = {"VAR", "VAR_INPUT", "VAR_OUTPUT", "VAR_IN_OUT", "VAR_TEMP", "CONST", "STRUCT", "BEGIN"}
+FORM = "docs/FORMATS.md has the form that `recheck` takes"
 # Words that are no variables' names; docs/FORMATS.md has the whole list.
 NO_NAMES = set("""AND OR NOT XOR MOD DIV TRUE FALSE FUNCTION_BLOCK FUNCTION ORGANIZATION_BLOCK DATA_BLOCK TYPE
 END_FUNCTION_BLOCK END_FUNCTION END_ORGANIZATION_BLOCK END_DATA_BLOCK END_TYPE VOID BEGIN NETWORK CALL UC VAR VAR_INPUT
@@ -82,18 +87,40 @@ def read(path):
         refuse(f"{path} is no text", "a proof has to be a text too; cadical writes one with --no-binary")
 
 
+def blank(text):
+    """As many blanks, and the ends of lines."""
+    return re.sub(r"[^\n]", " ", text)
+
+
+def without_dropped(text):
+    """The text with blanks for comments, attributes and header lines."""
+    out, place, in_head, is_first = [], 0, False, True
+    while place < len(text):
+        found = PIECE.match(text, place)
+        word = (found["word"] or "").upper()
+        piece = found[0]
+        if in_head and is_first and word in HEADER:
+            piece = text[place:].split("\n", 1)[0]
+        elif word:
+            in_head = word == "FUNCTION_BLOCK" or in_head and word not in HEAD_ENDS
+        is_header = piece != found[0] or in_head and is_first and word in HEADER
+        out.append(blank(piece) if found["dropped"] or is_header else piece)
+        is_first = "\n" in piece or is_first and (bool(found["dropped"]) or piece.isspace())
+        place += len(piece)
+    return "".join(out)
+
+
 def words_of(text, name="the text"):
     """The words and signs of a text of the Boolean form."""
     words, place = [], 0
-    text = text.rstrip()
+    text = without_dropped(text).rstrip()
     while place < len(text):
-        found = None if COMMENT.match(text, place) else WORD.match(text, place)
+        found = WORD.match(text, place)
         if not found:
             place = re.compile(r"\s*").match(text, place).end()
             line = text.count("\n", 0, place) + 1
-            what = "a comment" if COMMENT.match(text, place) else "no word of the form"
-            refuse(f"{name}, line {line}: {what} at '{text[place:place + 12].splitlines()[0]}'", FORM)
-        words.append(found.group(1))
+            refuse(f"{name}, line {line}: no word of the form at '{text[place:place + 12].splitlines()[0]}'", FORM)
+        words.append("".join(found[1].split()) if found[1][0] != '"' else found[1])
         place = found.end()
     return words
 
@@ -325,19 +352,26 @@ def case_of(path):
     """The source's file, the block's name and the invariant's text of a case."""
     try:
         case = json.loads(read(path))
-        for member in [*MEMBERS, *case]:
-            if (member in MEMBERS) != (member in case):
-                refuse(f"{path}: the member '{member}' is {'missing' if member in MEMBERS else 'none of a case'}", FORM)
-        kind, file, text = case["pattern"]["kind"], case["sources"][0]["file"], case["pattern"]["a"]
-        entry = case["entry"]
+        for member in MEMBERS:
+            if member not in case:
+                refuse(f"{path}: the member '{member}' is missing", FORM)
+        for member, value in case.items():
+            if member not in MEMBERS and (member not in EMPTY or value != EMPTY[member]):
+                refuse(f"{path}: the member '{member}' has to be left out", FORM)
+        pattern, [source] = case["pattern"], case["sources"]
+        kind, file, text, entry = pattern["kind"], source["file"], pattern["a"], case["entry"]
     except json.JSONDecodeError as error:
         refuse(f"{path}, line {error.lineno} is no JSON ({error.msg})", FORM)
-    except (ValueError, KeyError, IndexError, TypeError):
-        refuse(f"{path} is no case", FORM)
-    if not (isinstance(file, str) and isinstance(text, str)):
-        refuse(f"{path}: 'file' or 'a' is no text", FORM)
+    except (AttributeError, ValueError, KeyError, IndexError, TypeError):
+        refuse(f"{path} is no case of one source with a requirement 'a'", FORM)
+    if not all(isinstance(value, str) for value in (file, text, entry)):
+        refuse(f"{path}: 'file', 'a' or 'entry' is no text", FORM)
     if kind != "invariant":
         refuse(f"{path} has the pattern '{kind}'", "certificates of today are for an invariant")
+    if source.get("language") != "scl":
+        refuse(f"{path}: {file} isn't in SCL", "certificates of today are for SCL")
+    if case["reduce"] != []:
+        refuse(f"{path}: 'reduce' isn't empty", "no reduction is built yet, so write \"reduce\": []")
     return file, entry, text
 
 
@@ -352,7 +386,7 @@ def main():
     file, entry, text = case_of(words[0])
     block = Block(read(file), file)
     name = block.words[1].strip('"')
-    if name.lower() != str(entry).strip('"').lower():
+    if [name.lower()] != [word.strip('"').lower() for word in words_of(entry, "the entry")]:
         refuse(f"{words[0]} has the entry '{entry}', {file} the block '{name}'", "the entry is the block's name")
     fail = -block.expression(words_of(text, "the invariant"), "the invariant")
     clauses = formula(block, fail)

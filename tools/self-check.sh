@@ -18,8 +18,25 @@ python3 tools/check-files.py || complain "a document names a file that isn't the
 python3 tools/check-callers.py || complain "a proof takes more of another crate's proofs than its module ForCallers"
 python3 tools/check-sessions.py README.md docs/TUTORIAL.md docs/CERTIFICATES.md docs/SEMANTICS.md ||
   complain "the program says something else than a document"
-# The trace of the conveyor is in no document's session.
-said=$(./plcv replay examples/conveyor/case.json examples/conveyor/trace.txt)
-[ "$said" = "$(printf 'PLCV 1\ncase conveyor\npattern invariant\nreplay kept\nscans 8')" ] || complain "the conveyor's trace: $said"
+# The answers of examples/README.md: the example, its case, its trace, and the report behind its three first lines.
+replays() {
+  said=$(./plcv replay "examples/$1/$2.json" "examples/$1/$3.txt" | tail -n +4 | tr '\n' ';')
+  [ "$said" = "$4;" ] || complain "examples/$1: $2 and $3 say $said"
+}
+replays latch case trace 'replay kept;scans 4'
+replays latch case broken 'replay broken;scan 2;cause pattern'
+replays conveyor case trace 'replay kept;scans 8'
+replays motor case trace 'replay kept;scans 14'
+replays motor case broken 'replay broken;scan 3;cause pattern'
+replays motor starts trace 'replay reached;scan 10'
+replays motor starts broken 'replay not reached;scans 3'
+replays tank case trace 'replay kept;scans 13'
+replays tank case broken 'replay broken;scan 6;cause pattern'
+replays tank case trap 'replay broken;scan 5;cause trap DivideByZero examples/tank/tank.scl:80:28'
+replays tank hysteresis trace 'replay kept;scans 13'
+replays sequence case trace 'replay kept;scans 16'
+replays sequence case broken 'replay broken;scan 9;cause pattern'
+replays sequence batch trace 'replay reached;scan 9'
+replays sequence batch broken 'replay not reached;scans 11'
 [ "$fail" -eq 0 ] && echo "self-check: passed"
 exit "$fail"

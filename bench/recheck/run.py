@@ -1,7 +1,7 @@
 #!/usr/bin/env python3
 """Times `plcv recheck` on blocks and certificates of a size and of twice that size.
 
-Usage: run.py [n]: blocks of n and 2n variables and assignments (10,000; a block has at most 20,000 variables), and certificates of
+Usage: run.py [n]: blocks of n and 2n variables and assignments (10,000; a block has at most 20,000 cells), and certificates of
 at least 2 and 4 MiB of one small block. Each certificate has a line for each literal that unit propagation finds, so its log goes through the
 whole circuit. What the checker of logs takes is what the same certificate takes less than that whose first line is at fault: the
 rest of the work is the same. The script `plcv` at the top builds the program where it is missing."""

@@ -2,7 +2,7 @@
 """Times `plcv replay` on blocks and traces of a size and of twice that size.
 
 Usage: run.py [n [scans]]: blocks of n and 2n variables (10,000) and traces of so many and twice so many scans (100,000). A block
-has at most 20,000 variables, so n is at most 10,000. The script `plcv` at the top builds the program where it is missing."""
+has at most 20,000 cells, so n is at most 10,000. The script `plcv` at the top builds the program where it is missing."""
 import json
 import pathlib
 import subprocess
@@ -94,10 +94,13 @@ def replay(place, made, scans):
     (place / "source.scl").write_text(source)
     (place / "trace.txt").write_text(trace)
     (place / "case.json").write_text(json.dumps(case_of(place / "source.scl")))
-    kept = f"PLCV 1\ncase bench\npattern invariant\nreplay kept\nscans {scans}\n"
-    refused = f"plcv: form {place / 'source.scl'}\n"
+    wanted = f"PLCV 1\ncase bench\npattern invariant\nreplay kept\nscans {scans}\n"
+    if "((((" in source:
+        # None of them is closed where the statement ends.
+        before = source[:source.rindex(";")].split("\n")
+        wanted = f"plcv: {place / 'source.scl'}:{len(before)}:{len(before[-1]) + 1}: Syntax\n"
     found = measured([PROGRAM, "replay", place / "case.json", place / "trace.txt"], statuses=(0, 3))
-    if found[2] != (refused if "((((" in source else kept):
+    if found[2] != wanted:
         sys.exit(found[2])
     return found, len(source) / MIB, len(trace) / MIB
 

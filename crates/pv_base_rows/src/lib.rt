@@ -10,6 +10,8 @@ mod cnf;
 #[cfg(test)]
 mod gate;
 #[cfg(test)]
+mod gate_clauses;
+#[cfg(test)]
 mod lex;
 #[cfg(test)]
 mod log;

@@ -1,12 +1,10 @@
 -- How the scans of a run are judged one by one, with a count of those that are done. Private clauses cite this.
-use Rattle.std.specs.Prelude.{◌≡◌, ℕ, ◌+◌, List, [], ◌∷◌, Bool, true, false, Option, Some, None, IfSome, slice_get}
+use Rattle.std.specs.Prelude.{◌≡◌, ℕ, ◌+◌, List, [], ◌∷◌, Bool, true, false, Option, Some, None, slice_get}
 use Rattle.std.specs.List.{AllByRecursion}
-use Rattle.pv_word.specs.Types.{InRange}
 use Rattle.pv_machine.specs.declared.place.Place.{Place}
 use Rattle.pv_machine.specs.declared.trap.TrapKind.{TrapKind}
 use Rattle.pv_machine.specs.Ranges.{AreWithin}
 use Rattle.pv_tree.specs.declared.kept.Project.{Project}
-use Rattle.pv_mean.specs.declared.cell.Cell.{Cell}
 use Rattle.pv_mean.specs.declared.view.CaseView.{CaseView}
 use Rattle.pv_mean.specs.ProjectSizes.{project_tree}
 use Rattle.pv_mean.specs.Sources.{Source}
@@ -88,11 +86,6 @@ pub record GoesOn (source : Source) (before after : Replay) (input : Input) : Ty
       ≡ next_image source (scan source (image_of before) input).beginning (end_of after)
 
 -- ---- what is replayed
-
--- a cell's start value and the one that it is bound to are values of its type
-pub record BeginsWithin (c : Cell) : Type 0 where
-  pub start : InRange c.ty c.start
-  pub bound : IfSome c.bound (InRange c.ty)
 
 -- the source is the project, entered at the view's block, with the table's cells and bytes and the view's bound
 pub record IsSourceOf (source : Source) (project : Project) (view : CaseView) (table : Table) : Type 0 where

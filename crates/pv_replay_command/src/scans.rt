@@ -1,7 +1,6 @@
 //! The scans of a trace.
-ghost use Rattle.std.specs.Prelude.{◌≡◌, ◌↔◌, ◌+◌, ◌^◌, ◌<◌, true, None, All, IfOk, IfSome, IsTrue};
+ghost use Rattle.std.specs.Prelude.{◌≡◌, ◌+◌, ◌^◌, ◌<◌, true, None, IfOk};
 ghost use Rattle.std.specs.List.{AllByRecursion};
-ghost use Rattle.pv_word.specs.Types.{InRange};
 ghost use Rattle.pv_machine.specs.Ranges.{AreWithin};
 ghost use Rattle.pv_mean.specs.Sources.{Source};
 ghost use Rattle.pv_mean.specs.Frames.{param_ranges, input_ranges};
@@ -9,23 +8,22 @@ ghost use Rattle.pv_mean.specs.Scans.{scan};
 ghost use Rattle.pv_mean.specs.Runs.{run, run_from};
 ghost use Rattle.pv_pattern.specs.Patterns.{Pattern as A_pattern};
 ghost use Rattle.pv_pattern.specs.Found.{IsPatternOf};
-ghost use Rattle.pv_replay.specs.Replays.{IsReplayOf, image_of, is_ready};
+ghost use Rattle.pv_replay.specs.Replays.{HasStarts, IsReplayOf, image_of, is_ready};
 ghost use Rattle.pv_load.specs.Subjects.{SubjectData, source_in};
 ghost use Rattle.pv_load.specs.Made.{IsSubject};
 ghost use Rattle.pv_replay_command.specs.Ends.{IsEnd};
-ghost use Rattle.pv_replay_command.specs.Judged.{is_goal, judged_at, trapped_behind, finished_behind, stopped_by, end_behind, GoesOn, BeginsWithin, IsSourceOf, HasValuesOf};
+ghost use Rattle.pv_replay_command.specs.Judged.{is_goal, judged_at, trapped_behind, finished_behind, stopped_by, end_behind, GoesOn, IsSourceOf, HasValuesOf};
 
 use crate::end::{Cause, End};
 use pv_cert::{CellValues, Trace};
 use pv_load::Subject;
 use pv_machine::{Place, TrapKind};
-use pv_mean::{CaseView, Cell};
+use pv_mean::CaseView;
 use pv_pattern::Pattern;
 use pv_replay::{Replay, ScanEnd};
 use pv_replay_make::make;
 use pv_table::Table;
 use pv_tree::Project;
-use pv_word::in_range;
 use std::alloc::{AllocError, Global};
 
 fn asks_for_goal(pattern: &Pattern) -> bool
@@ -132,30 +130,7 @@ fn scanned(replay: &mut Replay, pattern: &Pattern, inputs: &[CellValues]) -> End
     finished(asks_for_goal(pattern), inputs.len() as u64)
 }
 
-fn is_bound_within(cell: &Cell) -> bool
-    ensures { IsTrue result ↔ IfSome cell.now.bound (InRange cell.now.ty) }
-{
-    match cell.bound {
-        Some(v) => in_range(cell.ty, v),
-        None => true,
-    }
-}
-
-/// Whether the cell's start value and the one that it is bound to are values of its type.
-fn begins_within(cell: &Cell) -> bool
-    ensures { IsTrue result ↔ BeginsWithin cell.now }
-{
-    in_range(cell.ty, cell.start) && is_bound_within(cell)
-}
-
-fn all_begin_within(cells: &[Cell]) -> bool
-    ensures { IsTrue result ↔ All BeginsWithin cells.now }
-{
-    cells.iter().all(|cell| begins_within(cell))
-}
-
-/// How the replay of the trace ends. Want of memory also where a cell begins with no value of its type, which none does in a project
-/// that keeps the rules.
+/// How the replay of the trace ends.
 fn replayed(
     alloc: Global,
     project: &Project,
@@ -165,13 +140,10 @@ fn replayed(
     trace: &Trace,
 ) -> Result<End, AllocError>
     ensures { IfOk result (λ end. (source : Source) (p : A_pattern)
-        → IsSourceOf source project.now view.now table.now → IsPatternOf source pattern.now p
-        → HasValuesOf source trace.now
+        → IsSourceOf source project.now view.now table.now → HasStarts source
+        → IsPatternOf source pattern.now p → HasValuesOf source trace.now
         → IsEnd source p (run source trace.now.params trace.now.inputs) end) }
 {
-    if !all_begin_within(table.cells()) {
-        return Err(AllocError);
-    }
     let mut replay = make(alloc, project, view, table)?;
     replay.start(trace.params.as_slice());
     Ok(scanned(&mut replay, pattern, trace.inputs.as_slice()))
@@ -180,7 +152,7 @@ fn replayed(
 /// How the replay of the trace on the subject ends.
 pub(crate) fn end_of(alloc: Global, subject: &Subject, trace: &Trace) -> Result<End, AllocError>
     ensures { IfOk result (λ end. (s : SubjectData) → IsSubject subject.now s
-        → HasValuesOf (source_in s) trace.now
+        → HasStarts (source_in s) → HasValuesOf (source_in s) trace.now
         → IsEnd (source_in s) s.pattern (run (source_in s) trace.now.params trace.now.inputs) end) }
 {
     replayed(

@@ -1,7 +1,4 @@
-mod WordsLemmas
-mod Unique
-mod Stages
-mod Proved
-mod Said
-mod Exact
-mod Promised
+pub mod WordsLemmas
+pub mod Refused
+pub mod Rechecks
+pub mod Promised

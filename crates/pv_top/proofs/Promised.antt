@@ -1,46 +1,37 @@
 -- From what the words came to, to what the program promises.
-use Rattle.std.proofs.Common.{◌≡◌, ◌≢◌, ◌⊎◌, ◌↔◌, inl, inr, ℕ, List, [], ◌∷◌, length, get_or, Option, Some, None, Result, Ok, Err, string_bytes, refl, sym, ap, subst, ◌∙◌, arith}
+--
+-- A generic command over `Files` and `Sink` proves with almost no file if each small call says what it leaves (`files`, `counted`,
+-- `writes`) and why it stops; the record of promises is then found field by field. A `format!` gives its pieces nested to the right:
+-- write the definition as `a ++ (b ++ (c ++ d))`, and no lemma is needed.
+use Rattle.std.proofs.Common.{◌≡◌, ◌≢◌, ◌⊎◌, inl, inr, ℕ, List, Option, Some, Result, Ok, Err, refl, sym, subst, ◌∙◌, arith}
 use Rattle.std.specs.Prelude.{codes}
 use Rattle.pv_edge.specs.Faults.{HasRisen}
 use Rattle.pv_edge.specs.Files.{FileMap}
 use Rattle.pv_edge.specs.Sink.{Takes, TakesLess}
-use Rattle.pv_first_replay.specs.declared.end.End.{End}
-use Rattle.pv_first_replay.specs.declared.end.End.TheVariants.{Kept, Broken}
-use Rattle.pv_top.specs.declared.case.CaseStop.{CaseStop}
-use Rattle.pv_top.specs.declared.case.CaseStop.TheVariants as case_stop
-use Rattle.pv_top.specs.declared.source.SourceStop.{SourceStop}
-use Rattle.pv_top.specs.declared.source.SourceStop.TheVariants as source_stop
-use Rattle.pv_top.specs.declared.replay.TraceStop.{TraceStop}
-use Rattle.pv_top.specs.declared.replay.TraceStop.TheVariants as trace_stop
-use Rattle.pv_top.specs.declared.replay.ReplayStop.{ReplayStop}
-use Rattle.pv_top.specs.declared.replay.ReplayStop.TheVariants as replay_stop
-use Rattle.pv_top.specs.declared.replay.Replayed.{Replayed}
-use Rattle.pv_top.specs.declared.recheck.CertificateStop.{CertificateStop}
-use Rattle.pv_top.specs.declared.recheck.CertificateStop.TheVariants as certificate_stop
-use Rattle.pv_top.specs.declared.recheck.RecheckStop.{RecheckStop}
-use Rattle.pv_top.specs.declared.recheck.RecheckStop.TheVariants as recheck_stop
-use Rattle.pv_top.specs.declared.recheck.Rechecked.{Rechecked}
+use Rattle.pv_load.specs.declared.subject.SubjectStop.{SubjectStop}
+use Rattle.pv_load.specs.declared.subject.SubjectStop.TheVariants as subject_stop
+use Rattle.pv_load.specs.Held.{Counts}
+use Rattle.pv_load.specs.Refusals.{TableRefusal, no_entry, too_many_cells, table_status}
+use Rattle.pv_load.specs.Stopped.{Stopped, unread, refused, no_memory, stopped_status}
+use Rattle.pv_load.specs.Stops.{case_stopped, source_stopped, project_stopped, table_stopped, fit_stopped, subject_status}
+use Rattle.pv_replay_command.specs.declared.replay.ReplayStop.{ReplayStop}
+use Rattle.pv_replay_command.specs.declared.replay.Replayed.{Replayed}
+use Rattle.pv_replay_command.specs.Replays.{SaysReplay, replay_status, replay_text, ReplaysExactly}
+use Rattle.pv_replay_command.proofs.ForCallers.{Laws as ReplayLaws, Came, by_result, one_came, replays_exactly, never_five}
+use Rattle.pv_recheck_command.specs.declared.recheck.RecheckStop.{RecheckStop}
+use Rattle.pv_recheck_command.specs.declared.recheck.RecheckStop.TheVariants as recheck_stop
+use Rattle.pv_recheck_command.specs.declared.recheck.Rechecked.{Rechecked}
+use Rattle.pv_recheck_command.specs.Certificates.{CertificateRefusal, unbuilt, too_many_gates, faulty, certificate_status, certificate_stopped}
+use Rattle.pv_recheck_command.specs.Correct.{FilesDecideOneRecheck}
+use Rattle.pv_recheck_command.specs.Rechecks.{HoldsSatisfied, SaysRecheck, recheck_stop_status, recheck_status, recheck_text, RechecksExactly}
 use Rattle.pv_top.specs.declared.outcome.Outcome.{Outcome}
 use Rattle.pv_top.specs.declared.outcome.Outcome.TheVariants.{NoCommand, Replay, Recheck}
-use Rattle.pv_top.specs.Inputs.{Counts}
-use Rattle.pv_top.specs.Texts.{status_of, text_of, status_of_case, text_of_case, status_of_source, text_of_source, status_of_trace, text_of_trace, status_of_certificate, text_of_certificate, status_of_end, status_of_replay, text_of_replay, status_of_recheck, text_of_recheck}
-use Rattle.pv_top.specs.Replays.{SaysReplay, ReplaysExactly}
-use Rattle.pv_top.specs.Rechecks.{HoldsSatisfied, SaysRecheck, RechecksExactly}
+use Rattle.pv_top.specs.Outcomes.{status_of, text_of}
 use Rattle.pv_top.specs.Calls.{Call, IsReplay, IsRecheck, IsCommand, Says, Delivers, whole, part, silent, IsSettled, IsTakenIn, Promises}
-use Rattle.pv_top.proofs.Said.{AreSame, Said, one_said, JudgedTrace, one_trace, said_replay, JudgedCertificate, one_certificate, said_recheck}
-use Rattle.pv_top.proofs.Exact.{replays_exactly, rechecks_exactly}
+use Rattle.pv_top.proofs.WordsLemmas.{other_word, second_word, third_word}
+use Rattle.pv_top.proofs.Rechecks.{RecheckSaid, one_said, said_recheck, rechecks_exactly}
 
--- ---- words
-
-other_word : (words : List (List ℕ)) (x y z w : List ℕ) → IsReplay words x y → IsRecheck words z w → ⊥
-other_word words x y z w is also =
-    let six : 6 ≡ 7 = ap (λ (ws : List (List ℕ)). length (get_or ws 0 [])) (sym is ∙ also) in omega (arith, six)
-
-second_word : (words : List (List ℕ)) (verb x y z w : List ℕ) → words ≡ verb ∷ x ∷ y ∷ [] → words ≡ verb ∷ z ∷ w ∷ [] → x ≡ z
-second_word words verb x y z w is also = ap (λ (ws : List (List ℕ)). get_or ws 1 []) (sym is ∙ also)
-
-third_word : (words : List (List ℕ)) (verb x y z w : List ℕ) → words ≡ verb ∷ x ∷ y ∷ [] → words ≡ verb ∷ z ∷ w ∷ [] → y ≡ w
-third_word words verb x y z w is also = ap (λ (ws : List (List ℕ)). get_or ws 2 []) (sym is ∙ also)
+-- ---- what is said of other words for the same command
 
 replay_of : (told : Option FileMap) (words : List (List ℕ)) (x y z w : List ℕ) (result : Result Replayed ReplayStop) → IsReplay words x y
     → IsReplay words z w → SaysReplay told x y result → SaysReplay told z w result
@@ -61,50 +52,45 @@ recheck_of told words x y z w result is also says =
 abbrev IsRefusal : ℕ → Type 0
 IsRefusal status = (status ≢ 0) × (status ≢ 5)
 
-refuses_case : (stop : CaseStop) → IsRefusal (status_of_case stop)
-refuses_case (case_stop.Unread name) = (λ e. absurd cc, λ e. absurd cc)
-refuses_case (case_stop.NotOfForm name) = (λ e. absurd cc, λ e. absurd cc)
-refuses_case case_stop.NoMemory = (λ e. absurd cc, λ e. absurd cc)
+refuses_stopped : (R : Type 0) (status : R → ℕ) (s : Stopped R) → ((r : R) → IsRefusal (status r)) → IsRefusal (stopped_status status s)
+refuses_stopped R status (unread file) each = (λ e. absurd cc, λ e. absurd cc)
+refuses_stopped R status (refused r) each = each r
+refuses_stopped R status no_memory each = (λ e. absurd cc, λ e. absurd cc)
 
-refuses_source : (stop : SourceStop) → IsRefusal (status_of_source stop)
-refuses_source (source_stop.Unread name) = (λ e. absurd cc, λ e. absurd cc)
-refuses_source (source_stop.NotOfForm name) = (λ e. absurd cc, λ e. absurd cc)
-refuses_source source_stop.NoMemory = (λ e. absurd cc, λ e. absurd cc)
+refuses_table : (r : TableRefusal) → IsRefusal (table_status r)
+refuses_table no_entry = (λ e. absurd cc, λ e. absurd cc)
+refuses_table too_many_cells = (λ e. absurd cc, λ e. absurd cc)
 
-refuses_trace : (stop : TraceStop) → IsRefusal (status_of_trace stop)
-refuses_trace (trace_stop.Unread name) = (λ e. absurd cc, λ e. absurd cc)
-refuses_trace (trace_stop.NotOfForm name) = (λ e. absurd cc, λ e. absurd cc)
-refuses_trace trace_stop.NoMemory = (λ e. absurd cc, λ e. absurd cc)
+refuses_certificate : (r : CertificateRefusal) → IsRefusal (certificate_status r)
+refuses_certificate (unbuilt file) = (λ e. absurd cc, λ e. absurd cc)
+refuses_certificate too_many_gates = (λ e. absurd cc, λ e. absurd cc)
+refuses_certificate (faulty line kind) = (λ e. absurd cc, λ e. absurd cc)
 
-refuses_certificate : (stop : CertificateStop) → IsRefusal (status_of_certificate stop)
-refuses_certificate (certificate_stop.Unread name) = (λ e. absurd cc, λ e. absurd cc)
-refuses_certificate (certificate_stop.Unbuilt name) = (λ e. absurd cc, λ e. absurd cc)
-refuses_certificate (certificate_stop.Faulty line kind) = (λ e. absurd cc, λ e. absurd cc)
-refuses_certificate certificate_stop.TooManyGates = (λ e. absurd cc, λ e. absurd cc)
-refuses_certificate certificate_stop.NoMemory = (λ e. absurd cc, λ e. absurd cc)
+refuses_subject : (stop : SubjectStop) → IsRefusal (subject_status stop)
+refuses_subject (subject_stop.Case stop) = refuses_stopped _ (λ r. 4) (case_stopped stop) (λ r. (λ e. absurd cc, λ e. absurd cc))
+refuses_subject (subject_stop.Source stop) = refuses_stopped _ (λ r. 3) (source_stopped stop) (λ r. (λ e. absurd cc, λ e. absurd cc))
+refuses_subject (subject_stop.Project stop) = refuses_stopped _ (λ r. 3) (project_stopped stop) (λ r. (λ e. absurd cc, λ e. absurd cc))
+refuses_subject (subject_stop.Table stop) = refuses_stopped _ table_status (table_stopped stop) refuses_table
+refuses_subject (subject_stop.Fit stop) = refuses_stopped _ (λ r. 4) (fit_stopped stop) (λ r. (λ e. absurd cc, λ e. absurd cc))
+
+refuses_recheck : (stop : RecheckStop) → IsRefusal (recheck_stop_status stop)
+refuses_recheck (recheck_stop.Subject stop) = refuses_subject stop
+refuses_recheck (recheck_stop.CaseForm file) = (λ e. absurd cc, λ e. absurd cc)
+refuses_recheck (recheck_stop.SourceForm file) = (λ e. absurd cc, λ e. absurd cc)
+refuses_recheck (recheck_stop.Certificate stop) =
+    refuses_stopped CertificateRefusal certificate_status (certificate_stopped stop) refuses_certificate
+refuses_recheck recheck_stop.NoMemory = (λ e. absurd cc, λ e. absurd cc)
 
 -- ---- only words that are no command's have status 5
 
-five_end : (end : End) → status_of_end end ≡ 5 → ⊥
-five_end (Kept n) e = absurd cc
-five_end (Broken n) e = absurd cc
-
-five_replay : (result : Result Replayed ReplayStop) → status_of_replay result ≡ 5 → ⊥
-five_replay (Ok report) e = five_end report.end e
-five_replay (Err (replay_stop.Case stop)) e = (refuses_case stop).1 e
-five_replay (Err (replay_stop.Source stop)) e = (refuses_source stop).1 e
-five_replay (Err (replay_stop.Trace stop)) e = (refuses_trace stop).1 e
-
-five_recheck : (result : Result Rechecked RecheckStop) → status_of_recheck result ≡ 5 → ⊥
+five_recheck : (result : Result Rechecked RecheckStop) → recheck_status result ≡ 5 → ⊥
 five_recheck (Ok report) e = absurd cc
-five_recheck (Err (recheck_stop.Case stop)) e = (refuses_case stop).1 e
-five_recheck (Err (recheck_stop.Source stop)) e = (refuses_source stop).1 e
-five_recheck (Err (recheck_stop.Certificate stop)) e = (refuses_certificate stop).1 e
+five_recheck (Err stop) e = (refuses_recheck stop).1 e
 
 unspelled : (told : Option FileMap) (words : List (List ℕ)) (outcome : Outcome) → Says told words outcome → status_of outcome ≡ 5
     → IsCommand words → ⊥
 unspelled told words NoCommand says e = says
-unspelled told words (Replay result) says e = absurd (five_replay result e)
+unspelled told words (Replay result) says e = absurd (never_five result e)
 unspelled told words (Recheck result) says e = absurd (five_recheck result e)
 
 answered_words : (told : Option FileMap) (words : List (List ℕ)) (outcome : Outcome) → Says told words outcome → (IsCommand words → ⊥)
@@ -116,11 +102,10 @@ answered_words told words (Recheck result) says other = absurd (other (says.0, s
 -- ---- a recheck with status 0
 
 holds_satisfied : (told : Option FileMap) (x y : List ℕ) (result : Result Rechecked RecheckStop) → SaysRecheck told x y result
-    → status_of_recheck result ≡ 0 → HoldsSatisfied told x
-holds_satisfied told x y (Ok report) says e = record { project = says.1; reads = says.3; satisfied = (says.4).satisfied }
-holds_satisfied told x y (Err (recheck_stop.Case stop)) says e = absurd ((refuses_case stop).0 e)
-holds_satisfied told x y (Err (recheck_stop.Source stop)) says e = absurd ((refuses_source stop).0 e)
-holds_satisfied told x y (Err (recheck_stop.Certificate stop)) says e = absurd ((refuses_certificate stop).0 e)
+    → recheck_status result ≡ 0 → HoldsSatisfied told x
+holds_satisfied told x y (Ok report) says e =
+    record { subject = says.subject; requirement = says.requirement; reads = says.reads; satisfied = says.proof.satisfied }
+holds_satisfied told x y (Err stop) says e = absurd ((refuses_recheck stop).0 e)
 
 satisfied_of : (told : Option FileMap) (words : List (List ℕ)) (x y : List ℕ) (outcome : Outcome) → IsRecheck words x y
     → Says told words outcome → status_of outcome ≡ 0 → HoldsSatisfied told x
@@ -135,84 +120,6 @@ zero_settled status e = record {
   written = λ h. (let no : 0 ≡ 7 = sym e ∙ h in omega (arith, no));
   roomy = λ h. (let no : 0 ≡ 9 = sym e ∙ h in omega (arith, no));
 }
-
--- ---- where memory doesn't end there is a text
-
-text_case : (stop : CaseStop) → status_of_case stop ≢ 9 → (text : List ℕ) × (text_of_case stop ≡ Some text)
-text_case (case_stop.Unread name) roomy = (_, refl)
-text_case (case_stop.NotOfForm name) roomy = (_, refl)
-text_case case_stop.NoMemory roomy = absurd (roomy refl)
-
-text_source : (stop : SourceStop) → status_of_source stop ≢ 9 → (text : List ℕ) × (text_of_source stop ≡ Some text)
-text_source (source_stop.Unread name) roomy = (_, refl)
-text_source (source_stop.NotOfForm name) roomy = (_, refl)
-text_source source_stop.NoMemory roomy = absurd (roomy refl)
-
-text_trace : (stop : TraceStop) → status_of_trace stop ≢ 9 → (text : List ℕ) × (text_of_trace stop ≡ Some text)
-text_trace (trace_stop.Unread name) roomy = (_, refl)
-text_trace (trace_stop.NotOfForm name) roomy = (_, refl)
-text_trace trace_stop.NoMemory roomy = absurd (roomy refl)
-
-text_certificate : (stop : CertificateStop) → status_of_certificate stop ≢ 9 → (text : List ℕ) × (text_of_certificate stop ≡ Some text)
-text_certificate (certificate_stop.Unread name) roomy = (_, refl)
-text_certificate (certificate_stop.Unbuilt name) roomy = (_, refl)
-text_certificate (certificate_stop.Faulty line kind) roomy = (_, refl)
-text_certificate certificate_stop.TooManyGates roomy = (_, refl)
-text_certificate certificate_stop.NoMemory roomy = absurd (roomy refl)
-
-text_replay : (result : Result Replayed ReplayStop) → status_of_replay result ≢ 9 → (text : List ℕ) × (text_of_replay result ≡ Some text)
-text_replay (Ok report) roomy = (_, refl)
-text_replay (Err (replay_stop.Case stop)) roomy = text_case stop roomy
-text_replay (Err (replay_stop.Source stop)) roomy = text_source stop roomy
-text_replay (Err (replay_stop.Trace stop)) roomy = text_trace stop roomy
-
-text_recheck : (result : Result Rechecked RecheckStop) → status_of_recheck result ≢ 9
-    → (text : List ℕ) × (text_of_recheck result ≡ Some text)
-text_recheck (Ok report) roomy = (_, refl)
-text_recheck (Err (recheck_stop.Case stop)) roomy = text_case stop roomy
-text_recheck (Err (recheck_stop.Source stop)) roomy = text_source stop roomy
-text_recheck (Err (recheck_stop.Certificate stop)) roomy = text_certificate stop roomy
-
--- ---- one outcome
-
-module _ (files : FileMap) (words : List (List ℕ)) where
-  one_replay : (x y z w : List ℕ) (a b : Result Replayed ReplayStop) → IsReplay words x y → IsReplay words z w
-      → SaysReplay (Some files) x y a → SaysReplay (Some files) z w b → status_of_replay a ≢ 6 → status_of_replay b ≢ 6
-      → status_of_replay a ≢ 9 → status_of_replay b ≢ 9
-      → (status_of_replay a ≡ status_of_replay b) × (text_of_replay a ≡ text_of_replay b)
-  one_replay x y z w a b is also says said read also_read roomy also_roomy =
-      let moved = replay_of (Some files) words x y z w a is also says in
-      let t = text_replay a roomy in
-      let u = text_replay b also_roomy in
-      let same = one_said files z (JudgedTrace files w) (status_of_replay a) (status_of_replay b) t.0 u.0 (one_trace files z w) (said_replay files z w a t.0 moved read roomy t.1) (said_replay files z w b u.0 said also_read also_roomy u.1) in
-      (same.0, t.1 ∙ ap Some same.1 ∙ sym u.1)
-
-  one_recheck : (x y z w : List ℕ) (a b : Result Rechecked RecheckStop) → IsRecheck words x y → IsRecheck words z w
-      → SaysRecheck (Some files) x y a → SaysRecheck (Some files) z w b → status_of_recheck a ≢ 6 → status_of_recheck b ≢ 6
-      → status_of_recheck a ≢ 9 → status_of_recheck b ≢ 9
-      → (status_of_recheck a ≡ status_of_recheck b) × (text_of_recheck a ≡ text_of_recheck b)
-  one_recheck x y z w a b is also says said read also_read roomy also_roomy =
-      let moved = recheck_of (Some files) words x y z w a is also says in
-      let t = text_recheck a roomy in
-      let u = text_recheck b also_roomy in
-      let same = one_said files z (JudgedCertificate files w) (status_of_recheck a) (status_of_recheck b) t.0 u.0 (one_certificate files z w) (said_recheck files z w a t.0 moved read roomy t.1) (said_recheck files z w b u.0 said also_read also_roomy u.1) in
-      (same.0, t.1 ∙ ap Some same.1 ∙ sym u.1)
-
-pub one_outcome : (files : FileMap) (words : List (List ℕ)) (a b : Outcome) → Says (Some files) words a → Says (Some files) words b
-    → status_of a ≢ 6 → status_of b ≢ 6 → status_of a ≢ 9 → status_of b ≢ 9 → (status_of a ≡ status_of b) × (text_of a ≡ text_of b)
-one_outcome files words NoCommand NoCommand says said read also_read roomy also_roomy = (refl, refl)
-one_outcome files words NoCommand (Replay result) says said read also_read roomy also_roomy = absurd (says (said.0, said.1, inl said.2))
-one_outcome files words NoCommand (Recheck result) says said read also_read roomy also_roomy = absurd (says (said.0, said.1, inr said.2))
-one_outcome files words (Replay result) NoCommand says said read also_read roomy also_roomy = absurd (said (says.0, says.1, inl says.2))
-one_outcome files words (Replay a) (Replay b) says said read also_read roomy also_roomy =
-    one_replay files words says.0 says.1 said.0 said.1 a b says.2 said.2 says.3 said.3 read also_read roomy also_roomy
-one_outcome files words (Replay a) (Recheck b) says said read also_read roomy also_roomy =
-    absurd (other_word words says.0 says.1 said.0 said.1 says.2 said.2)
-one_outcome files words (Recheck result) NoCommand says said read also_read roomy also_roomy = absurd (said (says.0, says.1, inr says.2))
-one_outcome files words (Recheck a) (Replay b) says said read also_read roomy also_roomy =
-    absurd (other_word words said.0 said.1 says.0 says.1 said.2 says.2)
-one_outcome files words (Recheck a) (Recheck b) says said read also_read roomy also_roomy =
-    one_recheck files words says.0 says.1 said.0 said.1 a b says.2 said.2 says.3 said.3 read also_read roomy also_roomy
 
 -- ---- delivery
 
@@ -242,9 +149,81 @@ settled outcome status taken taken_after is (part text of (inl e) takes) = absur
 settled outcome status taken taken_after is (part text of (inr e) takes) = absurd (is.roomy e)
 settled outcome status taken taken_after is (silent e same) = absurd (is.roomy e)
 
+-- ---- one outcome
+
+-- what the crates below say of any files
+pub record Laws : Type 0 where
+  pub replays : ReplayLaws
+  pub rechecks : (files : FileMap) (case_file : List ℕ) → FilesDecideOneRecheck files case_file
+
+module _ (laws : Laws) (files : FileMap) (words : List (List ℕ)) where
+  one_replay : (x y z w : List ℕ) (a b : Result Replayed ReplayStop) → IsReplay words x y → IsReplay words z w
+      → SaysReplay (Some files) x y a → SaysReplay (Some files) z w b → replay_status a ≢ 6 → replay_status b ≢ 6
+      → replay_status a ≢ 9 → replay_status b ≢ 9 → (replay_status a ≡ replay_status b) × (replay_text a ≡ replay_text b)
+  one_replay x y z w a b is also says said read also_read roomy also_roomy =
+      let moved = replay_of (Some files) words x y z w a is also says in
+      one_came files z w laws.replays (replay_status a) (replay_status b) (replay_text a) (replay_text b)
+      (by_result files z w a moved read roomy) (by_result files z w b said also_read also_roomy)
+
+  one_recheck : (x y z w : List ℕ) (a b : Result Rechecked RecheckStop) → IsRecheck words x y → IsRecheck words z w
+      → SaysRecheck (Some files) x y a → SaysRecheck (Some files) z w b → recheck_status a ≢ 6 → recheck_status b ≢ 6
+      → recheck_status a ≢ 9 → recheck_status b ≢ 9 → (recheck_status a ≡ recheck_status b) × (recheck_text a ≡ recheck_text b)
+  one_recheck x y z w a b is also says said read also_read roomy also_roomy =
+      let moved = recheck_of (Some files) words x y z w a is also says in
+      one_said files z w (laws.rechecks files z) (recheck_status a) (recheck_status b) (recheck_text a) (recheck_text b)
+      (said_recheck files z w a moved read roomy) (said_recheck files z w b said also_read also_roomy)
+
+pub one_outcome : Laws → (files : FileMap) (words : List (List ℕ)) (a b : Outcome) → Says (Some files) words a → Says (Some files) words b
+    → status_of a ≢ 6 → status_of b ≢ 6 → status_of a ≢ 9 → status_of b ≢ 9 → (status_of a ≡ status_of b) × (text_of a ≡ text_of b)
+one_outcome laws files words NoCommand NoCommand says said read also_read roomy also_roomy = (refl, refl)
+one_outcome laws files words NoCommand (Replay result) says said read also_read roomy also_roomy =
+    absurd (says (said.0, said.1, inl said.2))
+one_outcome laws files words NoCommand (Recheck result) says said read also_read roomy also_roomy =
+    absurd (says (said.0, said.1, inr said.2))
+one_outcome laws files words (Replay result) NoCommand says said read also_read roomy also_roomy =
+    absurd (said (says.0, says.1, inl says.2))
+one_outcome laws files words (Replay a) (Replay b) says said read also_read roomy also_roomy =
+    one_replay laws files words says.0 says.1 said.0 said.1 a b says.2 said.2 says.3 said.3 read also_read roomy also_roomy
+one_outcome laws files words (Replay a) (Recheck b) says said read also_read roomy also_roomy =
+    absurd (other_word words says.0 says.1 said.0 said.1 says.2 said.2)
+one_outcome laws files words (Recheck result) NoCommand says said read also_read roomy also_roomy =
+    absurd (said (says.0, says.1, inr says.2))
+one_outcome laws files words (Recheck a) (Replay b) says said read also_read roomy also_roomy =
+    absurd (other_word words said.0 said.1 says.0 says.1 said.2 says.2)
+one_outcome laws files words (Recheck a) (Recheck b) says said read also_read roomy also_roomy =
+    one_recheck laws files words says.0 says.1 said.0 said.1 a b says.2 said.2 says.3 said.3 read also_read roomy also_roomy
+
+-- ---- a replay and a recheck, exactly
+
+replay_exactly : Laws → (files : FileMap) (words : List (List ℕ)) (x y : List ℕ) (outcome : Outcome) (text : List ℕ)
+    (IsTaken : List ℕ → Type 0) → IsReplay words x y → Says (Some files) words outcome → status_of outcome ≢ 6
+    → status_of outcome ≢ 9 → text_of outcome ≡ Some text
+    → IsTaken text → ReplaysExactly files x y (status_of outcome) IsTaken
+replay_exactly laws files words x y NoCommand text IsTaken is says read roomy of taken = absurd (says (x, y, inl is))
+replay_exactly laws files words x y (Replay result) text IsTaken is says read roomy of taken =
+    replays_exactly files x y laws.replays (replay_status result) text IsTaken taken
+    (subst (Came files x y (replay_status result)) of
+    (by_result files x y result (replay_of (Some files) words says.0 says.1 x y result says.2 is says.3) read roomy))
+replay_exactly laws files words x y (Recheck result) text IsTaken is says read roomy of taken =
+    absurd (other_word words x y says.0 says.1 is says.2)
+
+recheck_exactly : Laws → (files : FileMap) (words : List (List ℕ)) (x y : List ℕ) (outcome : Outcome) (text : List ℕ)
+    (IsTaken : List ℕ → Type 0) → IsRecheck words x y → Says (Some files) words outcome → status_of outcome ≢ 6
+    → status_of outcome ≢ 9 → text_of outcome ≡ Some text
+    → IsTaken text → RechecksExactly files x y (status_of outcome) IsTaken
+recheck_exactly laws files words x y NoCommand text IsTaken is says read roomy of taken = absurd (says (x, y, inr is))
+recheck_exactly laws files words x y (Replay result) text IsTaken is says read roomy of taken =
+    absurd (other_word words says.0 says.1 x y says.2 is)
+recheck_exactly laws files words x y (Recheck result) text IsTaken is says read roomy of taken =
+    rechecks_exactly files x y (laws.rechecks files x) (recheck_status result) text IsTaken taken
+    (subst (RecheckSaid files x y (recheck_status result)) of
+    (said_recheck files x y result (recheck_of (Some files) words says.0 says.1 x y result says.2 is says.3) read roomy))
+
 -- ---- the promises
 
-module _ (call : Call) (outcome : Outcome) (says : Says call.told call.words outcome) (counted : Counts (status_of outcome) call.reads call.reads_after) (delivers : Delivers outcome call.status call.taken call.taken_after) where
+module _ (call : Call) (outcome : Outcome) (says : Says call.told call.words outcome)
+    (counted : Counts (status_of outcome) call.reads call.reads_after)
+    (delivers : Delivers outcome call.status call.taken call.taken_after) where
   whole_is : IsSettled call.status → IsWhole outcome call.status call.taken call.taken_after
   whole_is is = settled outcome call.status call.taken call.taken_after is delivers
 
@@ -270,30 +249,12 @@ module _ (call : Call) (outcome : Outcome) (says : Says call.told call.words out
       lead (part text of (inr h) takes) = let six : 6 ≡ 9 = sym e ∙ h in absurd (omega (arith, six))
       lead (silent h same) = let six : 6 ≡ 9 = sym e ∙ h in absurd (omega (arith, six))
 
-replay_exactly : (files : FileMap) (words : List (List ℕ)) (x y : List ℕ) (outcome : Outcome) (text : List ℕ) (IsTaken : List ℕ → Type 0)
-    → IsReplay words x y → Says (Some files) words outcome → status_of outcome ≢ 6 → status_of outcome ≢ 9 → text_of outcome ≡ Some text
-    → IsTaken text → ReplaysExactly files x y (status_of outcome) IsTaken
-replay_exactly files words x y NoCommand text IsTaken is says read roomy of taken = absurd (says (x, y, inl is))
-replay_exactly files words x y (Replay result) text IsTaken is says read roomy of taken =
-    replays_exactly files x y (status_of_replay result) text IsTaken taken (said_replay files x y result text (replay_of (Some files) words says.0 says.1 x y result says.2 is says.3) read roomy of)
-replay_exactly files words x y (Recheck result) text IsTaken is says read roomy of taken =
-    absurd (other_word words x y says.0 says.1 is says.2)
-
-recheck_exactly : (files : FileMap) (words : List (List ℕ)) (x y : List ℕ) (outcome : Outcome) (text : List ℕ) (IsTaken : List ℕ → Type 0)
-    → IsRecheck words x y → Says (Some files) words outcome → status_of outcome ≢ 6 → status_of outcome ≢ 9 → text_of outcome ≡ Some text
-    → IsTaken text → RechecksExactly files x y (status_of outcome) IsTaken
-recheck_exactly files words x y NoCommand text IsTaken is says read roomy of taken = absurd (says (x, y, inr is))
-recheck_exactly files words x y (Replay result) text IsTaken is says read roomy of taken =
-    absurd (other_word words says.0 says.1 x y says.2 is)
-recheck_exactly files words x y (Recheck result) text IsTaken is says read roomy of taken =
-    rechecks_exactly files x y (status_of_recheck result) text IsTaken taken (said_recheck files x y result text (recheck_of (Some files) words says.0 says.1 x y result says.2 is says.3) read roomy of)
-
-pub promised : (call : Call) (outcome : Outcome) → Says call.told call.words outcome
+pub promised : Laws → (call : Call) (outcome : Outcome) → Says call.told call.words outcome
     → Counts (status_of outcome) call.reads call.reads_after → Delivers outcome call.status call.taken call.taken_after
     → (call.status ≡ 7 → HasRisen call.sink call.sink_after) → (call.status ≢ 7 → call.sink_after ≡ call.sink)
     → call.writes_after ≡ call.writes → Promises call
-promised call outcome says counted delivers unwritten written writes = record {
-  answer = record { outcome = outcome; says = says; unread = counted.rises; delivers = delivers };
+promised laws call outcome says counted delivers unwritten written writes = record {
+  answer = record { outcome = outcome; says = says; counted = counted; delivers = delivers };
   no_command = λ is. (
     λ e. unspelled call.told call.words outcome says (sym (code_is call outcome says counted delivers is) ∙ e),
     λ other. code_is call outcome says counted delivers is ∙ answered_words call.told call.words outcome says other,
@@ -302,12 +263,14 @@ promised call outcome says counted delivers unwritten written writes = record {
       let w = whole_is call outcome says counted delivers is in
       let P : Option FileMap → Type 0 = λ t. Says t call.words outcome in
       let Q : ℕ → Type 0 = λ s. ReplaysExactly files x y s (IsTakenIn call) in
-      subst Q (sym w.code) (replay_exactly files call.words x y outcome w.text (IsTakenIn call) words (subst P told says) (read_is call outcome says counted delivers is) (roomy_is call outcome says counted delivers is) w.is w.takes);
+      subst Q (sym w.code) (replay_exactly laws files call.words x y outcome w.text (IsTakenIn call) words (subst P told says)
+      (read_is call outcome says counted delivers is) (roomy_is call outcome says counted delivers is) w.is w.takes);
   recheck = λ files x y told words is.
       let w = whole_is call outcome says counted delivers is in
       let P : Option FileMap → Type 0 = λ t. Says t call.words outcome in
       let Q : ℕ → Type 0 = λ s. RechecksExactly files x y s (IsTakenIn call) in
-      subst Q (sym w.code) (recheck_exactly files call.words x y outcome w.text (IsTakenIn call) words (subst P told says) (read_is call outcome says counted delivers is) (roomy_is call outcome says counted delivers is) w.is w.takes);
+      subst Q (sym w.code) (recheck_exactly laws files call.words x y outcome w.text (IsTakenIn call) words (subst P told says)
+      (read_is call outcome says counted delivers is) (roomy_is call outcome says counted delivers is) w.is w.takes);
   satisfied = λ x y words e.
       satisfied_of call.told call.words x y outcome words says
       (sym (code_is call outcome says counted delivers (zero_settled call.status e)) ∙ e);

@@ -3,13 +3,14 @@ use Rattle.std.specs.Prelude.{◌≡◌, ◌≢◌, ◌⊎◌, ◌↔◌, ℕ, L
 use Rattle.pv_edge.specs.Faults.{HasRisen}
 use Rattle.pv_edge.specs.Files.{FileMap}
 use Rattle.pv_edge.specs.Sink.{Takes, TakesLess}
+use Rattle.pv_load.specs.Held.{Counts}
+use Rattle.pv_replay_command.specs.Replays.{SaysReplay, ReplaysExactly}
+use Rattle.pv_recheck_command.specs.Rechecks.{HoldsSatisfied, SaysRecheck, RechecksExactly}
 use Rattle.pv_top.specs.declared.words.Command.{Command}
 use Rattle.pv_top.specs.declared.words.Command.TheVariants as command
 use Rattle.pv_top.specs.declared.outcome.Outcome.{Outcome}
 use Rattle.pv_top.specs.declared.outcome.Outcome.TheVariants.{NoCommand, Replay, Recheck}
-use Rattle.pv_top.specs.Texts.{status_of, text_of}
-use Rattle.pv_top.specs.Replays.{SaysReplay, ReplaysExactly}
-use Rattle.pv_top.specs.Rechecks.{HoldsSatisfied, SaysRecheck, RechecksExactly}
+use Rattle.pv_top.specs.Outcomes.{status_of, text_of}
 
 -- a run of the program, seen from outside: its words and its status, what the files are told to hold, what the sink has taken
 -- and the counts of faults, before and after
@@ -25,6 +26,8 @@ pub record Call : Type 0 where
   pub sink_after : ℕ
   pub taken : Option (List ℕ)
   pub taken_after : Option (List ℕ)
+
+-- ---- words
 
 -- the words of a replay
 abbrev pub IsReplay : List (List ℕ) → List ℕ → List ℕ → Type 0
@@ -43,6 +46,8 @@ abbrev pub Spells : List (List ℕ) → Command → Type 0
 Spells words (command.Replay case trace) = IsReplay words case.now trace.now
 Spells words (command.Recheck case certificate) = IsRecheck words case.now certificate.now
 
+-- ---- the outcome, and where its text goes
+
 -- what the words came to is so
 abbrev pub Says : Option FileMap → List (List ℕ) → Outcome → Type 0
 Says told words NoCommand = IsCommand words → ⊥
@@ -60,13 +65,15 @@ pub data Delivers (outcome : Outcome) (status : ℕ) (taken taken_after : Option
       → Delivers outcome status taken taken_after
   silent : status ≡ 9 → taken_after ≡ taken → Delivers outcome status taken taken_after
 
--- the words came to an outcome that is so, whose text is delivered. It is that a file can't be read only where the count of failed
--- reads rose, whatever the status is then
+-- the words came to an outcome that is so, whose text is delivered. Whatever the status is then, the count of failed reads rises where
+-- the outcome is that a file can't be read, and stays but there and where memory ends
 pub record Answers (call : Call) : Type 0 where
   pub outcome : Outcome
   pub says : Says call.told call.words outcome
-  pub unread : status_of outcome ≡ 6 → HasRisen call.reads call.reads_after
+  pub counted : Counts (status_of outcome) call.reads call.reads_after
   pub delivers : Delivers outcome call.status call.taken call.taken_after
+
+-- ---- the promises
 
 -- the status is none of a read fault, a write fault and want of memory
 pub record IsSettled (status : ℕ) : Type 0 where

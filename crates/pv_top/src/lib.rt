@@ -1,35 +1,33 @@
 //! The commands of plcv, over the files and the sink that they are handed.
 //!
-//! A command goes through stages: its case, the source that the case names, its second file. Each stage has a module with what it
-//! reads and why it may stop there; `outcome` is what a run came to, with its status and its text. `specs/Calls` has the
-//! promises of `run`.
+//! `words` are the forms of a command's words, each command stands in a crate of its own, and `outcome` is what a run came to, with its
+//! status and its text. `specs/Calls` has the promises of `run`.
 #![tactic(auto)]
 
-ghost use Rattle.std.specs.Prelude.{◌≡◌, ◌≢◌, ◌⊎◌, map, string_bytes};
+ghost use Rattle.std.specs.Prelude.{◌≡◌, ◌≢◌, map, string_bytes};
 ghost use Rattle.pv_edge.specs.Faults.{HasRisen};
-ghost use Rattle.pv_top.specs.Inputs.{Counts};
-ghost use Rattle.pv_top.specs.Texts.{status_of};
+ghost use Rattle.pv_load.specs.Held.{Counts};
+ghost use Rattle.pv_top.specs.Outcomes.{status_of};
 ghost use Rattle.pv_top.specs.Calls.{Says, Delivers, Promises};
 
-mod case;
 pub mod laws;
 mod outcome;
-mod read;
-mod recheck;
-mod replay;
-mod source;
 mod words;
 
-pub use outcome::Status;
-use outcome::{NO_MEMORY, Outcome, WRITE_FAULT};
+use outcome::Outcome;
 use pv_edge::{Files, Sink, SinkFault, Text};
-use recheck::recheck;
-use replay::replay;
+pub use pv_load::Status;
+use pv_load::laws::files_decide_one;
+use pv_load::{NO_MEMORY, WRITE_FAULT};
+use pv_recheck_command::laws::files_decide_one_recheck;
+use pv_recheck_command::recheck_in;
+use pv_replay_command::laws::{files_decide_one_trace, runs_end_in_one_way};
+use pv_replay_command::replay_in;
 use std::alloc::Global;
 use words::{Command, read_words};
 
-/// Runs the command that the words spell: reads what it names through `files`, and offers the report
-/// or the one fault line to `out` until it is taken. The answer is the program's status.
+/// Runs the command that the words spell: reads what it names through `files`, and offers the report or the one fault line to `out` until it
+/// is taken. The answer is the program's status.
 ///
 /// `kept` takes evidence that a report doesn't print; no command of today has any.
 pub fn run<F: Files, S: Sink>(
@@ -56,6 +54,10 @@ pub fn run<F: Files, S: Sink>(
     }) }
 {
     let _ = kept;
+    files_decide_one();
+    files_decide_one_trace();
+    runs_end_in_one_way();
+    files_decide_one_recheck();
     let outcome = outcome_of(alloc, words, files);
     print(alloc, out, &outcome)
 }
@@ -70,10 +72,10 @@ fn outcome_of<F: Files>(alloc: Global, words: &[String], files: &mut F) -> Outco
     match read_words(words) {
         None => Outcome::NoCommand,
         Some(Command::Replay { case, trace }) => {
-            Outcome::Replay(replay(alloc, files, case, trace))
+            Outcome::Replay(replay_in(alloc, files, case, trace))
         }
         Some(Command::Recheck { case, certificate }) => {
-            Outcome::Recheck(recheck(alloc, files, case, certificate))
+            Outcome::Recheck(recheck_in(alloc, files, case, certificate))
         }
     }
 }

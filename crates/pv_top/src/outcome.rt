@@ -1,24 +1,14 @@
 //! What a run of the program comes to: its status and its text.
 ghost use Rattle.std.specs.Prelude.{◌≡◌, Some, IfOk, string_bytes};
-ghost use Rattle.pv_top.specs.Texts.{status_of, text_of, read_line, form_line};
+ghost use Rattle.pv_top.specs.Outcomes.{status_of, text_of};
 
-use crate::recheck::{RecheckStop, Rechecked};
-use crate::replay::{ReplayStop, Replayed};
+use pv_load::{HOLDS, Status, WORDS_REFUSED};
+use pv_recheck_command::{RecheckStop, Rechecked};
+use pv_replay_command::{ReplayStop, Replayed};
 use std::alloc::{AllocError, Global};
 
-/// How the program ends: 0 the requirement holds, 1 it doesn't, 2 undecided, 3 a source is refused
-/// or its step circuit is too large, 4 the case is refused, 5 the words are refused, 6 a read fault,
-/// 7 a write fault, 8 a trace or a certificate is refused, 9 want of memory.
-pub type Status = u8;
-
-pub const READ_FAULT: Status = 6;
-
-pub const WRITE_FAULT: Status = 7;
-
-pub const NO_MEMORY: Status = 9;
-
 /// What the words come to.
-#[derive(Debug, Drop)]
+#[derive(Drop)]
 pub enum Outcome {
     /// The words have none of the forms.
     NoCommand,
@@ -31,10 +21,10 @@ impl Outcome {
         ensures { result ≡ status_of self.now }
     {
         match self {
-            Outcome::NoCommand => 5,
+            Outcome::NoCommand => WORDS_REFUSED,
             Outcome::Replay(Ok(report)) => report.status(),
             Outcome::Replay(Err(stop)) => stop.status(),
-            Outcome::Recheck(Ok(_)) => 0,
+            Outcome::Recheck(Ok(_)) => HOLDS,
             Outcome::Recheck(Err(stop)) => stop.status(),
         }
     }
@@ -51,18 +41,4 @@ impl Outcome {
             Outcome::Recheck(Err(stop)) => stop.text(alloc),
         }
     }
-}
-
-/// The fault line of a file that can't be read.
-pub fn read_line(alloc: Global, file: &String) -> Result<String, AllocError>
-    ensures { IfOk result (λ text. string_bytes text ≡ read_line (string_bytes file.now)) }
-{
-    format!(in alloc; "plcv: read {file}\n")
-}
-
-/// The fault line of a file that isn't of its form.
-pub fn form_line(alloc: Global, file: &String) -> Result<String, AllocError>
-    ensures { IfOk result (λ text. string_bytes text ≡ form_line (string_bytes file.now)) }
-{
-    format!(in alloc; "plcv: form {file}\n")
 }

@@ -5,14 +5,13 @@ ghost use Rattle.pv_top.specs.Calls.{IsCommand, Spells};
 /// A command with its words.
 #[derive(Clone, Copy, Debug, PartialEq, Eq)]
 pub enum Command<'a> {
-    /// `replay CASE TRACE`: replays the trace on the case's block.
+    /// `replay CASE TRACE`: replays the trace on the case's project.
     Replay { case: &'a str, trace: &'a str },
-    /// `recheck CASE CERT`: checks the certificate against the case.
+    /// `recheck CASE CERTIFICATE`: checks the certificate against the case.
     Recheck { case: &'a str, certificate: &'a str },
 }
 
-/// The command that the words spell, if they have one of the forms. Nothing stands before or
-/// after it: there are no options.
+/// The command that the words spell, if they have one of the forms. Nothing stands before or after it: there are no options.
 pub fn read_words(words: &[String]) -> Option<Command<'_>>
     ensures some { IfSome result (λ command. Spells (map string_bytes words.now) command) }
     ensures none { IfNone result (IsCommand (map string_bytes words.now) → ⊥) }

@@ -2,6 +2,7 @@ use Rattle.std.proofs.Common.{refl, sym, subst, ◌∙◌}
 use Rattle.pv_load.specs.Subjects.{source_in}
 use Rattle.pv_mean.specs.Runs.{run}
 use Rattle.pv_replay_command.specs.Ends.{IsEnd}
+use Rattle.pv_replay_command.proofs.Starts.{subject_starts}
 use Rattle.pv_replay_command.proofs.Saying.{says_replayed, says_stopped, err_said, err_counted, unsaid}
 use Rattle.pv_replay_command.specs.declared.replay.ReplayStop.TheVariants.{Trace as AtTrace, NoMemory}
 use Rattle.pv_replay_command.proofs.replay.replay_in.Goals as goal
@@ -13,7 +14,7 @@ returns-clause-says g c =
     says_replayed _ _ c.args.case_file.now c.args.trace_file.now c.in_ok-subject.subject s c.in_ok-trace.trace _ found.1 found.2
     c.in_ok-subject.ensures.files (c.in_ok-trace.ensures.found (source_in s) (sym (c.cells.ensures ∙ found.2.cells)))
     (λ values. subst (IsEnd (source_in s) s.pattern (run (source_in s) c.in_ok-trace.trace.params c.in_ok-trace.trace.inputs))
-    (sym c.reported.ensures.end) (c.in_ok-end.ensures s found.2 values))
+    (sym c.reported.ensures.end) (c.in_ok-end.ensures s found.2 (subject_starts _ c.args.case_file.now s found.1) values))
     c.reported.ensures.case c.reported.ensures.kind c.reported.ensures.sources
 
 pub returns-in_err-trace-clause-says : goal.returns-in_err-trace-clause-says

@@ -6,11 +6,11 @@ use Rattle.pv_replay_command.proofs.scans.end_of.Goals as goal
 pub returns : goal.returns
 returns c =
     ok_map _ _ c.replayed.result
-    (λ end ends s is values. ends (source_in s) s.pattern (record {
+    (λ end ends s is starts values. ends (source_in s) s.pattern (record {
       of_project = is.project;
       entry = is.entered;
       bytes = is.bytes;
       cells = is.cells;
       bound = sym is.bound;
-    }) is.pattern values)
+    }) starts is.pattern values)
     c.replayed.ensures

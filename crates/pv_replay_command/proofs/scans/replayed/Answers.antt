@@ -1,20 +1,16 @@
 use Rattle.std.proofs.Common.{None, ap, sym, subst, ◌∙◌}
 use Rattle.std.specs.List.{AllByRecursion}
-use Rattle.std.specs.Prelude.{All}
 use Rattle.pv_machine.specs.Ranges.{AreWithin}
 use Rattle.pv_mean.specs.Frames.{input_ranges, param_ranges}
 use Rattle.pv_mean.specs.Runs.{start, run_from}
 use Rattle.pv_replay.specs.Replays.{image_of}
-use Rattle.pv_replay_command.specs.Judged.{end_behind, BeginsWithin}
-use Rattle.pv_replay_command.proofs.Starts.{has_starts, replayed_is}
+use Rattle.pv_replay_command.specs.Judged.{end_behind}
+use Rattle.pv_replay_command.proofs.Starts.{replayed_is}
 use Rattle.pv_replay_command.proofs.scans.replayed.Goals as goal
 
 pub returns : goal.returns
-returns c = λ source p is pattern values.
-    let cells = c.args.table.now.cells.items in
-    let all : All BeginsWithin cells = subst (All BeginsWithin) c.cells.ensures
-    (c.all_begin_within.ensures.0 c.if-not-all_begin_within.false) in
-    let of = c.in_ok-replay.ensures.of source is.of_project is.entry is.bytes is.cells is.bound (has_starts source cells is.cells all) in
+returns c = λ source p is starts pattern values.
+    let of = c.in_ok-replay.ensures.of source is.of_project is.entry is.bytes is.cells is.bound starts in
     let params = subst (AreWithin (param_ranges source.cells)) (sym c.as_slice.ensures) values.params in
     let inputs = subst (AllByRecursion (AreWithin (input_ranges source.cells))) (sym c.as_slice-2.ensures) values.inputs in
     replayed_is source p c.args.trace.now.params c.args.trace.now.inputs (image_of c.start.new.self) c.scanned.result

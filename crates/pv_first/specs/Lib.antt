@@ -1,3 +1,0 @@
-pub mod Tree
-pub mod FirstForm
-pub mod Names

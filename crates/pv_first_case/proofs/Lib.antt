@@ -1,3 +1,0 @@
-mod CaseLemmas
-mod Unique
-pub mod ForCallers

@@ -1,6 +1,0 @@
-mod FirstCells
-mod ProgramLemmas
-mod PlaceLemmas
-mod MachineLemmas
-mod EndLemmas
-pub mod ForCallers

@@ -1,4 +1,0 @@
-pub mod Programs
-pub mod Beginnings
-pub mod Ends
-pub mod Machines

@@ -1,3 +1,0 @@
-mod Keys
-mod Each
-pub mod ForCallers

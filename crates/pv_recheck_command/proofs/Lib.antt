@@ -1,0 +1,12 @@
+pub mod Alike
+pub mod Queries
+pub mod Requirements
+pub mod Subjects
+pub mod Stages
+pub mod Verdicts
+pub mod Items
+pub mod Working
+pub mod Certifying
+pub mod Reporting
+pub mod OneRecheck
+mod Examples

@@ -1,0 +1,16 @@
+//! Replays of whole cases from end to end, with the status and the output that they must have, worked out by hand from the rules: a crate of
+//! tests alone.
+#![tactic(auto)]
+
+#[cfg(test)]
+mod edges;
+#[cfg(test)]
+mod parts;
+#[cfg(test)]
+mod refusals;
+#[cfg(test)]
+mod replays;
+#[cfg(test)]
+mod rows;
+#[cfg(test)]
+mod sources;

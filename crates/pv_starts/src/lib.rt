@@ -1,0 +1,6 @@
+//! What cells begin with: in a project that keeps the rules, values of their types.
+//!
+//! The definitions stand in `specs/`; each law is the contract of a function that does nothing.
+#![tactic(auto)]
+
+pub mod laws;

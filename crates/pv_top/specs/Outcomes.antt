@@ -1,0 +1,20 @@
+-- What the words come to, with the status and the text that go with it.
+use Rattle.std.specs.Prelude.{ℕ, List, codes, Option, Some}
+use Rattle.pv_replay_command.specs.Replays.{replay_status, replay_text}
+use Rattle.pv_recheck_command.specs.Rechecks.{recheck_status, recheck_text}
+use Rattle.pv_top.specs.declared.outcome.Outcome.{Outcome}
+use Rattle.pv_top.specs.declared.outcome.Outcome.TheVariants.{NoCommand, Replay, Recheck}
+
+abbrev pub words_line : List ℕ
+words_line = codes "plcv: words\n"
+
+abbrev pub status_of : Outcome → ℕ
+status_of NoCommand = 5
+status_of (Replay result) = replay_status result
+status_of (Recheck result) = recheck_status result
+
+-- what is printed, none where memory ends
+abbrev pub text_of : Outcome → Option (List ℕ)
+text_of NoCommand = Some words_line
+text_of (Replay result) = replay_text result
+text_of (Recheck result) = recheck_text result
