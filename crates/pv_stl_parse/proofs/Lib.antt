@@ -19,3 +19,4 @@ pub mod StlCasts
 pub mod Whole
 pub mod Endings
 pub mod SourceEndings
+pub mod ForCallers
