@@ -1,4 +1,4 @@
--- The rules that a project without instructions can break, each with its nearest place.
+-- The rules that a project can break, each with its nearest place.
 use Rattle.std.proofs.Common.{inl, inr, refl, List, [], ◌∷◌, Option}
 use Rattle.pv_machine.specs.declared.place.Place.{Place}
 use Rattle.pv_tree.specs.Scopes.{ProjectTree}
@@ -7,11 +7,9 @@ use Rattle.pv_tree.specs.Rules.{Breaks}
 use Rattle.pv_rules.specs.Least.{AreNear, HasRule}
 use Rattle.pv_rules.specs.declared.least.Found.{Found}
 use Rattle.pv_rules.specs.declared.fault.Rule.{Rule}
-use Rattle.pv_rules.specs.declared.fault.Rule.TheVariants.{DoubledName, MissingName, MissingType, Misfit, WrongCondition, OutOfRange, WrongArray, BeyondBounds, FixedTarget, WrongCounter, WrongStep, OutsideLoop, WrongCase, Cycle, TooDeep, NotCallable, WrongArgument, FixedOutput, WrongAddress}
+use Rattle.pv_rules.specs.declared.fault.Rule.TheVariants.{DoubledName, MissingName, MissingType, Misfit, WrongCondition, OutOfRange, WrongArray, BeyondBounds, FixedTarget, WrongCounter, WrongStep, OutsideLoop, WrongCase, Cycle, TooDeep, NotCallable, WrongArgument, FixedOutput, WrongLabel, WrongRange, WrongNesting, RefusedOperand, WrongAddress}
 use Rattle.pv_check.specs.Found.{AreAll}
-use Rattle.pv_check.specs.NoInstructions.{HasNoInstructions}
 use Rattle.pv_check.specs.declared.found.Nearest.{Nearest}
-use Rattle.pv_check.proofs.NoInstructions.{no_label, no_range, no_nesting, no_refused}
 
 abbrev found : Rule → Option Place → Found
 found rule place = record { rule = rule; place = place }
@@ -24,7 +22,8 @@ all_found n =
     ∷ found WrongCounter n.stated.counter ∷ found WrongStep n.stated.step ∷ found OutsideLoop n.stated.leave
     ∷ found WrongCase n.stated.choice ∷ found Cycle n.chained.cycle ∷ found TooDeep n.chained.deep
     ∷ found NotCallable n.whole.uncallable ∷ found WrongArgument n.stated.argument ∷ found FixedOutput n.stated.output
-    ∷ found WrongAddress n.whole.address ∷ []
+    ∷ found WrongLabel n.instructed.label ∷ found WrongRange n.instructed.range ∷ found WrongNesting n.instructed.nesting
+    ∷ found RefusedOperand n.instructed.operand ∷ found WrongAddress n.whole.address ∷ []
 
 pub are_near : (project : ProjectTree) (n : Nearest) → AreAll project n → AreNear (λ rule at. Breaks rule project at) (all_found n)
 are_near project n h = (
@@ -63,7 +62,19 @@ are_near project n h = (
                                   h.stated.argument,
                                   (
                                     h.stated.output,
-                                    (h.whole.address, tt),
+                                    (
+                                      h.instructed.label,
+                                      (
+                                        h.instructed.range,
+                                        (
+                                          h.instructed.nesting,
+                                          (
+                                            h.instructed.operand,
+                                            (h.whole.address, tt),
+                                          ),
+                                        ),
+                                      ),
+                                    ),
                                   ),
                                 ),
                               ),
@@ -83,37 +94,44 @@ are_near project n h = (
   ),
 )
 
-pub has_rule : (project : ProjectTree) → HasNoInstructions project → (n : Nearest) (rule : tree.Rule) (at : Place) → Breaks rule project at
-    → HasRule rule (all_found n)
-has_rule project none n tree.doubled_name at b = inl refl
-has_rule project none n tree.missing_name at b = inr (inl refl)
-has_rule project none n tree.missing_type at b = inr (inr (inl refl))
-has_rule project none n tree.misfit at b = inr (inr (inr (inl refl)))
-has_rule project none n tree.wrong_condition at b = inr (inr (inr (inr (inl refl))))
-has_rule project none n tree.out_of_range at b = inr (inr (inr (inr (inr (inl refl)))))
-has_rule project none n tree.wrong_array at b = inr (inr (inr (inr (inr (inr (inl refl))))))
-has_rule project none n tree.beyond_bounds at b = inr (inr (inr (inr (inr (inr (inr (inl refl)))))))
-has_rule project none n tree.fixed_target at b = inr (inr (inr (inr (inr (inr (inr (inr (inl refl))))))))
-has_rule project none n tree.wrong_counter at b = inr (inr (inr (inr (inr (inr (inr (inr (inr (inl refl)))))))))
-has_rule project none n tree.wrong_step at b = inr (inr (inr (inr (inr (inr (inr (inr (inr (inr (inl refl))))))))))
-has_rule project none n tree.outside_loop at b = inr (inr (inr (inr (inr (inr (inr (inr (inr (inr (inr (inl refl)))))))))))
-has_rule project none n tree.wrong_case at b = inr (inr (inr (inr (inr (inr (inr (inr (inr (inr (inr (inr (inl refl))))))))))))
-has_rule project none n tree.cycle at b = inr (inr (inr (inr (inr (inr (inr (inr (inr (inr (inr (inr (inr (inl refl)))))))))))))
-has_rule project none n tree.too_deep at b = inr (inr (inr (inr (inr (inr (inr (inr (inr (inr (inr (inr (inr (inr (inl refl))))))))))))))
-has_rule project none n tree.not_callable at b =
-    inr (inr (inr (inr (inr (inr (inr (inr (inr (inr (inr
-    (inr (inr (inr (inr (inl refl)))))))))))))))
-has_rule project none n tree.wrong_argument at b =
-    inr (inr (inr (inr (inr (inr (inr (inr (inr (inr (inr
-    (inr (inr (inr (inr (inr (inl refl))))))))))))))))
-has_rule project none n tree.fixed_output at b =
-    inr (inr (inr (inr (inr (inr (inr (inr (inr (inr (inr
-    (inr (inr (inr (inr (inr (inr (inl refl)))))))))))))))))
-has_rule project none n tree.wrong_label at b = absurd (no_label project none at b)
-has_rule project none n tree.wrong_range at b = absurd (no_range project none at b)
-has_rule project none n tree.wrong_nesting at b = absurd (no_nesting project none at b)
-has_rule project none n tree.refused_operand at b = absurd (no_refused project none at b)
-has_rule project none n tree.wrong_address at b =
-    inr (inr (inr (inr (inr (inr (inr (inr (inr (inr (inr
-    (inr (inr (inr (inr (inr (inr (inr (inl refl))))))))))))))))))
-has_rule project none n tree.no_pattern at b = absurd b
+pub has_rule : (project : ProjectTree) (n : Nearest) (rule : tree.Rule) (at : Place) → Breaks rule project at → HasRule rule (all_found n)
+has_rule project n tree.doubled_name at b = inl refl
+has_rule project n tree.missing_name at b = inr (inl refl)
+has_rule project n tree.missing_type at b = inr (inr (inl refl))
+has_rule project n tree.misfit at b = inr (inr (inr (inl refl)))
+has_rule project n tree.wrong_condition at b = inr (inr (inr (inr (inl refl))))
+has_rule project n tree.out_of_range at b = inr (inr (inr (inr (inr (inl refl)))))
+has_rule project n tree.wrong_array at b = inr (inr (inr (inr (inr (inr (inl refl))))))
+has_rule project n tree.beyond_bounds at b = inr (inr (inr (inr (inr (inr (inr (inl refl)))))))
+has_rule project n tree.fixed_target at b = inr (inr (inr (inr (inr (inr (inr (inr (inl refl))))))))
+has_rule project n tree.wrong_counter at b = inr (inr (inr (inr (inr (inr (inr (inr (inr (inl refl)))))))))
+has_rule project n tree.wrong_step at b = inr (inr (inr (inr (inr (inr (inr (inr (inr (inr (inl refl))))))))))
+has_rule project n tree.outside_loop at b = inr (inr (inr (inr (inr (inr (inr (inr (inr (inr (inr (inl refl)))))))))))
+has_rule project n tree.wrong_case at b = inr (inr (inr (inr (inr (inr (inr (inr (inr (inr (inr (inr (inl refl))))))))))))
+has_rule project n tree.cycle at b = inr (inr (inr (inr (inr (inr (inr (inr (inr (inr (inr (inr (inr (inl refl)))))))))))))
+has_rule project n tree.too_deep at b = inr (inr (inr (inr (inr (inr (inr (inr (inr (inr (inr (inr (inr (inr (inl refl))))))))))))))
+has_rule project n tree.not_callable at b =
+    inr (inr (inr (inr (inr (inr (inr (
+    inr (inr (inr (inr (inr (inr (inr (inr (inl refl)))))))))))))))
+has_rule project n tree.wrong_argument at b =
+    inr (inr (inr (inr (inr (inr (inr (inr (
+    inr (inr (inr (inr (inr (inr (inr (inr (inl refl))))))))))))))))
+has_rule project n tree.fixed_output at b =
+    inr (inr (inr (inr (inr (inr (inr (inr (
+    inr (inr (inr (inr (inr (inr (inr (inr (inr (inl refl)))))))))))))))))
+has_rule project n tree.wrong_label at b =
+    inr (inr (inr (inr (inr (inr (inr (inr (inr (
+    inr (inr (inr (inr (inr (inr (inr (inr (inr (inl refl))))))))))))))))))
+has_rule project n tree.wrong_range at b =
+    inr (inr (inr (inr (inr (inr (inr (inr (inr (
+    inr (inr (inr (inr (inr (inr (inr (inr (inr (inr (inl refl)))))))))))))))))))
+has_rule project n tree.wrong_nesting at b =
+    inr (inr (inr (inr (inr (inr (inr (inr (inr (inr (
+    inr (inr (inr (inr (inr (inr (inr (inr (inr (inr (inl refl))))))))))))))))))))
+has_rule project n tree.refused_operand at b =
+    inr (inr (inr (inr (inr (inr (inr (inr (inr (inr (
+    inr (inr (inr (inr (inr (inr (inr (inr (inr (inr (inr (inl refl)))))))))))))))))))))
+has_rule project n tree.wrong_address at b =
+    inr (inr (inr (inr (inr (inr (inr (inr (inr (inr (inr (
+    inr (inr (inr (inr (inr (inr (inr (inr (inr (inr (inr (inl refl))))))))))))))))))))))
+has_rule project n tree.no_pattern at b = absurd b

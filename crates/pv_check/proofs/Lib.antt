@@ -1,7 +1,6 @@
 pub mod AllRules
 pub mod Gathering
 pub mod Making
-pub mod NoInstructions
 pub mod OutputLaws
 pub mod PlainLaws
 pub mod ReadLaws

@@ -1,6 +1,6 @@
 -- Which operands calls write: a name that comes to a function has no steps, so it is told apart from others by its root and its place.
 use Rattle.std.proofs.Common.{◌≡◌, ℕ, refl, sym, ap, subst, ◌∙◌, inl, inr, List, [], ◌∷◌, Option, Some, None, Bool, true, false, ◌&&◌, ◌||◌, true≢false, IsTrue, arith}
-use Rattle.std.specs.Prelude.{◌⊎◌, Any, not, nat_eq, bytes_eq, if◌then◌else◌, flat_map}
+use Rattle.std.specs.Prelude.{◌⊎◌, Any, not, nat_eq, bytes_eq, if◌then◌else◌}
 use Rattle.std.specs.List.{list_any}
 use Rattle.std.proofs.lemmas.Slice.Eq.{bytes_eq-Decides}
 use Rattle.std.proofs.lemmas.Bool.Decides.{nat_tests}
@@ -13,17 +13,17 @@ use Rattle.pv_tree.specs.declared.block.BlockKind.{BlockKind}
 use Rattle.pv_tree.specs.declared.block.BlockKind.TheVariants.{Fb, Fc, Ob, Db, Udt}
 use Rattle.pv_tree.specs.declared.expr.Root.{Root}
 use Rattle.pv_tree.specs.declared.expr.Root.TheVariants.{Local, Named, Area}
-use Rattle.pv_tree.specs.Tree.{OperandTree, operand, StepTree, field, index, StepTrees, no_steps, steps, ArgTree, StmtTree, BlockTree}
+use Rattle.pv_tree.specs.Tree.{OperandTree, operand, StepTree, field, index, StepTrees, no_steps, steps, ArgTree, BlockTree}
 use Rattle.pv_tree.specs.Scopes.{Scope, first_var, type_named}
 use Rattle.pv_tree.specs.Things.{Thing, part, constant, a_block, no_name, no_array, a_date, untold, first_place, is_date, is_address, type_of_bits, dated, thing_at, thing_behind, last_behind, root_place, thing_of_root, thing_of, field_where, field_within, field_of_type, field_of_kind, field_of_thing, no_array_where, element_of_thing}
 use Rattle.pv_tree.specs.Callees.{CallSite, param_of_arg}
-use Rattle.pv_tree.specs.Parts.{calls_of, calls_of_stmt, operand_of, path_of, thing_of_path}
+use Rattle.pv_tree.specs.Parts.{calls_of, operand_of, path_of, thing_of_path}
 use Rattle.pv_tree.specs.Rules.Callable.{is_void_thing, ReadsVoid, is_output_where, IsOutputArgument}
 use Rattle.pv_expr_rules.specs.Members.{HasSome}
 use Rattle.pv_expr_rules.specs.Nearest.{IsNearest}
 use Rattle.pv_expr_rules.specs.Places.{place_where}
-use Rattle.pv_expr_rules.proofs.ForCallers.{any_has, has_any, has_front, has_behind, has_either, nearest_same, nearest_where}
-use Rattle.pv_check.specs.Outputs.{same_place, same_name, same_truth, same_root, same_plain, is_that, passes_out, call_writes, stmt_writes, is_written}
+use Rattle.pv_expr_rules.proofs.ForCallers.{any_has, has_any, nearest_same, nearest_where}
+use Rattle.pv_check.specs.Outputs.{same_place, same_name, same_truth, same_root, same_plain, is_that, passes_out, call_writes, is_written}
 use Rattle.pv_check.specs.Values.{unless, value_at}
 
 -- ---- equal where the tests pass
@@ -186,16 +186,7 @@ void_self scope (operand root (steps s more) place) is =
     (thing_at scope (dated (root_place root place) (thing_of_root scope root place)) s) more
     (step_no scope (dated (root_place root place) (thing_of_root scope root place)) s)))
 
--- ---- lists behind one another
-
-pub has_flat : {X Y : Type 0} (P : Y → Type 0) (f : X → List Y) (xs : List X) → HasSome (λ x. HasSome P (f x)) xs → HasSome P (flat_map f xs)
-has_flat P f [] h = h
-has_flat P f (x ∷ xs) (inl a) = has_front P (f x) (flat_map f xs) a
-has_flat P f (x ∷ xs) (inr h) = has_behind P (f x) (flat_map f xs) (has_flat P f xs h)
-
-pub flat_has : {X Y : Type 0} (P : Y → Type 0) (f : X → List Y) (xs : List X) → HasSome P (flat_map f xs) → HasSome (λ x. HasSome P (f x)) xs
-flat_has P f [] h = h
-flat_has P f (x ∷ xs) h = elim (has_either P (f x) (flat_map f xs) h) [ inl g ↦ inl g | inr g ↦ inr (flat_has P f xs g) ]
+-- ---- some of a list
 
 some_each : {X : Type 0} (P Q : X → Type 0) (xs : List X) → ((x : X) → P x → Q x) → HasSome P xs → HasSome Q xs
 some_each P Q [] f h = h
@@ -237,36 +228,27 @@ is_passes : (scope : Scope) (o : OperandTree) (s : CallSite) (a : ArgTree) → I
 is_passes scope o s a self p =
     on_both (is_that (operand_of a.value) o) (is_output_where (param_of_arg scope s a)) (subst (λ q. IsTrue (is_that q o)) (sym p.0) self) p.1
 
-abbrev calls_at : List StmtTree → List CallSite
-calls_at list = flat_map calls_of_stmt list
-
-written_is : (scope : Scope) (list : List StmtTree) → calls_of scope.block ≡ calls_at list → (o : OperandTree) → IsTrue (is_written scope list o)
+written_is : (scope : Scope) (calls : List CallSite) → calls_of scope.block ≡ calls → (o : OperandTree) → IsTrue (is_written scope calls o)
     → IsOutputArgument scope o
-written_is scope list all o h =
+written_is scope calls all o h =
     has_any (λ s. Any (Passes scope o s) s.call.args) (calls_of scope.block)
     (subst (HasSome (λ s. Any (Passes scope o s) s.call.args)) (sym all)
-    (some_each (λ s. IsTrue (call_writes scope o s)) (λ s. Any (Passes scope o s) s.call.args) (calls_at list)
+    (some_each (λ s. IsTrue (call_writes scope o s)) (λ s. Any (Passes scope o s) s.call.args) calls
     (λ s k. has_any (Passes scope o s) s.call.args
     (some_each (λ a. IsTrue (passes_out scope o s a)) (Passes scope o s) s.call.args (λ a p. passes_is scope o s a p)
     (tested (passes_out scope o s) s.call.args k)))
-    (has_flat (λ s. IsTrue (call_writes scope o s)) calls_of_stmt list
-    (some_each (λ st. IsTrue (stmt_writes scope o st)) (λ st. HasSome (λ s. IsTrue (call_writes scope o s)) (calls_of_stmt st)) list
-    (λ st k. tested (call_writes scope o) (calls_of_stmt st) k)
-    (tested (stmt_writes scope o) list h)))))
+    (tested (call_writes scope o) calls h)))
 
-is_written_by : (scope : Scope) (list : List StmtTree) → calls_of scope.block ≡ calls_at list → (o : OperandTree) → IsTrue (same_plain o o)
-    → IsOutputArgument scope o → IsTrue (is_written scope list o)
-is_written_by scope list all o self h =
-    test_of (stmt_writes scope o) list
-    (some_each (λ st. HasSome (λ s. IsTrue (call_writes scope o s)) (calls_of_stmt st)) (λ st. IsTrue (stmt_writes scope o st)) list
-    (λ st k. test_of (call_writes scope o) (calls_of_stmt st) k)
-    (flat_has (λ s. IsTrue (call_writes scope o s)) calls_of_stmt list
-    (some_each (λ s. Any (Passes scope o s) s.call.args) (λ s. IsTrue (call_writes scope o s)) (calls_at list)
+is_written_by : (scope : Scope) (calls : List CallSite) → calls_of scope.block ≡ calls → (o : OperandTree) → IsTrue (same_plain o o)
+    → IsOutputArgument scope o → IsTrue (is_written scope calls o)
+is_written_by scope calls all o self h =
+    test_of (call_writes scope o) calls
+    (some_each (λ s. Any (Passes scope o s) s.call.args) (λ s. IsTrue (call_writes scope o s)) calls
     (λ s k. test_of (passes_out scope o s) s.call.args
     (some_each (Passes scope o s) (λ a. IsTrue (passes_out scope o s a)) s.call.args (λ a p. is_passes scope o s a self p)
     (any_has (Passes scope o s) s.call.args k)))
     (subst (HasSome (λ s. Any (Passes scope o s) s.call.args)) all
-    (any_has (λ s. Any (Passes scope o s) s.call.args) (calls_of scope.block) h)))))
+    (any_has (λ s. Any (Passes scope o s) s.call.args) (calls_of scope.block) h)))
 
 -- ---- the nearest
 
@@ -288,19 +270,19 @@ where_value false false place = refl
 abbrev pub ReadsValue : Scope → OperandTree → Place → Type 0
 ReadsValue scope o at = ReadsVoid scope at o × (IsOutputArgument scope o → ⊥)
 
-pub value_nearest : (scope : Scope) (list : List StmtTree) → calls_of scope.block ≡ calls_at list → (o : OperandTree)
-    → IsNearest (ReadsValue scope o) (value_at scope list o)
-value_nearest scope list all (operand root more place) =
+pub value_nearest : (scope : Scope) (calls : List CallSite) → calls_of scope.block ≡ calls → (o : OperandTree)
+    → IsNearest (ReadsValue scope o) (value_at scope calls o)
+value_nearest scope calls all (operand root more place) =
     subst (IsNearest (ReadsValue scope (operand root more place))) (sym (where_value void out (root_place root place)))
     (nearest_same (λ at. (root_place root place ≡ at) × IsTrue (void && not out)) (ReadsValue scope (operand root more place))
     (place_where (void && not out) (root_place root place))
     (λ at h. let k = both_on void (not out) h.1 in
-    ((h.0, k.0), (λ is. off_not out k.1 (is_written_by scope list all (operand root more place) (void_self scope (operand root more place) k.0) is))))
-    (λ at h. (h.0.0, on_both void (not out) h.0.1 (not_off out (λ is. h.1 (written_is scope list all (operand root more place) is)))))
+    ((h.0, k.0), (λ is. off_not out k.1 (is_written_by scope calls all (operand root more place) (void_self scope (operand root more place) k.0) is))))
+    (λ at h. (h.0.0, on_both void (not out) h.0.1 (not_off out (λ is. h.1 (written_is scope calls all (operand root more place) is)))))
     (nearest_where (void && not out) (root_place root place)))
   where
     void : Bool
     void = is_void_thing (thing_of scope (operand root more place))
 
     out : Bool
-    out = is_written scope list (operand root more place)
+    out = is_written scope calls (operand root more place)

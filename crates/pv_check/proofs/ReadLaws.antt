@@ -1,15 +1,16 @@
 -- The operands that the expressions of a block read, whatever is wanted of these.
 use Rattle.std.proofs.Common.{◌≡◌, refl, sym, ap, ◌∙◌, List, [], ◌∷◌, ◌++◌, map, Bool, true, false, Option, Some, None, is_some, true≢false}
-use Rattle.std.specs.Prelude.{flat_map, if◌then◌else◌}
+use Rattle.std.specs.Prelude.{flat_map, option_to_list, if◌then◌else◌}
 use Rattle.std.proofs.lemmas.List.Concat.{flat_map-append}
 use Rattle.pv_tree.specs.declared.expr.UnaryOp.{UnaryOp}
-use Rattle.pv_tree.specs.Tree.{ExprTree, lit, read, unary, binary, std, paren, ExprTrees, no_exprs, exprs, OperandTree, operand, StepTree, field, index, StepTrees, no_steps, steps, StmtTree, assign, assign_call, if_, case_, for_, while_, repeat_, exit_, continue_, return_, call_, empty_, StmtTrees, StartTree}
+use Rattle.pv_tree.specs.Tree.{ExprTree, lit, read, unary, binary, std, paren, ExprTrees, no_exprs, exprs, OperandTree, operand, StepTree, field, index, StepTrees, no_steps, steps, StmtTree, assign, assign_call, if_, case_, for_, while_, repeat_, exit_, continue_, return_, call_, empty_, StmtTrees, CallPlain, InstrTree, StartTree}
 use Rattle.pv_tree.specs.LiteralTypes.{Want, nothing}
 use Rattle.pv_tree.specs.Sorts.{wanted_beside, wants_of}
 use Rattle.pv_tree.specs.Scopes.{Scope}
 use Rattle.pv_tree.specs.Types.{Written, signed, literal_of, sort_of, sorts_of}
-use Rattle.pv_tree.specs.Callees.{CallSite, as_statement, as_value, want_of_arg}
-use Rattle.pv_tree.specs.Parts.{Part, Spot, spots_of_stmts, parts_of, parts_of_args, parts_of_operand, parts_of_steps, parts_of_step, parts_of_call, parts_of_stmt, operands_read, reads_of_parts, conditions_of, want_of_target, want_of_counter, site}
+use Rattle.pv_tree.specs.Callees.{CallSite, How, as_statement, as_value, want_of_arg}
+use Rattle.pv_tree.specs.InstructionGroups.{operand_of_instruction}
+use Rattle.pv_tree.specs.Parts.{Part, Spot, spots_of_stmts, parts_of, parts_of_args, parts_of_operand, parts_of_steps, parts_of_step, parts_of_call, parts_of_stmt, operands_read, reads_of_parts, conditions_of, want_of_target, want_of_counter, site, how_of, calls_of_instruction, parts_of_instruction}
 use Rattle.pv_tree.specs.View.{arms_of}
 use Rattle.pv_check.specs.Statements.{all_of}
 use Rattle.pv_check.specs.Reads.{reads_in, reads_in_args, reads_in_operand, reads_in_steps, reads_in_step, reads_of_call, reads_of_stmt, reads_of_starts}
@@ -127,3 +128,24 @@ starts_read scope list = each_read (λ v. parts_of_operand scope v.0) (λ v. rea
 pub conditions_seen : {X : Type 0} (g : X → ExprTree × StmtTrees) (xs : List X) → conditions_of (arms_of (map g xs)) ≡ map (λ x. (g x).0) xs
 conditions_seen g [] = refl
 conditions_seen g (x ∷ xs) = ap (λ l. (g x).0 ∷ l) (conditions_seen g xs)
+
+-- the operands that an instruction reads, in its expressions
+optional_sites : (scope : Scope) (how : How) (o : Option CallPlain)
+    → reads_of_parts (flat_map (parts_of_call scope) (map (site how) (option_to_list o))) ≡ flat_map reads_of_call (option_to_list o)
+optional_sites scope how None = refl
+optional_sites scope how (Some call) = each_read (parts_of_call scope) (λ s. reads_of_call s.call) (λ s. call_read scope s) (site how call ∷ [])
+
+pub instr_read : (scope : Scope) (i : InstrTree) → reads_of_parts (parts_of_instruction scope i)
+    ≡ flat_map reads_in_operand (option_to_list (operand_of_instruction i)) ++ flat_map reads_of_call (option_to_list i.call)
+instr_read scope i =
+    both (flat_map (parts_of_operand scope) (option_to_list (operand_of_instruction i))) (flat_map (parts_of_call scope) (calls_of_instruction i))
+    (flat_map reads_in_operand (option_to_list (operand_of_instruction i))) (flat_map reads_of_call (option_to_list i.call))
+    (each_read (parts_of_operand scope) reads_in_operand (λ o. operand_read scope o) (option_to_list (operand_of_instruction i)))
+    (optional_sites scope (how_of i.op) i.call)
+
+pub instrs_read : (scope : Scope) (list : List InstrTree) → reads_of_parts (flat_map (parts_of_instruction scope) list)
+    ≡ flat_map (λ i. flat_map reads_in_operand (option_to_list (operand_of_instruction i)) ++ flat_map reads_of_call (option_to_list i.call)) list
+instrs_read scope list =
+    each_read (parts_of_instruction scope)
+    (λ i. flat_map reads_in_operand (option_to_list (operand_of_instruction i)) ++ flat_map reads_of_call (option_to_list i.call))
+    (λ i. instr_read scope i) list

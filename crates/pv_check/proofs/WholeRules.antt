@@ -1,7 +1,7 @@
 -- A rule on a whole project is broken in the code, in the values of data blocks or in a declaration: from the least place of each, the
 -- least of all.
-use Rattle.std.proofs.Common.{◌≡◌, inl, inr, subst, arith, List, [], Option, IsTrue}
-use Rattle.std.specs.Prelude.{◌⊎◌, Any, Contains}
+use Rattle.std.proofs.Common.{◌≡◌, inl, inr, List, Option, IsTrue}
+use Rattle.std.specs.Prelude.{◌⊎◌, Any}
 use Rattle.pv_machine.specs.declared.place.Place.{Place}
 use Rattle.pv_tree.specs.Tree.{BlockTree}
 use Rattle.pv_tree.specs.Scopes.{ProjectTree}
@@ -16,6 +16,7 @@ use Rattle.pv_tree.specs.Rules.Addresses.{HasWrongAddress, IsWrongAddress, is_wr
 use Rattle.pv_expr_rules.specs.Nearest.{IsNearest, nearer_of}
 use Rattle.pv_expr_rules.proofs.ForCallers.{nearest_same, nearest_both}
 use Rattle.pv_code_rules.specs.InCode.{code_operands, MissesIn, MisfitsIn, MisusesIn, OutsideIn, BeyondIn, AddressesIn}
+use Rattle.pv_instr_rules.specs.Sites.{IsOutsideBehind}
 use Rattle.pv_rules.specs.StartPieces.{within, parts_of_starts, InBlocks, MisfitsStart, HasOutsideStart, HasValue, BreaksInValues}
 use Rattle.pv_rules.specs.declared.starts.StartLook.{StartLook}
 use Rattle.pv_rules.specs.declared.starts.StartLook.TheVariants as value
@@ -30,20 +31,14 @@ any_either : {X : Type 0} (P Q : X → Type 0) (xs : List X) → Any (λ x. P x 
 any_either P Q xs a = elim a.4 [ inl p ↦ inl (a.0, a.1, a.2, a.3, p) | inr q ↦ inr (a.0, a.1, a.2, a.3, q) ]
 
 -- over blocks: either of two
-two_in : (X Y W : BlockTree → Place → Type 0) (blocks : List BlockTree) (a b : Option Place)
-    → ((t : BlockTree) → Contains blocks t → (at : Place) → W t at → X t at ⊎ Y t at)
-    → ((t : BlockTree) → Contains blocks t → (at : Place) → X t at ⊎ Y t at → W t at) → IsNearest (λ at. Any (λ t. X t at) blocks) a
-    → IsNearest (λ at. Any (λ t. Y t at) blocks) b → IsNearest (λ at. Any (λ t. W t at) blocks) (nearer_of a b)
-two_in X Y W blocks a b apart both first second =
-    nearest_same (λ at. Any (λ t. X t at) blocks ⊎ Any (λ t. Y t at) blocks) (λ at. Any (λ t. W t at) blocks) (nearer_of a b)
-    (λ at e. let h = either_any (λ t. X t at) (λ t. Y t at) blocks e in (h.0, h.1, h.2, h.3, both h.1 (h.0, h.2, h.3) at h.4))
-    (λ at h. any_either (λ t. X t at) (λ t. Y t at) blocks (h.0, h.1, h.2, h.3, apart h.1 (h.0, h.2, h.3) at h.4))
-    (nearest_both (λ at. Any (λ t. X t at) blocks) (λ at. Any (λ t. Y t at) blocks) a b first second)
-
 two : (X Y W : BlockTree → Place → Type 0) (blocks : List BlockTree) (a b : Option Place) → ((t : BlockTree) (at : Place) → W t at → X t at ⊎ Y t at)
     → ((t : BlockTree) (at : Place) → X t at ⊎ Y t at → W t at) → IsNearest (λ at. Any (λ t. X t at) blocks) a → IsNearest (λ at. Any (λ t. Y t at) blocks) b
     → IsNearest (λ at. Any (λ t. W t at) blocks) (nearer_of a b)
-two X Y W blocks a b apart both = two_in X Y W blocks a b (λ t in_ at. apart t at) (λ t in_ at. both t at)
+two X Y W blocks a b apart both first second =
+    nearest_same (λ at. Any (λ t. X t at) blocks ⊎ Any (λ t. Y t at) blocks) (λ at. Any (λ t. W t at) blocks) (nearer_of a b)
+    (λ at e. let h = either_any (λ t. X t at) (λ t. Y t at) blocks e in (h.0, h.1, h.2, h.3, both h.1 at h.4))
+    (λ at h. any_either (λ t. X t at) (λ t. Y t at) blocks (h.0, h.1, h.2, h.3, apart h.1 at h.4))
+    (nearest_both (λ at. Any (λ t. X t at) blocks) (λ at. Any (λ t. Y t at) blocks) a b first second)
 
 abbrev Or : (BlockTree → Place → Type 0) → (BlockTree → Place → Type 0) → BlockTree → Place → Type 0
 Or X Y t at = X t at ⊎ Y t at
@@ -183,35 +178,35 @@ module _ (project : ProjectTree) where
           inl (inr (paths_both project t (MisusesPath (within project t) at) (inr (inr (any_mapped (MisusesPath (within project t) at)
           (path_of (within project t)) (reads_of_parts (parts_of_starts (within project t) (starts_of t.body))) h)))))
 
-  -- literals, where no block is one of instructions
-  pub outside_all : ((t : BlockTree) → Contains project.blocks t → instructions_of t.body ≡ []) → (a b c d : Option Place)
+  -- literals
+  pub outside_all : (a b c d e : Option Place)
       → IsNearest (λ at. Any (OutsideIn project at) project.blocks) a → IsNearest (InBlocks HasOutsideStart project) b
       → IsNearest (InBlocks (HasValue value.Outside) project) c → IsNearest (InBlocks (BreaksInValues out_of_range) project) d
-      → IsNearest (IsOutOfRange project) (nearer_of a (nearer_of b (nearer_of c d)))
-  outside_all none a b c d code start part index =
-      two_in (λ t at. OutsideIn project at t) Rest (λ t at. IsBlockOutside project at t) project.blocks a _ apart (λ t in_ at. both t at) code
+      → IsNearest (IsOutsideBehind project) e
+      → IsNearest (IsOutOfRange project) (nearer_of a (nearer_of (nearer_of b (nearer_of c d)) e))
+  outside_all a b c d e code start part index behind =
+      two (λ t at. OutsideIn project at t) Rest (λ t at. IsBlockOutside project at t) project.blocks a _ apart both code
+      (joined (Or (λ t at. HasOutsideStart (within project t) at) (Or (Value value.Outside) (InIndex out_of_range))) Behind project.blocks _ e
       (joined (λ t at. HasOutsideStart (within project t) at) _ project.blocks b _ start
-      (joined (Value value.Outside) (InIndex out_of_range) project.blocks c d part index))
+      (joined (Value value.Outside) (InIndex out_of_range) project.blocks c d part index)) behind)
     where
+      Behind : BlockTree → Place → Type 0
+      Behind t at = Any (IsBehindOutside at) (instructions_of t.body)
+
       Rest : BlockTree → Place → Type 0
-      Rest = Or (λ t at. HasOutsideStart (within project t) at) (Or (Value value.Outside) (InIndex out_of_range))
+      Rest = Or (Or (λ t at. HasOutsideStart (within project t) at) (Or (Value value.Outside) (InIndex out_of_range))) Behind
 
-      nothing_behind : (t : BlockTree) → Contains project.blocks t → (at : Place) → Any (IsBehindOutside at) (instructions_of t.body) → ⊥
-      nothing_behind t in_ at h = of_none (subst (Any (IsBehindOutside at)) (none t in_) h)
-        where
-          of_none : Any (IsBehindOutside at) [] → ⊥
-          of_none k = let lt = k.2 in omega (arith, lt)
-
-      apart : (t : BlockTree) → Contains project.blocks t → (at : Place) → IsBlockOutside project at t → OutsideIn project at t ⊎ Rest t at
-      apart t in_ at (inl h) = elim (parts_apart project t (IsPartOutside at) h) [ inl k ↦ inl (inl k) | inr k ↦ inr (inr (inr k)) ]
-      apart t in_ at (inr (inl h)) = inr (inl h)
-      apart t in_ at (inr (inr (inl h))) = inr (inr (inl h))
-      apart t in_ at (inr (inr (inr (inl h)))) = inl (inr h)
-      apart t in_ at (inr (inr (inr (inr h)))) = absurd (nothing_behind t in_ at h)
+      apart : (t : BlockTree) (at : Place) → IsBlockOutside project at t → OutsideIn project at t ⊎ Rest t at
+      apart t at (inl h) = elim (parts_apart project t (IsPartOutside at) h) [ inl k ↦ inl (inl k) | inr k ↦ inr (inl (inr (inr k))) ]
+      apart t at (inr (inl h)) = inr (inl (inl h))
+      apart t at (inr (inr (inl h))) = inr (inl (inr (inl h)))
+      apart t at (inr (inr (inr (inl h)))) = inl (inr h)
+      apart t at (inr (inr (inr (inr h)))) = inr (inr h)
 
       both : (t : BlockTree) (at : Place) → OutsideIn project at t ⊎ Rest t at → IsBlockOutside project at t
       both t at (inl (inl h)) = inl (parts_both project t (IsPartOutside at) (inl h))
       both t at (inl (inr h)) = inr (inr (inr (inl h)))
-      both t at (inr (inl h)) = inr (inl h)
-      both t at (inr (inr (inl h))) = inr (inr (inl h))
-      both t at (inr (inr (inr h))) = inl (parts_both project t (IsPartOutside at) (inr h))
+      both t at (inr (inl (inl h))) = inr (inl h)
+      both t at (inr (inl (inr (inl h)))) = inr (inr (inl h))
+      both t at (inr (inl (inr (inr h)))) = inl (parts_both project t (IsPartOutside at) (inr h))
+      both t at (inr (inr h)) = inr (inr (inr (inr h)))

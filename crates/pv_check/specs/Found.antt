@@ -9,6 +9,7 @@ use Rattle.pv_check.specs.declared.found.Declared.{Declared}
 use Rattle.pv_check.specs.declared.found.Stated.{Stated}
 use Rattle.pv_check.specs.declared.found.Whole.{Whole}
 use Rattle.pv_check.specs.declared.found.Chained.{Chained}
+use Rattle.pv_check.specs.declared.found.Instructed.{Instructed}
 use Rattle.pv_check.specs.declared.found.Nearest.{Nearest}
 
 abbrev pub IsBreach : ProjectTree → Rule → Option Place → Type 0
@@ -41,8 +42,15 @@ pub record AreChained (project : ProjectTree) (c : Chained) : Type 0 where
   pub cycle : IsBreach project tree.cycle c.cycle
   pub deep : IsBreach project tree.too_deep c.deep
 
+pub record AreInstructed (project : ProjectTree) (i : Instructed) : Type 0 where
+  pub label : IsBreach project tree.wrong_label i.label
+  pub range : IsBreach project tree.wrong_range i.range
+  pub nesting : IsBreach project tree.wrong_nesting i.nesting
+  pub operand : IsBreach project tree.refused_operand i.operand
+
 pub record AreAll (project : ProjectTree) (n : Nearest) : Type 0 where
   pub declared : AreDeclared project n.declared
   pub stated : AreStated project n.stated
   pub whole : AreWhole project n.whole
   pub chained : AreChained project n.chained
+  pub instructed : AreInstructed project n.instructed

@@ -5,10 +5,10 @@ use Rattle.pv_machine.specs.declared.place.Place.{Place}
 use Rattle.pv_types.specs.declared.name.Name.{Name}
 use Rattle.pv_tree.specs.declared.expr.Root.{Root}
 use Rattle.pv_tree.specs.declared.expr.Root.TheVariants.{Local, Named, Area}
-use Rattle.pv_tree.specs.Tree.{OperandTree, operand, StepTrees, no_steps, steps, ArgTree, StmtTree}
+use Rattle.pv_tree.specs.Tree.{OperandTree, operand, StepTrees, no_steps, steps, ArgTree}
 use Rattle.pv_tree.specs.Scopes.{Scope}
 use Rattle.pv_tree.specs.Callees.{CallSite, param_of_arg}
-use Rattle.pv_tree.specs.Parts.{calls_of_stmt, operand_of}
+use Rattle.pv_tree.specs.Parts.{operand_of}
 use Rattle.pv_tree.specs.Rules.Callable.{is_output_where}
 
 abbrev pub same_place : Place → Place → Truth
@@ -50,9 +50,6 @@ passes_out scope o s a = is_that (operand_of a.value) o && is_output_where (para
 abbrev pub call_writes : Scope → OperandTree → CallSite → Truth
 call_writes scope o s = list_any (passes_out scope o s) s.call.args
 
-abbrev pub stmt_writes : Scope → OperandTree → StmtTree → Truth
-stmt_writes scope o s = list_any (call_writes scope o) (calls_of_stmt s)
-
--- a call of these statements writes it
-abbrev pub is_written : Scope → List StmtTree → OperandTree → Truth
-is_written scope list o = list_any (stmt_writes scope o) list
+-- one of the calls writes it
+abbrev pub is_written : Scope → List CallSite → OperandTree → Truth
+is_written scope calls o = list_any (call_writes scope o) calls

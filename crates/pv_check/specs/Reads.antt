@@ -1,7 +1,9 @@
 -- The operands that expressions and statements read, those in indexes too, whatever is wanted of the expressions.
-use Rattle.std.specs.Prelude.{List, [], ◌∷◌, ◌++◌, flat_map}
-use Rattle.pv_tree.specs.Tree.{ExprTree, lit, read, unary, binary, std, paren, ExprTrees, no_exprs, exprs, OperandTree, operand, StepTree, field, index, StepTrees, no_steps, steps, CallPlain, StmtTree, assign, assign_call, if_, case_, for_, while_, repeat_, exit_, continue_, return_, call_, empty_, StartTree}
+use Rattle.std.specs.Prelude.{List, [], ◌∷◌, ◌++◌, flat_map, option_to_list}
+use Rattle.pv_tree.specs.Tree.{ExprTree, lit, read, unary, binary, std, paren, ExprTrees, no_exprs, exprs, OperandTree, operand, StepTree, field, index, StepTrees, no_steps, steps, CallPlain, StmtTree, assign, assign_call, if_, case_, for_, while_, repeat_, exit_, continue_, return_, call_, empty_, InstrTree, StartTree}
+use Rattle.pv_tree.specs.InstructionGroups.{operand_of_instruction}
 use Rattle.pv_tree.specs.Parts.{conditions_of}
+use Rattle.pv_tree.specs.Rules.Callable.{read_operand}
 
 abbrev mutual
   pub reads_in : ExprTree → List OperandTree
@@ -48,3 +50,9 @@ reads_of_stmt (empty_ place) = []
 -- of the parts of a data block that are given values
 abbrev pub reads_of_starts : List StartTree → List OperandTree
 reads_of_starts list = flat_map (λ v. reads_in_operand v.0) list
+
+-- of an instruction: in its operand's indexes, in the arguments of its call, and the operand itself where it reads that
+abbrev pub reads_of_instruction : InstrTree → List OperandTree
+reads_of_instruction i =
+    flat_map reads_in_operand (option_to_list (operand_of_instruction i)) ++ flat_map reads_of_call (option_to_list i.call)
+    ++ option_to_list (read_operand i)

@@ -2,7 +2,6 @@
 ghost use Rattle.std.specs.Prelude.{◌≡◌};
 ghost use Rattle.pv_tree.specs.Projects.{project_tree};
 ghost use Rattle.pv_rules.specs.Answers.{AnswersProject};
-ghost use Rattle.pv_check.specs.NoInstructions.{HasNoInstructions};
 
 use crate::found::nearest_of;
 use pv_rules::{Rule, RuleFault, answered, make_found};
@@ -13,13 +12,12 @@ use std::alloc::Global;
 
 /// The project of these blocks, those of all sources in their order, and these symbols; else the first breach of a rule of the
 /// language: the least place, in an earlier source before a later one, and of the rules that are broken there the one with the
-/// least number. No block has instructions, as those of SCL sources haven't.
+/// least number.
 pub fn check(
     alloc: Global,
     blocks: Blocks,
     symbols: Vec<(Name, Operand, Ty)>,
 ) -> Result<Project, RuleFault>
-    requires { HasNoInstructions (project_tree blocks.list.items symbols.items) }
     ensures { AnswersProject (project_tree blocks.list.items symbols.items) result }
 {
     let near = nearest_of(alloc, blocks.list.as_slice(), symbols.as_slice())?;
@@ -42,6 +40,10 @@ pub fn check(
         make_found(Rule::NotCallable, near.whole.uncallable),
         make_found(Rule::WrongArgument, near.stated.argument),
         make_found(Rule::FixedOutput, near.stated.output),
+        make_found(Rule::WrongLabel, near.instructed.label),
+        make_found(Rule::WrongRange, near.instructed.range),
+        make_found(Rule::WrongNesting, near.instructed.nesting),
+        make_found(Rule::RefusedOperand, near.instructed.operand),
         make_found(Rule::WrongAddress, near.whole.address),
     ];
     answered(blocks, symbols, all.as_slice())

@@ -4,8 +4,7 @@ ghost use Rattle.pv_tree.specs.View.{block_tree};
 ghost use Rattle.pv_tree.specs.Projects.{project_tree};
 ghost use Rattle.pv_tree.specs.Scopes.{ProjectTree};
 ghost use Rattle.pv_names.specs.Tables.{project_of};
-ghost use Rattle.pv_check.specs.NoInstructions.{HasNoInstructions};
-ghost use Rattle.pv_check.specs.Found.{AreDeclared, AreStated, AreWhole, AreChained, AreAll};
+ghost use Rattle.pv_check.specs.Found.{AreDeclared, AreStated, AreWhole, AreChained, AreInstructed, AreAll};
 
 use crate::project_rules::{beyond_bounds, misfit, missing_name, out_of_range, wrong_address};
 use crate::values::not_callable;
@@ -14,6 +13,7 @@ use pv_code_rules::{
     fixed_output, fixed_target, outside_loop, wrong_argument, wrong_case, wrong_condition,
     wrong_counter, wrong_step,
 };
+use pv_instr_rules::{refused_operand_or_literal, wrong_label, wrong_nesting, wrong_range};
 use pv_machine::Place;
 use pv_names::{Tables, entries};
 use pv_rules::{doubled_name, missing_type, wrong_array};
@@ -61,6 +61,15 @@ pub(crate) struct Chained {
     pub(crate) deep: Option<Place>,
 }
 
+/// The rules on instructions alone.
+#[derive(Clone, Copy)]
+pub(crate) struct Instructed {
+    pub(crate) label: Option<Place>,
+    pub(crate) range: Option<Place>,
+    pub(crate) nesting: Option<Place>,
+    pub(crate) operand: Option<Place>,
+}
+
 /// All rules.
 #[derive(Clone, Copy)]
 pub(crate) struct Nearest {
@@ -68,6 +77,7 @@ pub(crate) struct Nearest {
     pub(crate) stated: Stated,
     pub(crate) whole: Whole,
     pub(crate) chained: Chained,
+    pub(crate) instructed: Instructed,
 }
 
 /// Those of declarations.
@@ -115,8 +125,7 @@ fn whole_near<'p>(
     tables: &'p Tables<'p>,
     blocks: &[Block],
 ) -> Result<Whole, AllocError>
-    requires same { (project_of tables.now).blocks ≡ map block_tree blocks.now }
-    requires plain { HasNoInstructions (project_of tables.now) }
+    requires { (project_of tables.now).blocks ≡ map block_tree blocks.now }
     ensures { IfOk result (λ w. AreWhole (project_of tables.now) w) }
 {
     let missing = missing_name(alloc, tables)?;
@@ -144,35 +153,51 @@ fn chains_near<'p>(alloc: Global, tables: &'p Tables<'p>) -> Result<Chained, All
     Ok(Chained { cycle, deep })
 }
 
+/// Those of instructions.
+fn instructions_near<'p>(alloc: Global, tables: &'p Tables<'p>) -> Result<Instructed, AllocError>
+    ensures { IfOk result (λ i. AreInstructed (project_of tables.now) i) }
+{
+    let label = wrong_label(alloc, tables)?;
+    let range = wrong_range(alloc, tables)?;
+    let nesting = wrong_nesting(alloc, tables)?;
+    let operand = refused_operand_or_literal(alloc, tables)?;
+    Ok(Instructed {
+        label,
+        range,
+        nesting,
+        operand,
+    })
+}
+
 /// Those of all rules, of the tables of these blocks.
 fn all_near<'p>(
     alloc: Global,
     tables: &'p Tables<'p>,
     blocks: &[Block],
 ) -> Result<Nearest, AllocError>
-    requires same { (project_of tables.now).blocks ≡ map block_tree blocks.now }
-    requires plain { HasNoInstructions (project_of tables.now) }
+    requires { (project_of tables.now).blocks ≡ map block_tree blocks.now }
     ensures { IfOk result (λ n. AreAll (project_of tables.now) n) }
 {
     let declared = declarations_near(alloc, blocks)?;
     let stated = statements_near(alloc, tables)?;
     let whole = whole_near(alloc, tables, blocks)?;
     let chained = chains_near(alloc, tables)?;
+    let instructed = instructions_near(alloc, tables)?;
     Ok(Nearest {
         declared,
         stated,
         whole,
         chained,
+        instructed,
     })
 }
 
-/// Of each rule that blocks and symbols can break the nearest place. No block has instructions.
+/// Of each rule that blocks and symbols can break the nearest place.
 pub(crate) fn nearest_of(
     alloc: Global,
     blocks: &[Block],
     symbols: &[(Name, Operand, Ty)],
 ) -> Result<Nearest, AllocError>
-    requires { HasNoInstructions (project_tree blocks.now symbols.now) }
     ensures { IfOk result (λ n. AreAll (project_tree blocks.now symbols.now) n) }
 {
     let all = entries(alloc, blocks)?;

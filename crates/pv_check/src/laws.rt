@@ -6,7 +6,7 @@ ghost use Rattle.pv_tree.specs.Lexemes.{Lexeme};
 ghost use Rattle.pv_tree.specs.Blocks.{SpellsBlocks};
 ghost use Rattle.pv_tree.specs.Parts.{instructions_of};
 
-/// A law: no block that tokens of SCL spell has instructions, so that `check` may be asked of what a source of SCL reads as.
+/// A law: no block that tokens of SCL spell has instructions.
 pub fn scl_blocks_have_no_instructions()
     ensures { (blocks : List BlockTree) (tokens : List Lexeme) → SpellsBlocks Scl blocks tokens
         → (block : BlockTree) → Contains blocks block → instructions_of block.body ≡ [] }

@@ -2,6 +2,7 @@
 #![tactic(auto)]
 
 mod checked;
+mod code;
 mod found;
 mod laws;
 mod outputs;

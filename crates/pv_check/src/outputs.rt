@@ -1,17 +1,19 @@
 //! Operands that the calls of statements write: arguments for outputs, which read no value.
-ghost use Rattle.std.specs.Prelude.{◌≡◌, ◌&&◌, map, option_map};
+ghost use Rattle.std.specs.Prelude.{◌≡◌, ◌&&◌, flat_map, map, option_map};
 ghost use Rattle.pv_code_rules.specs.AtCalls.{param_in};
 ghost use Rattle.pv_tree.specs.Parts as parts;
 ghost use Rattle.pv_tree.specs.Rules.Callable as callable;
-ghost use Rattle.pv_tree.specs.View.{arg_tree, call_tree, expr_tree, operand_tree, step_tree, steps_of, stmt_tree};
+ghost use Rattle.pv_tree.specs.View.{arg_tree, call_tree, expr_tree, operand_tree, step_tree, steps_of, instr_tree, stmt_tree};
 ghost use Rattle.pv_names.specs.Callees.{how_tree, callee_tree, param_tree};
 ghost use Rattle.pv_names.specs.InScope.{scope_of};
-ghost use Rattle.pv_check.specs.Outputs.{same_place, same_name, same_truth, same_root, ends_here, same_plain, is_that, call_writes, stmt_writes, is_written};
+ghost use Rattle.pv_check.specs.Codes.{calls_of_code};
+ghost use Rattle.pv_check.specs.Outputs.{same_place, same_name, same_truth, same_root, ends_here, same_plain, is_that, call_writes, is_written};
 
+use crate::code::Code;
 use pv_expr_rules::operand_of;
 use pv_machine::Place;
-use pv_names::{Callee, How, Param, Scope, param_for, section_of_param};
-use pv_tree::{Arg, CallTree, Expr, Operand, Root, Stmt};
+use pv_names::{Callee, How, Param, Scope, how_of, param_for, section_of_param};
+use pv_tree::{Arg, CallTree, Expr, Instr, Operand, Root, Stmt};
 use pv_types::{Name, Section};
 
 /// Whether two places are the same.
@@ -130,8 +132,8 @@ fn call_writes(scope: &Scope, how: How, call: &CallTree, operand: &Operand) -> b
 
 /// Whether the call of a statement writes that operand.
 fn stmt_writes(scope: &Scope, stmt: &Stmt, operand: &Operand) -> bool
-    ensures { result
-        ≡ stmt_writes (scope_of scope.now) (operand_tree operand.now) (stmt_tree stmt.now) }
+    ensures { result ≡ is_written (scope_of scope.now) (parts.calls_of_stmt (stmt_tree stmt.now))
+        (operand_tree operand.now) }
 {
     match stmt {
         Stmt::AssignCall { call, .. } => call_writes(scope, How::Value, call, operand),
@@ -150,9 +152,9 @@ fn stmt_writes(scope: &Scope, stmt: &Stmt, operand: &Operand) -> bool
 }
 
 /// Whether the call of one of these statements, each by itself, writes that operand.
-pub(crate) fn is_written(scope: &Scope, statements: &[&Stmt], operand: &Operand) -> bool
-    ensures { result ≡ is_written (scope_of scope.now) (map (λ s. stmt_tree s.now) statements.now)
-        (operand_tree operand.now) }
+fn statements_write(scope: &Scope, statements: &[&Stmt], operand: &Operand) -> bool
+    ensures { result ≡ is_written (scope_of scope.now) (flat_map parts.calls_of_stmt
+        (map (λ s. stmt_tree s.now) statements.now)) (operand_tree operand.now) }
 {
     for stmt in statements {
         if stmt_writes(scope, *stmt, operand) {
@@ -160,4 +162,37 @@ pub(crate) fn is_written(scope: &Scope, statements: &[&Stmt], operand: &Operand)
         }
     }
     false
+}
+
+/// Whether the call of an instruction writes that operand.
+fn instr_writes(scope: &Scope, instr: &Instr, operand: &Operand) -> bool
+    ensures { result ≡ is_written (scope_of scope.now) (parts.calls_of_instruction
+        (instr_tree instr.now)) (operand_tree operand.now) }
+{
+    match &instr.call {
+        Some(call) => call_writes(scope, how_of(instr.op), call, operand),
+        None => false,
+    }
+}
+
+/// Whether the call of one of these instructions writes that operand.
+fn instructions_write(scope: &Scope, list: &[Instr], operand: &Operand) -> bool
+    ensures { result ≡ is_written (scope_of scope.now) (flat_map parts.calls_of_instruction
+        (map instr_tree list.now)) (operand_tree operand.now) }
+{
+    for instr in list {
+        if instr_writes(scope, instr, operand) {
+            return true;
+        }
+    }
+    false
+}
+
+/// Whether a call in the code writes that operand.
+pub(crate) fn is_written(scope: &Scope, code: Code, operand: &Operand) -> bool
+    ensures { result ≡ is_written (scope_of scope.now) (calls_of_code code.entry)
+        (operand_tree operand.now) }
+{
+    statements_write(scope, code.statements, operand)
+        || instructions_write(scope, code.instructions, operand)
 }

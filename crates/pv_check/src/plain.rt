@@ -24,7 +24,7 @@ fn are_plain(blocks: &[Block]) -> bool
     blocks.iter().all(|block| is_plain(block))
 }
 
-/// Whether no block has instructions, as `check` asks.
+/// Whether no block has instructions.
 pub fn has_no_instructions(blocks: &[Block]) -> bool
     ensures { IsTrue result ↔ ArePlain (map block_tree blocks.now) }
 {

@@ -8,13 +8,13 @@ ghost use Rattle.pv_tree.specs.Rules.MissingNames.{IsMissingName};
 ghost use Rattle.pv_tree.specs.Rules.OutOfRange.{IsOutOfRange};
 ghost use Rattle.pv_names.specs.Tables.{project_of};
 ghost use Rattle.pv_expr_rules.specs.Nearest.{IsNearest};
-ghost use Rattle.pv_check.specs.NoInstructions.{HasNoInstructions};
 
 use pv_code_rules::{
     address_in_code, beyond_in_code, misfit_in_code, missing_in_code, misused_in_code,
     outside_in_code,
 };
 use pv_expr_rules::nearer_of;
+use pv_instr_rules::outside_behind;
 use pv_machine::Place;
 use pv_names::Tables;
 use pv_rules::{
@@ -69,15 +69,16 @@ pub(crate) fn out_of_range<'p>(
     alloc: Global,
     tables: &'p Tables<'p>,
 ) -> Result<Option<Place>, AllocError>
-    requires { HasNoInstructions (project_of tables.now) }
     ensures { IfOk result (IsNearest (IsOutOfRange (project_of tables.now))) }
 {
     let code = outside_in_code(alloc, tables)?;
     let start = outside_start(alloc, tables)?;
     let value = wrong_value(alloc, tables, StartLook::Outside)?;
     let index = outside_in_values(alloc, tables)?;
+    let behind = outside_behind(alloc, tables)?;
     let values = nearer_of(value, index);
-    let rest = nearer_of(start, values);
+    let starts = nearer_of(start, values);
+    let rest = nearer_of(starts, behind);
     Ok(nearer_of(code, rest))
 }
 

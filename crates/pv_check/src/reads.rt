@@ -1,19 +1,23 @@
 //! Operands that an expression or a statement reads: the nearest one that is the name of a function without a value, and that no call
 //! writes.
-ghost use Rattle.std.specs.Prelude.{◌≡◌, ◌++◌, [], map, flat_map};
+ghost use Rattle.std.specs.Prelude.{◌≡◌, ◌++◌, [], map, flat_map, option_to_list};
+ghost use Rattle.pv_tree.specs.InstructionGroups as groups;
 ghost use Rattle.pv_tree.specs.Parts.{conditions_of};
-ghost use Rattle.pv_tree.specs.View.{arg_tree, call_tree, expr_tree, exprs_of, operand_tree, step_tree, stmt_tree, start_tree};
+ghost use Rattle.pv_tree.specs.View.{arg_tree, call_tree, expr_tree, exprs_of, operand_tree, step_tree, stmt_tree, instr_tree, start_tree};
 ghost use Rattle.pv_names.specs.InScope.{scope_of};
 ghost use Rattle.pv_expr_rules.specs.NearestIn.{nearest_in};
 ghost use Rattle.pv_expr_rules.specs.Operands.{void_at};
-ghost use Rattle.pv_check.specs.Reads.{reads_in, reads_in_operand, reads_in_step, reads_of_stmt, reads_of_starts};
+ghost use Rattle.pv_check.specs.Codes.{calls_of_code};
+ghost use Rattle.pv_check.specs.Reads.{reads_in, reads_in_operand, reads_in_step, reads_of_call, reads_of_instruction, reads_of_stmt, reads_of_starts};
 ghost use Rattle.pv_check.specs.Values.{value_at};
 
+use crate::code::Code;
 use crate::outputs::is_written;
 use pv_expr_rules::nearer_of;
+use pv_instr_rules::{operand_of_instruction, read_operand};
 use pv_machine::Place;
 use pv_names::{Scope, Thing, is_void, root_place};
-use pv_tree::{Arg, Expr, Operand, Step, Stmt};
+use pv_tree::{Arg, Expr, Instr, Operand, Step, Stmt};
 use pv_types::Literal;
 
 /// The name of a function without a value that an operand is.
@@ -38,13 +42,13 @@ fn void_name(scope: &Scope, operand: &Operand) -> Option<Place>
 }
 
 /// The same, unless a call writes the operand.
-fn value_name(scope: &Scope, statements: &[&Stmt], operand: &Operand) -> Option<Place>
-    ensures { result ≡ value_at (scope_of scope.now)
-        (map (λ s. stmt_tree s.now) statements.now) (operand_tree operand.now) }
+fn value_name(scope: &Scope, code: Code, operand: &Operand) -> Option<Place>
+    ensures { result ≡ value_at (scope_of scope.now) (calls_of_code code.entry)
+        (operand_tree operand.now) }
 {
     match void_name(scope, operand) {
         Some(place) => {
-            if is_written(scope, statements, operand) {
+            if is_written(scope, code, operand) {
                 None
             } else {
                 Some(place)
@@ -56,46 +60,41 @@ fn value_name(scope: &Scope, statements: &[&Stmt], operand: &Operand) -> Option<
 
 /// The nearest one, with those of an expression.
 #[cycle(reading)]
-fn value_in(scope: &Scope, statements: &[&Stmt], e: &Expr, nearest: Option<Place>) -> Option<Place>
-    ensures { let f = value_at (scope_of scope.now) (map (λ s. stmt_tree s.now) statements.now) in
+fn value_in(scope: &Scope, code: Code, e: &Expr, nearest: Option<Place>) -> Option<Place>
+    ensures { let f = value_at (scope_of scope.now) (calls_of_code code.entry) in
         result ≡ nearest_in f (reads_in (expr_tree e.now)) nearest }
 {
     match e {
         Expr::Lit { .. } => nearest,
         Expr::Read(operand) => {
-            let so_far = nearer_of(nearest, value_name(scope, statements, operand));
-            value_in_operand(scope, statements, operand, so_far)
+            let so_far = nearer_of(nearest, value_name(scope, code, operand));
+            value_in_operand(scope, code, operand, so_far)
         }
-        Expr::Unary { arg, .. } => value_in(scope, statements, arg, nearest),
+        Expr::Unary { arg, .. } => value_in(scope, code, arg, nearest),
         Expr::Binary { left, right, .. } => {
-            let so_far = value_in(scope, statements, left, nearest);
-            value_in(scope, statements, right, so_far)
+            let so_far = value_in(scope, code, left, nearest);
+            value_in(scope, code, right, so_far)
         }
         Expr::Std { args, .. } => {
             let mut best = nearest;
             for arg in args {
-                best = value_in(scope, statements, arg, best);
+                best = value_in(scope, code, arg, best);
             }
             best
         }
-        Expr::Paren(_, inner) => value_in(scope, statements, inner, nearest),
+        Expr::Paren(_, inner) => value_in(scope, code, inner, nearest),
     }
 }
 
 /// The nearest one, with those of a step's index.
 #[cycle(reading)]
-fn value_in_step(
-    scope: &Scope,
-    statements: &[&Stmt],
-    step: &Step,
-    nearest: Option<Place>,
-) -> Option<Place>
-    ensures { let f = value_at (scope_of scope.now) (map (λ s. stmt_tree s.now) statements.now) in
+fn value_in_step(scope: &Scope, code: Code, step: &Step, nearest: Option<Place>) -> Option<Place>
+    ensures { let f = value_at (scope_of scope.now) (calls_of_code code.entry) in
         result ≡ nearest_in f (reads_in_step (step_tree step.now)) nearest }
 {
     match step {
         Step::Field(..) => nearest,
-        Step::Index(e, _) => value_in(scope, statements, e, nearest),
+        Step::Index(e, _) => value_in(scope, code, e, nearest),
     }
 }
 
@@ -103,33 +102,28 @@ fn value_in_step(
 #[cycle(reading)]
 fn value_in_operand(
     scope: &Scope,
-    statements: &[&Stmt],
+    code: Code,
     operand: &Operand,
     nearest: Option<Place>,
 ) -> Option<Place>
-    ensures { let f = value_at (scope_of scope.now) (map (λ s. stmt_tree s.now) statements.now) in
+    ensures { let f = value_at (scope_of scope.now) (calls_of_code code.entry) in
         result ≡ nearest_in f (reads_in_operand (operand_tree operand.now)) nearest }
 {
     let mut best = nearest;
     for step in &operand.steps {
-        best = value_in_step(scope, statements, step, best);
+        best = value_in_step(scope, code, step, best);
     }
     best
 }
 
 /// The nearest one, with those of arguments.
-fn value_in_args(
-    scope: &Scope,
-    statements: &[&Stmt],
-    args: &[Arg],
-    nearest: Option<Place>,
-) -> Option<Place>
-    ensures { let f = value_at (scope_of scope.now) (map (λ s. stmt_tree s.now) statements.now) in
+fn value_in_args(scope: &Scope, code: Code, args: &[Arg], nearest: Option<Place>) -> Option<Place>
+    ensures { let f = value_at (scope_of scope.now) (calls_of_code code.entry) in
         result ≡ nearest_in f (flat_map (λ a. reads_in a.value) (map arg_tree args.now)) nearest }
 {
     let mut best = nearest;
     for arg in args {
-        best = value_in(scope, statements, &arg.value, best);
+        best = value_in(scope, code, &arg.value, best);
     }
     best
 }
@@ -137,16 +131,16 @@ fn value_in_args(
 /// The nearest one, with those of the conditions of an IF.
 fn value_in_conditions(
     scope: &Scope,
-    statements: &[&Stmt],
+    code: Code,
     arms: &[(Expr, Vec<Stmt>)],
     nearest: Option<Place>,
 ) -> Option<Place>
-    ensures { let f = value_at (scope_of scope.now) (map (λ s. stmt_tree s.now) statements.now) in
+    ensures { let f = value_at (scope_of scope.now) (calls_of_code code.entry) in
         result ≡ nearest_in f (flat_map reads_in (map (λ a. expr_tree a.0) arms.now)) nearest }
 {
     let mut best = nearest;
     for arm in arms {
-        best = value_in(scope, statements, &arm.0, best);
+        best = value_in(scope, code, &arm.0, best);
     }
     best
 }
@@ -154,78 +148,125 @@ fn value_in_conditions(
 /// The nearest one, with those of a target and the value that it takes.
 fn value_in_assignment(
     scope: &Scope,
-    statements: &[&Stmt],
+    code: Code,
     target: &Operand,
     value: &Expr,
     nearest: Option<Place>,
 ) -> Option<Place>
-    ensures { let f = value_at (scope_of scope.now) (map (λ s. stmt_tree s.now) statements.now) in
+    ensures { let f = value_at (scope_of scope.now) (calls_of_code code.entry) in
         result ≡ nearest_in f (reads_in_operand (operand_tree target.now)
         ++ reads_in (expr_tree value.now)) nearest }
 {
-    let so_far = value_in_operand(scope, statements, target, nearest);
-    value_in(scope, statements, value, so_far)
+    let so_far = value_in_operand(scope, code, target, nearest);
+    value_in(scope, code, value, so_far)
 }
 
 /// The nearest one, with those of a target and the call whose value it takes.
 fn value_in_assigned(
     scope: &Scope,
-    statements: &[&Stmt],
+    code: Code,
     target: &Operand,
     args: &[Arg],
     nearest: Option<Place>,
 ) -> Option<Place>
-    ensures { let f = value_at (scope_of scope.now) (map (λ s. stmt_tree s.now) statements.now) in
+    ensures { let f = value_at (scope_of scope.now) (calls_of_code code.entry) in
         result ≡ nearest_in f (reads_in_operand (operand_tree target.now)
         ++ flat_map (λ a. reads_in a.value) (map arg_tree args.now)) nearest }
 {
-    let so_far = value_in_operand(scope, statements, target, nearest);
-    value_in_args(scope, statements, args, so_far)
+    let so_far = value_in_operand(scope, code, target, nearest);
+    value_in_args(scope, code, args, so_far)
 }
 
 /// The nearest one, with those of two expressions.
 fn value_in_bounds(
     scope: &Scope,
-    statements: &[&Stmt],
+    code: Code,
     first: &Expr,
     last: &Expr,
     nearest: Option<Place>,
 ) -> Option<Place>
-    ensures { let f = value_at (scope_of scope.now) (map (λ s. stmt_tree s.now) statements.now) in
+    ensures { let f = value_at (scope_of scope.now) (calls_of_code code.entry) in
         result ≡ nearest_in f (reads_in (expr_tree first.now)
         ++ reads_in (expr_tree last.now)) nearest }
 {
-    let so_far = value_in(scope, statements, first, nearest);
-    value_in(scope, statements, last, so_far)
+    let so_far = value_in(scope, code, first, nearest);
+    value_in(scope, code, last, so_far)
 }
 
 /// The nearest one, with those of a statement by itself.
 pub(crate) fn value_in_stmt(
     scope: &Scope,
-    statements: &[&Stmt],
+    code: Code,
     stmt: &Stmt,
     nearest: Option<Place>,
 ) -> Option<Place>
-    ensures { let f = value_at (scope_of scope.now) (map (λ s. stmt_tree s.now) statements.now) in
+    ensures { let f = value_at (scope_of scope.now) (calls_of_code code.entry) in
         result ≡ nearest_in f (reads_of_stmt (stmt_tree stmt.now)) nearest }
 {
     match stmt {
         Stmt::Assign { target, value, .. } => {
-            value_in_assignment(scope, statements, target, value, nearest)
+            value_in_assignment(scope, code, target, value, nearest)
         }
         Stmt::AssignCall { target, call, .. } => {
-            value_in_assigned(scope, statements, target, call.args.as_slice(), nearest)
+            value_in_assigned(scope, code, target, call.args.as_slice(), nearest)
         }
-        Stmt::If { arms, .. } => value_in_conditions(scope, statements, arms.as_slice(), nearest),
-        Stmt::Case { selector, .. } => value_in(scope, statements, selector, nearest),
-        Stmt::For { first, last, .. } => value_in_bounds(scope, statements, first, last, nearest),
-        Stmt::While { cond, .. } => value_in(scope, statements, cond, nearest),
-        Stmt::Repeat { cond, .. } => value_in(scope, statements, cond, nearest),
-        Stmt::Call(call) => value_in_args(scope, statements, call.args.as_slice(), nearest),
+        Stmt::If { arms, .. } => value_in_conditions(scope, code, arms.as_slice(), nearest),
+        Stmt::Case { selector, .. } => value_in(scope, code, selector, nearest),
+        Stmt::For { first, last, .. } => value_in_bounds(scope, code, first, last, nearest),
+        Stmt::While { cond, .. } => value_in(scope, code, cond, nearest),
+        Stmt::Repeat { cond, .. } => value_in(scope, code, cond, nearest),
+        Stmt::Call(call) => value_in_args(scope, code, call.args.as_slice(), nearest),
         Stmt::Exit(_) => nearest,
         Stmt::Continue(_) => nearest,
         Stmt::Return(_) => nearest,
         Stmt::Empty(_) => nearest,
+    }
+}
+
+/// The nearest one, with those in an instruction's operand.
+fn value_in_named(scope: &Scope, code: Code, instr: &Instr, nearest: Option<Place>) -> Option<Place>
+    ensures { let f = value_at (scope_of scope.now) (calls_of_code code.entry) in
+        result ≡ nearest_in f (flat_map reads_in_operand (option_to_list
+        (groups.operand_of_instruction (instr_tree instr.now)))) nearest }
+{
+    match operand_of_instruction(instr) {
+        Some(operand) => value_in_operand(scope, code, operand, nearest),
+        None => nearest,
+    }
+}
+
+/// The nearest one, with those in the arguments of an instruction's call.
+fn value_in_called(
+    scope: &Scope,
+    code: Code,
+    instr: &Instr,
+    nearest: Option<Place>,
+) -> Option<Place>
+    ensures { let f = value_at (scope_of scope.now) (calls_of_code code.entry) in
+        result ≡ nearest_in f (flat_map reads_of_call (option_to_list
+        (instr_tree instr.now).call)) nearest }
+{
+    match &instr.call {
+        Some(call) => value_in_args(scope, code, call.args.as_slice(), nearest),
+        None => nearest,
+    }
+}
+
+/// The nearest one, with those of an instruction.
+pub(crate) fn value_in_instr(
+    scope: &Scope,
+    code: Code,
+    instr: &Instr,
+    nearest: Option<Place>,
+) -> Option<Place>
+    ensures { let f = value_at (scope_of scope.now) (calls_of_code code.entry) in
+        result ≡ nearest_in f (reads_of_instruction (instr_tree instr.now)) nearest }
+{
+    let named = value_in_named(scope, code, instr, nearest);
+    let called = value_in_called(scope, code, instr, named);
+    match read_operand(instr) {
+        Some(operand) => nearer_of(called, value_name(scope, code, operand)),
+        None => called,
     }
 }
 
@@ -238,9 +279,13 @@ pub(crate) fn value_in_starts(
     ensures { let f = value_at (scope_of scope.now) [] in
         result ≡ nearest_in f (reads_of_starts (map start_tree starts.now)) nearest }
 {
+    let none = Code {
+        statements: &[],
+        instructions: &[],
+    };
     let mut best = nearest;
     for start in starts {
-        best = value_in_operand(scope, &[], &start.0, best);
+        best = value_in_operand(scope, none, &start.0, best);
     }
     best
 }

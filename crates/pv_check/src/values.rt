@@ -1,23 +1,24 @@
 //! Names that can't be called, and the value of a function that has none, read: the least place in a project.
-ghost use Rattle.std.specs.Prelude.{◌≡◌, IfOk, map};
-ghost use Rattle.pv_tree.specs.Parts.{calls_of_stmt, site};
+ghost use Rattle.std.specs.Prelude.{◌≡◌, IfOk, flat_map, map};
+ghost use Rattle.pv_tree.specs.Parts.{calls_of_instruction, calls_of_stmt, site};
 ghost use Rattle.pv_tree.specs.Rules.Callable.{IsNotCallable};
-ghost use Rattle.pv_tree.specs.View.{body_tree, call_tree, stmt_tree, stmt_trees};
+ghost use Rattle.pv_tree.specs.View.{body_tree, call_tree, instr_tree, stmt_tree, stmt_trees};
 ghost use Rattle.pv_names.specs.Callees.{how_tree, callee_tree};
 ghost use Rattle.pv_names.specs.InScope.{scope_of};
 ghost use Rattle.pv_names.specs.Tables.{project_of};
 ghost use Rattle.pv_expr_rules.specs.Nearest.{IsNearest};
 ghost use Rattle.pv_expr_rules.specs.NearestIn.{nearest_in};
-ghost use Rattle.pv_check.specs.NoInstructions.{HasNoInstructions};
+ghost use Rattle.pv_check.specs.Reads.{reads_of_instruction, reads_of_stmt};
 ghost use Rattle.pv_check.specs.Statements.{all_of};
-ghost use Rattle.pv_check.specs.Values.{refused_at, call_at, calls_in, values_in, body_place, project_place};
+ghost use Rattle.pv_check.specs.Values.{refused_at, call_at, calls_in, values_in, both_in, body_place, project_place};
 
-use crate::reads::{value_in_starts, value_in_stmt};
+use crate::code::Code;
+use crate::reads::{value_in_instr, value_in_starts, value_in_stmt};
 use crate::statements::statements_of;
 use pv_expr_rules::nearer_of;
 use pv_machine::Place;
-use pv_names::{Callee, How, Scope, Tables};
-use pv_tree::{Body, CallTree, Stmt};
+use pv_names::{Callee, How, Scope, Tables, how_of};
+use pv_tree::{Body, CallTree, Instr, Stmt};
 use std::alloc::{AllocError, Global};
 
 /// The name that can't be called.
@@ -62,8 +63,8 @@ fn call_in_stmt(scope: &Scope, stmt: &Stmt, nearest: Option<Place>) -> Option<Pl
 
 /// The same, with those of the calls of statements.
 fn call_in_all(scope: &Scope, statements: &[&Stmt], nearest: Option<Place>) -> Option<Place>
-    ensures { result ≡ calls_in (scope_of scope.now)
-        (map (λ s. stmt_tree s.now) statements.now) nearest }
+    ensures { result ≡ calls_in (scope_of scope.now) (flat_map calls_of_stmt
+        (map (λ s. stmt_tree s.now) statements.now)) nearest }
 {
     let mut best = nearest;
     for stmt in statements {
@@ -74,12 +75,16 @@ fn call_in_all(scope: &Scope, statements: &[&Stmt], nearest: Option<Place>) -> O
 
 /// The nearest read of a value that isn't there, with those of statements.
 fn value_in_all(scope: &Scope, statements: &[&Stmt], nearest: Option<Place>) -> Option<Place>
-    ensures { result ≡ values_in (scope_of scope.now)
-        (map (λ s. stmt_tree s.now) statements.now) nearest }
+    ensures { let list = map (λ s. stmt_tree s.now) statements.now in result ≡ values_in
+        (scope_of scope.now) (flat_map calls_of_stmt list) (flat_map reads_of_stmt list) nearest }
 {
+    let code = Code {
+        statements,
+        instructions: &[],
+    };
     let mut best = nearest;
     for stmt in statements {
-        best = value_in_stmt(scope, statements, *stmt, best);
+        best = value_in_stmt(scope, code, *stmt, best);
     }
     best
 }
@@ -91,13 +96,60 @@ fn place_in_list(
     list: &[Stmt],
     nearest: Option<Place>,
 ) -> Result<Option<Place>, AllocError>
-    ensures { let scope = scope_of scope.now in IfOk result (λ o. o
-        ≡ values_in scope (all_of (stmt_trees list.now))
-        (calls_in scope (all_of (stmt_trees list.now)) nearest)) }
+    ensures { let list = all_of (stmt_trees list.now) in IfOk result (λ o. o ≡ both_in
+        (scope_of scope.now) (flat_map calls_of_stmt list) (flat_map reads_of_stmt list) nearest) }
 {
     let statements = statements_of(alloc, list)?;
     let called = call_in_all(scope, statements.as_slice(), nearest);
     Ok(value_in_all(scope, statements.as_slice(), called))
+}
+
+/// The nearest name that can't be called, with that of an instruction's call.
+fn call_in_instr(scope: &Scope, instr: &Instr, nearest: Option<Place>) -> Option<Place>
+    ensures { result ≡ nearest_in (call_at (scope_of scope.now))
+        (calls_of_instruction (instr_tree instr.now)) nearest }
+{
+    match &instr.call {
+        Some(call) => nearer_of(nearest, call_place(scope, how_of(instr.op), call)),
+        None => nearest,
+    }
+}
+
+/// The same, with those of the calls of instructions.
+fn call_in_instrs(scope: &Scope, list: &[Instr], nearest: Option<Place>) -> Option<Place>
+    ensures { result ≡ calls_in (scope_of scope.now) (flat_map calls_of_instruction
+        (map instr_tree list.now)) nearest }
+{
+    let mut best = nearest;
+    for instr in list {
+        best = call_in_instr(scope, instr, best);
+    }
+    best
+}
+
+/// The nearest read of a value that isn't there, with those of instructions.
+fn value_in_instrs(scope: &Scope, list: &[Instr], nearest: Option<Place>) -> Option<Place>
+    ensures { let all = map instr_tree list.now in result ≡ values_in (scope_of scope.now)
+        (flat_map calls_of_instruction all) (flat_map reads_of_instruction all) nearest }
+{
+    let code = Code {
+        statements: &[],
+        instructions: list,
+    };
+    let mut best = nearest;
+    for instr in list {
+        best = value_in_instr(scope, code, instr, best);
+    }
+    best
+}
+
+/// The nearest of both, with those of instructions.
+fn place_in_instrs(scope: &Scope, list: &[Instr], nearest: Option<Place>) -> Option<Place>
+    ensures { let all = map instr_tree list.now in result ≡ both_in (scope_of scope.now)
+        (flat_map calls_of_instruction all) (flat_map reads_of_instruction all) nearest }
+{
+    let called = call_in_instrs(scope, list, nearest);
+    value_in_instrs(scope, list, called)
 }
 
 /// The nearest of both, with those of a body.
@@ -111,18 +163,16 @@ fn place_in_body(
 {
     match body {
         Body::Scl(list) => place_in_list(scope, alloc, list.as_slice(), nearest),
-        Body::Stl(_) => Ok(nearest),
+        Body::Stl(list) => Ok(place_in_instrs(scope, list.as_slice(), nearest)),
         Body::Starts(list) => Ok(value_in_starts(scope, list.as_slice(), nearest)),
     }
 }
 
-/// The least place of a name that can't be called, or of the value of a function that has none, where it is read. No block has
-/// instructions.
+/// The least place of a name that can't be called, or of the value of a function that has none, where it is read.
 pub(crate) fn not_callable<'p>(
     alloc: Global,
     tables: &'p Tables<'p>,
 ) -> Result<Option<Place>, AllocError>
-    requires { HasNoInstructions (project_of tables.now) }
     ensures { IfOk result (IsNearest (IsNotCallable (project_of tables.now))) }
 {
     let mut best = None;

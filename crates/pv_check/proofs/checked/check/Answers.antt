@@ -4,15 +4,9 @@ use Rattle.pv_tree.specs.Projects.{project_tree}
 use Rattle.pv_tree.specs.Rules.{Breaks}
 use Rattle.pv_rules.specs.Least.{AreNear, HasRule}
 use Rattle.pv_check.specs.Found.{AreAll}
-use Rattle.pv_check.specs.NoInstructions.{HasNoInstructions}
 use Rattle.pv_check.proofs.AllRules.{all_found, are_near, has_rule}
 use Rattle.pv_check.proofs.Making.{moved}
 use Rattle.pv_check.proofs.checked.check.Goals as goal
-
-pub nearest_of-requires : goal.nearest_of-requires
-nearest_of-requires c =
-    moved HasNoInstructions c.args.blocks.list.items c.as_slice.result.now c.args.symbols.items c.as_slice-2.result.now
-    (sym c.as_slice.ensures.value) (sym c.as_slice-2.ensures.value) c.requires
 
 pub answered-requires-clause-near : goal.answered-requires-clause-near
 answered-requires-clause-near c =
@@ -28,4 +22,4 @@ answered-requires-clause-each c =
     let project = project_tree c.args.blocks.list.items c.args.symbols.items in
     let n = c.in_ok-near.near in
     let list : c.as_slice-3.result.now ≡ all_found n = first_of (search rules, grind (arith, common_steps)) in
-    λ rule at b. subst (HasRule rule) (sym list) (has_rule project c.requires n rule at b)
+    λ rule at b. subst (HasRule rule) (sym list) (has_rule project n rule at b)

@@ -1,20 +1,15 @@
-use Rattle.std.proofs.Common.{ap, sym, subst, ◌∙◌, map, IfOk}
+use Rattle.std.proofs.Common.{ap, subst, ◌∙◌, map, IfOk}
 use Rattle.pv_tree.specs.Projects.{symbol_tree}
 use Rattle.pv_tree.specs.View.{block_tree}
 use Rattle.pv_names.specs.Entries.{block_of}
 use Rattle.pv_names.specs.Tables.{project_of}
-use Rattle.pv_check.specs.NoInstructions.{ArePlain}
 use Rattle.pv_check.specs.Found.{AreAll}
 use Rattle.pv_check.proofs.Making.{made}
 use Rattle.pv_check.proofs.found.nearest_of.Goals as goal
 
-pub all_near-requires-clause-same : goal.all_near-requires-clause-same
-all_near-requires-clause-same c =
+pub all_near-requires : goal.all_near-requires
+all_near-requires c =
     c.in_ok-tables.ensures.blocks ∙ ap (map block_of) c.as_slice.ensures.value ∙ c.in_ok-all.ensures
-
-pub all_near-requires-clause-plain : goal.all_near-requires-clause-plain
-all_near-requires-clause-plain c =
-    subst ArePlain (sym (c.in_ok-tables.ensures.blocks ∙ ap (map block_of) c.as_slice.ensures.value ∙ c.in_ok-all.ensures)) c.requires
 
 pub returns : goal.returns
 returns c =

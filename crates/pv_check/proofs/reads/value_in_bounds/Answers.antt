@@ -1,6 +1,6 @@
-use Rattle.std.proofs.Common.{map}
-use Rattle.pv_tree.specs.View.{expr_tree, stmt_tree}
+use Rattle.pv_tree.specs.View.{expr_tree}
 use Rattle.pv_names.specs.InScope.{scope_of}
+use Rattle.pv_check.specs.Codes.{calls_of_code}
 use Rattle.pv_check.specs.Reads.{reads_in}
 use Rattle.pv_check.specs.Values.{value_at}
 use Rattle.pv_check.proofs.Walks.{near_two}
@@ -8,6 +8,6 @@ use Rattle.pv_check.proofs.reads.value_in_bounds.Goals as goal
 
 pub returns : goal.returns
 returns c =
-    let f = value_at (scope_of c.args.scope.now) (map (λ s. stmt_tree s.now) c.args.statements.now) in
+    let f = value_at (scope_of c.args.scope.now) (calls_of_code c.args.code) in
     near_two f (reads_in (expr_tree c.args.first.now)) (reads_in (expr_tree c.args.last.now)) c.args.nearest c.value_in-so_far.result c.value_in.result
     c.value_in-so_far.ensures c.value_in.ensures

@@ -4,6 +4,7 @@ use Rattle.pv_tree.specs.View.{expr_tree, stmt_tree, stmts_of}
 use Rattle.pv_names.specs.InScope.{scope_of}
 use Rattle.pv_names.proofs.ForCallers.{stmt-if}
 use Rattle.pv_expr_rules.specs.NearestIn.{nearest_in}
+use Rattle.pv_check.specs.Codes.{calls_of_code}
 use Rattle.pv_check.specs.Reads.{reads_in, reads_of_stmt}
 use Rattle.pv_check.specs.Values.{value_at}
 use Rattle.pv_check.proofs.ReadLaws.{conditions_seen}
@@ -11,7 +12,7 @@ use Rattle.pv_check.proofs.reads.value_in_stmt.Goals as goal
 
 pub returns-in-If : goal.returns-in-If
 returns-in-If c =
-    let f = value_at (scope_of c.args.scope.now) (map (λ s. stmt_tree s.now) c.args.statements.now) in
+    let f = value_at (scope_of c.args.scope.now) (calls_of_code c.args.code) in
     c.value_in_conditions.ensures
     ∙ ap (λ l. nearest_in f (flat_map reads_in (map (λ a. expr_tree a.0) l)) c.args.nearest) c.as_slice-in-If.ensures.value
     ∙ ap (λ l. nearest_in f (flat_map reads_in l) c.args.nearest)

@@ -17,6 +17,6 @@ loop-entry-preserved c =
 pub returns : goal.returns
 returns c =
     let project = project_of c.args.tables.now in
-    callable_nearest project c.requires c.loop-entry.best
+    callable_nearest project c.loop-entry.best
     (none_left (block_place project) block_of c.entries-entry-items.result.now c.loop-entry.entry-index c.loop-entry.best _ c.loop-entry-test.false
     c.loop-entry.invariant)

@@ -1,0 +1,11 @@
+pub mod HeldRanges
+pub mod JumpLaws
+pub mod LabelLaws
+pub mod Meetings
+pub mod NestingLaws
+pub mod OperandLaws
+pub mod ProjectLaws
+pub mod RangeLaws
+pub mod RangeNumbers
+pub mod Somes
+pub mod StackLaws
