@@ -116,6 +116,7 @@ pub(crate) fn context_in<'p>(context: &Context<'p>, entry: &'p Entry<'p>) -> Con
         data_first: context.data_first,
         bytes_first: context.bytes_first,
         bytes: context.bytes,
+        firsts: None,
     }
 }
 

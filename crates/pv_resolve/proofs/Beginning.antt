@@ -1,7 +1,6 @@
 -- Where names begin, by what the code finds.
 use Rattle.std.proofs.Common.{◌≡◌, ℕ, ◌+◌, ◌<◌, List, Option, Some, None, option_map, refl, ap, ◌∙◌, arith}
 use Rattle.std.proofs.lemmas.Option.{same_Some}
-use Rattle.std.proofs.Math.Path.{fun_ext}
 use Rattle.std.specs.Prelude.{Bool as Truth}
 use Rattle.pv_types.specs.declared.declaration.Section.{Section}
 use Rattle.pv_types.specs.Tree.{TypeTree, VarTree}
@@ -10,7 +9,6 @@ use Rattle.pv_mean.specs.declared.count.TheConstants.{BEYOND}
 use Rattle.pv_mean.specs.Counts.{capped}
 use Rattle.pv_mean.specs.LaidOut.{capped_laid}
 use Rattle.pv_mean.specs.Layout as layout
-use Rattle.pv_mean.specs.Activations.{brief_where}
 use Rattle.pv_resolve.specs.Begins.{further}
 use Rattle.pv_resolve.proofs.Laying.{laid-shifted}
 
@@ -35,14 +33,6 @@ pub found_exact : (o : Option layout.Laid) (seen x : layout.Laid) → Some seen 
     → ((l : layout.Laid) → seen ≡ capped_laid l → x ≡ l) → Some x ≡ o
 found_exact None seen x e h = cc
 found_exact (Some l) seen x e h = ap (λ y. let o : Option layout.Laid = Some y in o) (h l (same_Some seen (capped_laid l) e))
-
--- ---- among the cells of an activation, or of an instance from its first cell on
-
-pub brief_found : (project : ProjectTree) (test other : Section → Truth) (vars : List VarTree) (key : List ℕ) (o : Option layout.Laid)
-    → ((s : Section) → test s ≡ other s) → o ≡ layout.laid_among project test vars key 0
-    → brief_where o ≡ brief_where (layout.laid_among project other vars key 0)
-brief_found project test other vars key o same e =
-    ap brief_where (e ∙ ap (λ t. layout.laid_among project t vars key 0) (fun_ext same))
 
 -- from the first cell on, as from 0 on
 pub laid_from : (project : ProjectTree) (test : Section → Truth) (vars : List VarTree) (key : List ℕ) (first : ℕ) → layout.laid_among project test vars key first ≡ option_map (further first) (layout.laid_among project test vars key 0)

@@ -1,5 +1,6 @@
 mod Laying
 mod Beginning
+mod Tabling
 mod Starting
 mod Seen
 mod Naming

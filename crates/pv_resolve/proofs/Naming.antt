@@ -2,6 +2,7 @@
 use Rattle.std.proofs.Common.{◌≡◌, ℕ, ◌+◌, ◌<◌, ℤ, List, map, Option, Some, None, option_map, true, false, refl, sym, ap, ◌∙◌}
 use Rattle.std.specs.Prelude.{Bool as Truth, if◌then◌else◌}
 use Rattle.std.proofs.lemmas.Bool.{true≢false}
+use Rattle.std.proofs.Math.Path.{fun_ext}
 use Rattle.pv_word.specs.declared.types.Ty.{Ty}
 use Rattle.pv_machine.specs.declared.place.Place.{Place}
 use Rattle.pv_types.specs.declared.name.Name.{Name}
@@ -24,6 +25,7 @@ use Rattle.pv_names.specs.Tables.{blocks_of, symbols_of, project_of}
 use Rattle.pv_mean.specs.declared.count.TheConstants.{BEYOND}
 use Rattle.pv_mean.specs.Counts.{capped}
 use Rattle.pv_mean.specs.Layout as layout
+use Rattle.pv_mean.specs.LaidOut.{capped_laid}
 use Rattle.pv_mean.specs.AreaBytes.{place_of_byte}
 use Rattle.pv_mean.specs.Sources.{Source, data_block_first, byte_number}
 use Rattle.pv_mean.specs.Sized.{sized_project}
@@ -36,7 +38,7 @@ use Rattle.pv_resolve.specs.declared.begin.Where.TheVariants.{Own, Visible, Brie
 use Rattle.pv_resolve.specs.Contexts.{IsContext, bytes_tree, block_in, address_spot_at, area_spot}
 use Rattle.pv_resolve.specs.Begins.{further, begins_in, begins_found, cells_begin, undeclared_begins, type_held}
 use Rattle.pv_resolve.proofs.Seen.{operand_seen}
-use Rattle.pv_resolve.proofs.Beginning.{exact_number, brief_found, laid_from}
+use Rattle.pv_resolve.proofs.Beginning.{exact_number, laid_from}
 
 -- ---- the numbers of area bytes
 
@@ -112,38 +114,43 @@ brief_test : (c : Context) (seen : BlockTree) (section : Section) (has : Truth) 
 brief_test c seen section has same e = e ∙ ap (λ b. layout.is_brief_in b section) same
 
 pub brief_cells : (c : Context) (source : Source) (first : ℕ) (key : List ℕ) (section : Section) (seen : BlockTree) (has : Truth) (b : Begins)
-    → IsContext c source → seen ≡ block_in c → has ≡ layout.is_brief_in seen section → has ≡ true
-    → b ≡ brief_where (layout.laid_among (sized_project c.sizes.now) (layout.is_brief_in (block_in c)) (block_in c).vars key 0)
+    → seen ≡ block_in c → has ≡ layout.is_brief_in seen section → has ≡ true
+    → b ≡ brief_where (layout.laid_among source.project (layout.is_brief_in (block_in c)) (block_in c).vars key 0)
     → b ≡ cells_begin source (activation (block_in c) first) key section
-brief_cells c source first key section seen has b is same test held e =
-    chosen (layout.is_brief_in (block_in c) section) _ _ b (sym held ∙ brief_test c seen section has same test)
-    (e ∙ ap (λ p. brief_where (layout.laid_among p (layout.is_brief_in (block_in c)) (block_in c).vars key 0)) is.sizes)
+brief_cells c source first key section seen has b same test held e =
+    chosen (layout.is_brief_in (block_in c) section) _ _ b (sym held ∙ brief_test c seen section has same test) e
 
 pub own_cells : (c : Context) (source : Source) (first : ℕ) (key : List ℕ) (section : Section) (seen : BlockTree) (has : Truth) (b : Begins)
-    → IsContext c source → seen ≡ block_in c → has ≡ layout.is_brief_in seen section → has ≡ false
-    → b ≡ visible_where (layout.laid_among (sized_project c.sizes.now) is_of_instance (block_in c).vars key first)
+    → seen ≡ block_in c → has ≡ layout.is_brief_in seen section → has ≡ false
+    → b ≡ visible_where (layout.laid_among source.project is_of_instance (block_in c).vars key first)
     → b ≡ cells_begin source (activation (block_in c) first) key section
-own_cells c source first key section seen has b is same test missing e =
-    passed_by (layout.is_brief_in (block_in c) section) _ _ b (sym missing ∙ brief_test c seen section has same test)
-    (e ∙ ap (λ p. visible_where (layout.laid_among p is_of_instance (block_in c).vars key first)) is.sizes)
+own_cells c source first key section seen has b same test missing e =
+    passed_by (layout.is_brief_in (block_in c) section) _ _ b (sym missing ∙ brief_test c seen section has same test) e
 
 -- the brief variable of a name, by the tree of the code's block
 pub brief_part : (project : ProjectTree) (test : Section → Truth) (b seen : BlockTree) (vars : List VarTree) (key : List ℕ)
     (o : Option layout.Laid) → seen ≡ b → vars ≡ seen.vars → ((s : Section) → test s ≡ layout.is_brief_in seen s)
-    → o ≡ layout.laid_among project test vars key 0 → brief_where o ≡ brief_where (layout.laid_among project (layout.is_brief_in b) b.vars key 0)
+    → o ≡ option_map capped_laid (layout.laid_among project test vars key 0)
+    → o ≡ option_map capped_laid (layout.laid_among project (layout.is_brief_in b) b.vars key 0)
 brief_part project test b seen vars key o same_block same_vars same e =
-    brief_found project test (layout.is_brief_in seen) vars key o same e
-    ∙ ap (λ vs. brief_where (layout.laid_among project (layout.is_brief_in seen) vs key 0)) same_vars
-    ∙ ap (λ (x : BlockTree). brief_where (layout.laid_among project (layout.is_brief_in x) x.vars key 0)) same_block
+    e ∙ ap (λ t. option_map capped_laid (layout.laid_among project t vars key 0)) (fun_ext same)
+    ∙ ap (λ vs. option_map capped_laid (layout.laid_among project (layout.is_brief_in seen) vs key 0)) same_vars
+    ∙ ap (λ (x : BlockTree). option_map capped_laid (layout.laid_among project (layout.is_brief_in x) x.vars key 0)) same_block
 
-pub own_part : (project : ProjectTree) (b seen : BlockTree) (vars : List VarTree) (key : List ℕ) (first : ℕ) (o : Option layout.Laid)
-    → seen ≡ b → vars ≡ seen.vars → o ≡ layout.laid_among project is_of_instance vars key 0
-    → visible_where (option_map (further first) o) ≡ visible_where (layout.laid_among project is_of_instance b.vars key first)
-own_part project b seen vars key first o same_block same_vars e =
-    ap (λ x. visible_where (option_map (further first) x)) e
-    ∙ ap visible_where (sym (laid_from project is_of_instance vars key first))
-    ∙ ap (λ vs. visible_where (layout.laid_among project is_of_instance vs key first)) same_vars
-    ∙ ap (λ (x : BlockTree). visible_where (layout.laid_among project is_of_instance x.vars key first)) same_block
+-- that of the instance
+pub own_part : (project : ProjectTree) (b seen : BlockTree) (vars : List VarTree) (key : List ℕ) (o : Option layout.Laid)
+    → seen ≡ b → vars ≡ seen.vars → o ≡ option_map capped_laid (layout.laid_among project is_of_instance vars key 0)
+    → o ≡ option_map capped_laid (layout.laid_among project is_of_instance b.vars key 0)
+own_part project b seen vars key o same_block same_vars e =
+    e ∙ ap (λ vs. option_map capped_laid (layout.laid_among project is_of_instance vs key 0)) same_vars
+    ∙ ap (λ (x : BlockTree). option_map capped_laid (layout.laid_among project is_of_instance x.vars key 0)) same_block
+
+-- from the first cell of the instance on
+pub own_begins : (project : ProjectTree) (vars : List VarTree) (key : List ℕ) (first : ℕ) (o : Option layout.Laid)
+    → o ≡ layout.laid_among project is_of_instance vars key 0
+    → visible_where (option_map (further first) o) ≡ visible_where (layout.laid_among project is_of_instance vars key first)
+own_begins project vars key first o e =
+    ap (λ x. visible_where (option_map (further first) x)) e ∙ ap visible_where (sym (laid_from project is_of_instance vars key first))
 
 -- what was found, by where it lies
 pub found_begin : (part : Where) (first : ℕ) (l : layout.Laid) → begins_in part first l ≡ begins_found part first (Some l)

@@ -1,5 +1,5 @@
 -- The source whose names a context finds.
-use Rattle.std.specs.Prelude.{◌≡◌, ℕ, ◌+◌, ◌/◌, nat_le, if◌then◌else◌}
+use Rattle.std.specs.Prelude.{◌≡◌, ℕ, ◌+◌, ◌/◌, nat_le, if◌then◌else◌, IfSome}
 use Rattle.pv_word.specs.declared.types.Ty.{Ty}
 use Rattle.pv_tree.specs.declared.expr.Root.{Root}
 use Rattle.pv_tree.specs.declared.expr.Root.TheVariants.{Local, Named, Area as InArea}
@@ -14,6 +14,7 @@ use Rattle.pv_mean.specs.Activations.{address_spot}
 use Rattle.pv_mean.specs.Sized.{sized_project}
 use Rattle.pv_resolve.specs.declared.context.Context.{Context}
 use Rattle.pv_resolve.specs.declared.context.AreaBytes.{AreaBytes}
+use Rattle.pv_resolve.specs.Firsts.{AreFirsts}
 
 -- the block whose names are found
 abbrev pub block_in : Context → BlockTree
@@ -30,6 +31,7 @@ pub record IsContext (c : Context) (source : Source) : Type 0 where
   pub areas : c.bytes_first
       ≡ entry_size source.project source.entry + data_size source.project source.project.blocks
   pub bytes : source.bytes ≡ bytes_tree c.bytes
+  pub firsts : IfSome c.firsts (λ f. AreFirsts f.now source.project (block_in c))
 
 -- what is read or written at an address, the byte of which has this cell
 abbrev pub address_spot_at : Ty → ℕ → ℕ → ℕ → Spot

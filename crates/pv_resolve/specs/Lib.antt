@@ -1,4 +1,5 @@
 -- what public clauses cite
+pub mod Firsts
 pub mod Contexts
 pub mod Laying
 pub mod Begins

@@ -14,6 +14,7 @@ ghost use Rattle.pv_mean.specs.Spots as spots;
 ghost use Rattle.pv_mean.specs.Activations as act;
 ghost use Rattle.pv_mean.specs.Layout as layout;
 ghost use Rattle.pv_mean.specs.LaidOut.{test_of};
+ghost use Rattle.pv_mean.specs.LaidOut as counted;
 ghost use Rattle.pv_mean.specs.Sized.{sized_project};
 ghost use Rattle.pv_eval.specs.Operands.{spot_of, IsSpot};
 ghost use Rattle.pv_eval.specs.Means.{activation};
@@ -25,7 +26,7 @@ use crate::context::{AreaBytes, Context};
 use crate::fault::ResolveFault;
 use crate::laid::{Laid, exact};
 use pv_eval::Spot;
-use pv_mean::{BEYOND, Part, activation_part};
+use pv_mean::{BEYOND, Laid as Found, Part, activation_part};
 use pv_names::{Entry, Held, is_const};
 use pv_tree::{Area, Block, BlockKind, Body, Root};
 use pv_types::{Name, Section, Var};
@@ -240,28 +241,76 @@ impl<'p> Context<'p> {
         }
     }
 
-    /// A variable of this name that lives within one activation.
-    fn brief(&self, name: &Name) -> Result<Begin<'p>, ResolveFault>
-        ensures value { (first : ℕ) → IfOk result (λ b. begin_at b first ≡ act.brief_where
+    /// The variable of this name that lives within one activation, by a walk along the block's variables.
+    fn brief_walked(&self, name: &Name) -> Option<Found<'p>>
+        ensures { option_map counted.laid_tree result ≡ option_map counted.capped_laid
             (layout.laid_among (sized_project self.now.sizes.now)
-            (layout.is_brief_in (block_in self.now)) (block_in self.now).vars name.now.key 0)) }
-        ensures spot { IfOk result HasSpot }
+            (layout.is_brief_in (block_in self.now)) (block_in self.now).vars name.now.key 0) }
     {
         let block = self.scope.entry.block();
         let part = activation_part(&block.kind);
-        let found = self.among(block.interface.vars.as_slice(), part, name, 0)?;
+        self.sizes
+            .variable(block.interface.vars.as_slice(), part, name, 0)
+    }
+
+    /// The variable of this name that lives within one activation.
+    fn brief_found(&self, name: &Name) -> Option<Found<'p>>
+        ensures { (source : Source) → IsContext self.now source
+            → option_map counted.laid_tree result ≡ option_map counted.capped_laid
+            (layout.laid_among source.project (layout.is_brief_in (block_in self.now))
+            (block_in self.now).vars name.now.key 0) }
+    {
+        match self.firsts {
+            Some(firsts) => firsts.brief(name),
+            None => self.brief_walked(name),
+        }
+    }
+
+    /// The variable of this name of the instance, by a walk along the block's variables.
+    fn own_walked(&self, name: &Name) -> Option<Found<'p>>
+        ensures { option_map counted.laid_tree result ≡ option_map counted.capped_laid
+            (layout.laid_among (sized_project self.now.sizes.now) scopes.is_of_instance
+            (block_in self.now).vars name.now.key 0) }
+    {
+        let block = self.scope.entry.block();
+        let vars = block.interface.vars.as_slice();
+        self.sizes.variable(vars, Part::Instance, name, 0)
+    }
+
+    /// The variable of this name of the instance.
+    fn own_found(&self, name: &Name) -> Option<Found<'p>>
+        ensures { (source : Source) → IsContext self.now source
+            → option_map counted.laid_tree result ≡ option_map counted.capped_laid
+            (layout.laid_among source.project scopes.is_of_instance (block_in self.now).vars
+            name.now.key 0) }
+    {
+        match self.firsts {
+            Some(firsts) => firsts.own(name),
+            None => self.own_walked(name),
+        }
+    }
+
+    /// A variable of this name that lives within one activation.
+    fn brief(&self, name: &Name) -> Result<Begin<'p>, ResolveFault>
+        ensures value { (source : Source) (first : ℕ) → IsContext self.now source
+            → IfOk result (λ b. begin_at b first ≡ act.brief_where
+            (layout.laid_among source.project (layout.is_brief_in (block_in self.now))
+            (block_in self.now).vars name.now.key 0)) }
+        ensures spot { IfOk result HasSpot }
+    {
+        let found = exact(self.brief_found(name))?;
         Ok(begin_with(Where::Brief, found))
     }
 
     /// A variable of this name of the instance.
     fn own(&self, name: &Name) -> Result<Begin<'p>, ResolveFault>
-        ensures value { (first : ℕ) → IfOk result (λ b. begin_at b first ≡ act.visible_where
-            (layout.laid_among (sized_project self.now.sizes.now) scopes.is_of_instance
+        ensures value { (source : Source) (first : ℕ) → IsContext self.now source
+            → IfOk result (λ b. begin_at b first ≡ act.visible_where
+            (layout.laid_among source.project scopes.is_of_instance
             (block_in self.now).vars name.now.key first)) }
         ensures spot { IfOk result HasSpot }
     {
-        let block = self.scope.entry.block();
-        let found = self.among(block.interface.vars.as_slice(), Part::Instance, name, 0)?;
+        let found = exact(self.own_found(name))?;
         Ok(begin_with(Where::Own, found))
     }
 

@@ -7,9 +7,11 @@ ghost use Rattle.pv_names.specs.Tables.{project_of};
 ghost use Rattle.pv_mean.specs.Layout as layout;
 ghost use Rattle.pv_mean.specs.Sources.{Source};
 ghost use Rattle.pv_mean.specs.Sized.{sized_project};
-ghost use Rattle.pv_resolve.specs.Contexts.{IsContext, bytes_tree};
+ghost use Rattle.pv_resolve.specs.Contexts.{IsContext, bytes_tree, block_in};
+ghost use Rattle.pv_resolve.specs.Firsts.{AreFirsts};
 
 use crate::fault::ResolveFault;
+use crate::firsts::Firsts;
 use pv_mean::{BEYOND, Sizes};
 use pv_names::Scope;
 use pv_tree::Block;
@@ -33,6 +35,8 @@ pub struct Context<'p> {
     /// The number of the first cell of the areas' bytes, behind the data blocks'.
     pub bytes_first: u32,
     pub bytes: AreaBytes<'p>,
+    /// Where the block's variables lie, if that was found; else each name takes a walk along them.
+    pub firsts: Option<&'p Firsts<'p>>,
 }
 
 /// The context of a block of a project that is entered at a block, where these bytes have cells. It is too large exactly where the
@@ -63,5 +67,19 @@ pub fn context_of<'p>(
         data_first,
         bytes_first,
         bytes,
+        firsts: None,
     })
+}
+
+/// The same context, where the variables of its block lie so.
+pub fn with_firsts<'p>(context: Context<'p>, firsts: &'p Firsts<'p>) -> Context<'p>
+    ensures is { (source : Source) → IsContext context.entry source
+        → AreFirsts firsts.now source.project (block_in context.entry) → IsContext result source }
+    ensures scope { result.scope ≡ context.entry.scope }
+    ensures block { block_in result ≡ block_in context.entry }
+{
+    Context {
+        firsts: Some(firsts),
+        ..context
+    }
 }

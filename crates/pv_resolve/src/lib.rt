@@ -7,6 +7,7 @@
 mod begin;
 mod context;
 mod fault;
+mod firsts;
 mod forms;
 mod function;
 mod growing;
@@ -16,6 +17,7 @@ mod resolve;
 mod walk;
 
 pub use begin::{Begin, Where, number_of, start_of};
-pub use context::{AreaBytes, Context, context_of};
+pub use context::{AreaBytes, Context, context_of, with_firsts};
 pub use fault::ResolveFault;
+pub use firsts::Firsts;
 pub use laid::Laid;

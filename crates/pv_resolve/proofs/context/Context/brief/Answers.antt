@@ -1,19 +1,12 @@
-use Rattle.std.proofs.Common.{refl, ap, ◌∙◌, option_map}
-use Rattle.pv_types.specs.View.{var_trees}
-use Rattle.pv_tree.specs.View.{block_tree}
-use Rattle.pv_resolve.specs.Laying.{laid_tree}
-use Rattle.pv_mean.specs.Sized.{sized_project}
+use Rattle.std.proofs.Common.{ap, ◌∙◌}
+use Rattle.pv_mean.specs.Activations.{brief_where}
+use Rattle.pv_mean.specs.Layout as layout
 use Rattle.pv_resolve.specs.Contexts.{block_in}
-use Rattle.pv_mean.specs.LaidOut.{test_of}
-use Rattle.pv_resolve.proofs.Naming.{brief_part}
 use Rattle.pv_resolve.proofs.context.Context.brief.Goals as goal
 
 pub returns-clause-value : goal.returns-clause-value
-returns-clause-value c =
-    λ first.
-    let s = c.args.self.now in
+returns-clause-value c = λ source first is.
+    let block = block_in c.args.self.now in
     c.begin_with.ensures.value first
-    ∙ brief_part (sized_project s.sizes.now) (test_of c.activation_part-part.result) (block_in s) (block_tree c.block-block.result.now)
-    (var_trees c.as_slice.result.now) c.args.name.now.key (option_map laid_tree c.in_ok-found.found) c.block-block.ensures
-    (ap var_trees c.as_slice.ensures.value) (λ x. c.activation_part-part.ensures (block_tree c.block-block.result.now) x refl)
-    c.in_ok-found.ensures
+    ∙ ap brief_where (c.in_ok-found.ensures (layout.laid_among source.project (layout.is_brief_in block) block.vars c.args.name.now.key 0)
+    (c.brief_found.ensures source is))

@@ -9,14 +9,14 @@ pub returns-then-has-clause-value : goal.returns-then-has-clause-value
 returns-then-has-clause-value c =
     λ source first is. IfOk-weaker c.brief.result _ _ (λ b e.
     brief_cells c.args.self.now source first c.args.name.now.key c.args.section (block_tree c.block-block.result.now) c.has.result
-    (begin_at b first) is c.block-block.ensures
+    (begin_at b first) c.block-block.ensures
     (c.has.ensures ∙ c.activation_part.ensures (block_tree c.block-block.result.now) c.args.section refl) c.if-has.true e)
-    (c.brief.ensures.value first)
+    (c.brief.ensures.value source first is)
 
 pub returns-else-has-clause-value : goal.returns-else-has-clause-value
 returns-else-has-clause-value c =
     λ source first is. IfOk-weaker c.own.result _ _ (λ b e.
     own_cells c.args.self.now source first c.args.name.now.key c.args.section (block_tree c.block-block.result.now) c.has.result
-    (begin_at b first) is c.block-block.ensures
+    (begin_at b first) c.block-block.ensures
     (c.has.ensures ∙ c.activation_part.ensures (block_tree c.block-block.result.now) c.args.section refl) c.if-has.false e)
-    (c.own.ensures.value first)
+    (c.own.ensures.value source first is)

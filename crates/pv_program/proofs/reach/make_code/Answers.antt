@@ -1,0 +1,18 @@
+use Rattle.std.proofs.Common.{length, sym, ap, subst, ◌∙◌}
+use Rattle.std.proofs.lemmas.Bool.{ltb-true}
+use Rattle.std.specs.Prelude.{IfOk, slice_get}
+use Rattle.pv_tree.specs.Scopes.{ProjectTree}
+use Rattle.pv_names.specs.Entries.{block_of}
+use Rattle.pv_run.specs.Code.{IsCode}
+use Rattle.pv_program.proofs.Making.{entered-is}
+use Rattle.pv_program.proofs.reach.make_code.Goals as goal
+
+pub returns-in_ok-firsts-in-Some-clause-is : goal.returns-in_ok-firsts-in-Some-clause-is
+returns-in_ok-firsts-in-Some-clause-is c = λ source b is at.
+    let inner = c.context_in-inner.ensures.is source is in
+    let entered = entered-is block_of c.entries.result.now c.args.block c.in-Some.entry.now b
+    (ltb-true c.args.block (length c.entries.result.now) (sym c.in-Some.ensures.lookup.0)) c.in-Some.ensures.lookup.1
+    (ap (λ l. slice_get l c.args.block) (c.entries.ensures ∙ ap (λ (p : ProjectTree). p.blocks) is.project) ∙ at) in
+    subst (λ x. IfOk c.add_code.result (IsCode source c.add_code.new.program x))
+    (c.with_firsts-inner.ensures.block ∙ c.context_in-inner.ensures.block ∙ entered)
+    (c.add_code.ensures.is source (c.with_firsts-inner.ensures.is source inner (c.in_ok-firsts-in-Some.ensures source inner)))

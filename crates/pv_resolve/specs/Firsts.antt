@@ -1,0 +1,41 @@
+-- Where the variables of a block lie, by a table that is made once.
+use Rattle.std.specs.Prelude.{◌≡◌, ℕ, ◌+◌, List, bytes_eq, Bool as Truth, if◌then◌else◌, Option, Some, None, option_map}
+use Rattle.indexmap.specs.IndexMap.{get_by}
+use Rattle.pv_types.specs.declared.declaration.Section.{Section}
+use Rattle.pv_types.specs.declared.declaration.Var.{Var}
+use Rattle.pv_types.specs.Tree.{TypeTree, VarTree}
+use Rattle.pv_types.specs.View.{type_tree}
+use Rattle.pv_tree.specs.Tree.{BlockTree}
+use Rattle.pv_tree.specs.Scopes.{ProjectTree, is_of_instance}
+use Rattle.pv_mean.specs.Layout.{Laid, laid_among, is_brief_in, size_in}
+use Rattle.pv_mean.specs.Counts.{capped}
+use Rattle.pv_mean.specs.LaidOut.{laid_tree, capped_laid}
+use Rattle.pv_resolve.specs.declared.firsts.PartFirsts.{PartFirsts}
+use Rattle.pv_resolve.specs.declared.firsts.Firsts.{Firsts}
+
+-- the variable that the table of a part has of a key
+abbrev pub laid_in : PartFirsts → List ℕ → Option Laid
+laid_in p key = option_map laid_tree (get_by (bytes_eq key) p.laid)
+
+-- what the table had, or a new variable where the test says so
+abbrev pub laid_after : Truth → Option Laid → TypeTree → ℕ → Option Laid
+laid_after same (Some l) ty at = Some l
+laid_after same None ty at = if same then Some (record { ty = ty; first = at }) else None
+
+-- one more variable stands behind those of the table, if the test says that it is of the part
+pub record AddsVariable (project : ProjectTree) (test : Truth) (old new : PartFirsts) (v : Var) : Type 0 where
+  pub laid : (key : List ℕ) → laid_in new key
+      ≡ (if test then laid_after (bytes_eq key v.name.key) (laid_in old key) (type_tree v.ty) old.total
+      else laid_in old key)
+  pub total : new.total
+      ≡ (if test then capped (old.total + size_in project (type_tree v.ty)) else old.total)
+
+-- of each key the variable is found that is laid out among these, its number counted up to the bound
+abbrev pub FindsLaid : PartFirsts → ProjectTree → (Section → Truth) → List VarTree → Type 0
+FindsLaid p project test vars =
+    (key : List ℕ) → laid_in p key ≡ option_map capped_laid (laid_among project test vars key 0)
+
+-- both tables are those of the block
+pub record AreFirsts (f : Firsts) (project : ProjectTree) (block : BlockTree) : Type 0 where
+  pub brief : FindsLaid f.brief project (is_brief_in block) block.vars
+  pub own : FindsLaid f.own project is_of_instance block.vars

@@ -1,0 +1,138 @@
+//! Where the variables of a block lie: found once for a block, in time that is linear in them, so that of each name it is then known
+//! without a walk along those in front of it.
+ghost use Rattle.std.specs.Prelude.{◌≡◌, ℕ, List, IfOk, OnOk, bytes_eq, option_map};
+ghost use Rattle.pv_types.specs.View.{type_tree, var_trees};
+ghost use Rattle.pv_tree.specs.Scopes.{ProjectTree, is_of_instance};
+ghost use Rattle.pv_tree.specs.Tree.{BlockTree};
+ghost use Rattle.pv_tree.specs.View.{block_tree};
+ghost use Rattle.pv_mean.specs.Layout as layout;
+ghost use Rattle.pv_mean.specs.LaidOut as counted;
+ghost use Rattle.pv_mean.specs.Sized.{sized_project};
+ghost use Rattle.pv_mean.specs.Sources.{Source};
+ghost use Rattle.pv_resolve.specs.Contexts.{IsContext, block_in};
+ghost use Rattle.pv_resolve.specs.Firsts.{laid_in, laid_after, AddsVariable, FindsLaid, AreFirsts};
+
+use crate::context::Context;
+use indexmap::IndexMap;
+use pv_edge::Text;
+use pv_mean::{BEYOND, Laid as Found, Part, Sizes, activation_part};
+use pv_tree::Block;
+use pv_types::{Name, Var};
+use std::alloc::{AllocError, Global};
+
+/// Where the variables of a part of a block's cells lie, counted from the part's first cell, and how many cells there are.
+#[derive(Drop)]
+struct PartFirsts<'p> {
+    laid: IndexMap<Text, Found<'p>>,
+    total: u32,
+}
+
+impl<'p> PartFirsts<'p> {
+    /// The next variable of a new name lies behind the others.
+    fn add_name(&mut self, var: &'p Var) -> Result<(), AllocError>
+        ensures laid { OnOk result ((key : List ℕ) → laid_in self.new key
+            ≡ laid_after (bytes_eq key var.now.name.key) (laid_in self.old key)
+            (type_tree var.now.ty) self.old.total) }
+        ensures total { OnOk result (self.new.total ≡ self.old.total) }
+    {
+        if self.laid.contains_key(&var.name.key) {
+            return Ok(());
+        }
+        let key = var.name.key.clone()?;
+        let ty = &var.ty;
+        let first = self.total;
+        self.laid.insert(key, Found { ty, first })?;
+        Ok(())
+    }
+
+    /// Puts a variable behind the others, if it is one of the part.
+    fn add(&mut self, sizes: &Sizes, part: Part, var: &'p Var) -> Result<(), AllocError>
+        ensures { OnOk result (AddsVariable (sized_project sizes.now)
+            (counted.test_of part var.now.section) self.old self.new var.now) }
+    {
+        if !part.has(var.section) {
+            return Ok(());
+        }
+        self.add_name(var)?;
+        self.total = self
+            .total
+            .saturating_add(sizes.of_type(&var.ty))
+            .min(BEYOND);
+        Ok(())
+    }
+
+    /// Those of a part of the variables.
+    fn of(
+        alloc: Global,
+        sizes: &Sizes,
+        part: Part,
+        vars: &'p [Var],
+    ) -> Result<PartFirsts<'p>, AllocError>
+        ensures { IfOk result (λ p. FindsLaid p (sized_project sizes.now) (counted.test_of part)
+            (var_trees vars.now)) }
+    {
+        let mut so_far = PartFirsts {
+            laid: IndexMap::new(alloc),
+            total: 0,
+        };
+        for var in vars {
+            so_far.add(sizes, part, var)?;
+        }
+        Ok(so_far)
+    }
+
+    /// The variable of this name, if there is one.
+    fn find(&self, name: &Name) -> Option<Found<'p>>
+        ensures { option_map counted.laid_tree result ≡ laid_in self.now name.now.key }
+    {
+        match self.laid.get(&name.key) {
+            Some(found) => Some(*found),
+            None => None,
+        }
+    }
+}
+
+/// Where the variables of a block lie among the cells of its activation, and among those of its instance.
+#[derive(Drop)]
+pub struct Firsts<'p> {
+    brief: PartFirsts<'p>,
+    own: PartFirsts<'p>,
+}
+
+impl<'p> Firsts<'p> {
+    /// Those of a block of the project of these sizes.
+    fn of_block(alloc: Global, sizes: &Sizes, block: &'p Block) -> Result<Firsts<'p>, AllocError>
+        ensures { IfOk result (λ f. AreFirsts f (sized_project sizes.now) (block_tree block.now)) }
+    {
+        let vars = block.interface.vars.as_slice();
+        let brief = PartFirsts::of(alloc, sizes, activation_part(&block.kind), vars)?;
+        let own = PartFirsts::of(alloc, sizes, Part::Instance, vars)?;
+        Ok(Firsts { brief, own })
+    }
+
+    /// Those of the context's block.
+    pub fn of(alloc: Global, context: &Context<'p>) -> Result<Firsts<'p>, AllocError>
+        ensures { (source : Source) → IsContext context.now source
+            → IfOk result (λ f. AreFirsts f source.project (block_in context.now)) }
+    {
+        Firsts::of_block(alloc, context.sizes, context.scope.entry.block())
+    }
+
+    /// The variable of this name that lives within one activation, if there is one.
+    pub(crate) fn brief(&self, name: &Name) -> Option<Found<'p>>
+        ensures { (project : ProjectTree) (block : BlockTree) → AreFirsts self.now project block
+            → option_map counted.laid_tree result ≡ option_map counted.capped_laid
+            (layout.laid_among project (layout.is_brief_in block) block.vars name.now.key 0) }
+    {
+        self.brief.find(name)
+    }
+
+    /// The variable of this name of the instance, if there is one.
+    pub(crate) fn own(&self, name: &Name) -> Option<Found<'p>>
+        ensures { (project : ProjectTree) (block : BlockTree) → AreFirsts self.now project block
+            → option_map counted.laid_tree result ≡ option_map counted.capped_laid
+            (layout.laid_among project is_of_instance block.vars name.now.key 0) }
+    {
+        self.own.find(name)
+    }
+}
