@@ -1,16 +1,17 @@
--- Words, numbers with a point and signs of SCL are ASCII, by the shapes of their tokens.
+-- Words, numbers with a point and signs are ASCII, by the shapes of their tokens.
 use Rattle.std.proofs.Common.{◌≡◌, ℕ, ◌+◌, ◌<◌, Bool, true, false, ◌&&◌, ◌||◌, ◌==◌, IsTrue, List, [], ◌∷◌, ◌++◌, length, take, drop, refl, ap, sym, subst, ◌∙◌, arith, inl, inr, Option, Some, None, drop-drop, zero, suc}
 use Rattle.std.specs.Prelude.{nat_lt, IsAscii}
 use Rattle.std.specs.List.{list_all}
 use Rattle.pv_lex.specs.declared.token.Kind.{Kind}
 use Rattle.pv_lex.specs.declared.token.Kind.TheVariants as k
-use Rattle.pv_lex.specs.declared.token.Language.TheVariants.{Scl}
+use Rattle.pv_lex.specs.declared.token.Language.{Language}
+use Rattle.pv_lex.specs.declared.token.Language.TheVariants.{Scl, Stl}
 use Rattle.pv_lex.specs.declared.token.Token.{Token}
 use Rattle.pv_lex.specs.declared.context.Context.{Context}
 use Rattle.pv_lex.specs.declared.class.Class.{Class}
 use Rattle.pv_lex.specs.declared.class.Class.TheVariants as c
 use Rattle.pv_lex.specs.Classes.{has, is_letter, is_word_byte}
-use Rattle.pv_lex.specs.Shapes.{Shape, done, one, many, number, led, either, closing, Spells, is_word, word, real, sign}
+use Rattle.pv_lex.specs.Shapes.{Shape, done, one, many, number, led, either, closing, Spells, is_word, word, real, signs}
 use Rattle.pv_lex.specs.Tokens.{IsStretch, IsCut, Piece, behind, tokens_of, tokens_from, AreTokens}
 use Rattle.pv_tree.specs.Lexemes.{Lexeme, lexeme_of, lexemes_of}
 use Rattle.pv_tree.specs.Outside.{Spot, first_spot, behind_all, is_outside_kind, IsFirstOutside}
@@ -41,6 +42,8 @@ is_plain (c.Byte b) = nat_lt b 128
 is_plain (c.Either a b) = nat_lt a 128 && nat_lt b 128
 is_plain c.Digit = true
 is_plain c.Sign = true
+is_plain c.Step = true
+is_plain c.Type = true
 is_plain c.Nothing = true
 is_plain _ = false
 
@@ -52,6 +55,12 @@ either_is b x y e h = grind arith
 
 sign_is : (b : ℕ) → IsTrue (has c.Sign b) → b < 128
 sign_is b h = grind arith
+
+step_is : (b : ℕ) → IsTrue (has c.Step b) → b < 128
+step_is b h = grind arith
+
+type_is : (b : ℕ) → IsTrue (has c.Type b) → b < 128
+type_is b h = grind arith
 
 digit_is : (b : ℕ) → IsTrue (has c.Digit b) → b < 128
 digit_is b h = grind arith
@@ -67,6 +76,8 @@ plain_is (c.Byte other) b e h = byte_is b other e h
 plain_is (c.Either x y) b e h = either_is b x y e h
 plain_is c.Digit b e h = digit_is b h
 plain_is c.Sign b e h = sign_is b h
+plain_is c.Step b e h = step_is b h
+plain_is c.Type b e h = type_is b h
 plain_is c.Nothing b e h = absurd (cc h)
 plain_is c.Space b e h = absurd (cc e)
 plain_is c.Blank b e h = absurd (cc e)
@@ -80,8 +91,6 @@ plain_is c.Width b e h = absurd (cc e)
 plain_is c.Quotable b e h = absurd (cc e)
 plain_is c.Braced b e h = absurd (cc e)
 plain_is c.Inline b e h = absurd (cc e)
-plain_is c.Step b e h = absurd (cc e)
-plain_is c.Type b e h = absurd (cc e)
 
 parts_true : (p q : Bool) → (p && q) ≡ true → (p ≡ true) × (q ≡ true)
 parts_true true q e = (refl, e)
@@ -136,14 +145,18 @@ AsciiBy k.Real bytes = Ascii bytes
 AsciiBy k.Sign bytes = Ascii bytes
 AsciiBy _ bytes = Unit {0}
 
-stretch_ascii : (context : Context) (kind : Kind) (bytes : List ℕ) → IsStretch Scl context (Some kind) bytes → AsciiBy kind bytes
-stretch_ascii context k.Word bytes h = word_ascii bytes h
-stretch_ascii context k.Real bytes h = spells_ascii real refl bytes h
-stretch_ascii context k.Sign bytes h = spells_ascii sign refl bytes h
-stretch_ascii context k.Quoted bytes h = tt
-stretch_ascii context k.Number bytes h = tt
-stretch_ascii context k.Address bytes h = tt
-stretch_ascii context k.End bytes h = tt
+plain_signs : (its : Language) → is_plain_shape (signs its) ≡ true
+plain_signs Scl = refl
+plain_signs Stl = refl
+
+stretch_ascii : (its : Language) (context : Context) (kind : Kind) (bytes : List ℕ) → IsStretch its context (Some kind) bytes → AsciiBy kind bytes
+stretch_ascii its context k.Word bytes h = word_ascii bytes h
+stretch_ascii its context k.Real bytes h = spells_ascii real refl bytes h
+stretch_ascii its context k.Sign bytes h = spells_ascii (signs its) (plain_signs its) bytes h
+stretch_ascii its context k.Quoted bytes h = tt
+stretch_ascii its context k.Number bytes h = tt
+stretch_ascii its context k.Address bytes h = tt
+stretch_ascii its context k.End bytes h = tt
 
 -- ---- along a text
 
@@ -168,12 +181,12 @@ front_dropped : (bytes left : List ℕ) → drop (length bytes) (bytes ++ left) 
 front_dropped [] left = refl
 front_dropped (b ∷ others) left = front_dropped others left
 
-piece_ascii : (file at : ℕ) (whole : List ℕ) (context : Context) (kind : Option Kind) (bytes left : List ℕ) → drop at whole ≡ bytes ++ left
-    → IsStretch Scl context kind bytes → AreAscii (lexemes_of whole (tokens_of file at kind bytes))
-piece_ascii file at whole context None bytes left e s = tt
-piece_ascii file at whole context (Some kind) bytes left e s = (
+piece_ascii : (its : Language) (file at : ℕ) (whole : List ℕ) (context : Context) (kind : Option Kind) (bytes left : List ℕ) → drop at whole ≡ bytes ++ left
+    → IsStretch its context kind bytes → AreAscii (lexemes_of whole (tokens_of file at kind bytes))
+piece_ascii its file at whole context None bytes left e s = tt
+piece_ascii its file at whole context (Some kind) bytes left e s = (
   along (AsciiBy kind) (take (length bytes) (drop at whole)) bytes (ap (take (length bytes)) e ∙ front_taken bytes left)
-      (stretch_ascii context kind bytes s),
+      (stretch_ascii its context kind bytes s),
   tt,
 )
 
@@ -185,34 +198,34 @@ append_ascii : (text : List ℕ) (xs ys : List Token) → AreAscii (lexemes_of t
     → AreAscii (lexemes_of text (xs ++ ys))
 append_ascii text xs ys p q = subst AreAscii (sym (of_append text xs ys)) (both_ascii (lexemes_of text xs) (lexemes_of text ys) p q)
 
-pieces_ascii : (pieces : List Piece) (file at : ℕ) (whole text rest : List ℕ) (context : Context) → drop at whole ≡ text
-    → IsCut Scl context pieces text rest → AreAscii (lexemes_of whole (tokens_from file at pieces))
-pieces_ascii [] file at whole text rest context e h = tt
-pieces_ascii (piece ∷ others) file at whole text rest context e (left, f, next, more) =
+pieces_ascii : (its : Language) (pieces : List Piece) (file at : ℕ) (whole text rest : List ℕ) (context : Context) → drop at whole ≡ text
+    → IsCut its context pieces text rest → AreAscii (lexemes_of whole (tokens_from file at pieces))
+pieces_ascii its [] file at whole text rest context e h = tt
+pieces_ascii its (piece ∷ others) file at whole text rest context e (left, f, next, more) =
     append_ascii whole (tokens_of file at piece.kind piece.bytes) (tokens_from file (at + length piece.bytes) others)
-    (piece_ascii file at whole context piece.kind piece.bytes left (e ∙ f) next.longest.stretch)
-    (pieces_ascii others file (at + length piece.bytes) whole left rest (behind context piece.kind piece.bytes)
+    (piece_ascii its file at whole context piece.kind piece.bytes left (e ∙ f) next.longest.stretch)
+    (pieces_ascii its others file (at + length piece.bytes) whole left rest (behind context piece.kind piece.bytes)
     (sym (drop-drop (length piece.bytes) at whole) ∙ ap (drop (length piece.bytes)) (e ∙ f) ∙ front_dropped piece.bytes left) more)
 
-tokens_ascii : (file : ℕ) (text : List ℕ) (tokens : List Token) → AreTokens Scl file text tokens → AreAscii (lexemes_of text tokens)
-tokens_ascii file text tokens a =
+tokens_ascii : (its : Language) (file : ℕ) (text : List ℕ) (tokens : List Token) → AreTokens its file text tokens → AreAscii (lexemes_of text tokens)
+tokens_ascii its file text tokens a =
     subst (λ ts. AreAscii (lexemes_of text ts)) (sym (a.tokens_are ∙ ap (λ (ts : List Token). ts ++ _) a.cut.tokens_are))
-    (append_ascii text (tokens_from file 0 a.cut.pieces) _ (pieces_ascii a.cut.pieces file 0 text text a.cut.rest _ refl a.cut.cut) (tt, tt))
+    (append_ascii text (tokens_from file 0 a.cut.pieces) _ (pieces_ascii its a.cut.pieces file 0 text text a.cut.rest _ refl a.cut.cut) (tt, tt))
 
 -- ---- words outside the profile
 
-outside_by : (kind : Kind) (spot : Spot) (bytes : List ℕ) (others : List Lexeme) → is_outside_kind kind Scl spot bytes others ≡ true
+outside_by : (its : Language) (kind : Kind) (spot : Spot) (bytes : List ℕ) (others : List Lexeme) → is_outside_kind kind its spot bytes others ≡ true
     → AsciiBy kind bytes → Ascii bytes
-outside_by k.Word spot bytes others e h = h
-outside_by k.Real spot bytes others e h = h
-outside_by k.Sign spot bytes others e h = h
-outside_by k.Quoted spot bytes others e h = absurd (cc e)
-outside_by k.Number spot bytes others e h = absurd (cc e)
-outside_by k.Address spot bytes others e h = absurd (cc e)
-outside_by k.End spot bytes others e h = absurd (cc e)
+outside_by its k.Word spot bytes others e h = h
+outside_by its k.Real spot bytes others e h = h
+outside_by its k.Sign spot bytes others e h = h
+outside_by its k.Quoted spot bytes others e h = absurd (cc e)
+outside_by its k.Number spot bytes others e h = absurd (cc e)
+outside_by its k.Address spot bytes others e h = absurd (cc e)
+outside_by its k.End spot bytes others e h = absurd (cc e)
 
-pub outside_ascii : (file : ℕ) (text : List ℕ) (tokens : List Token) (t : Lexeme) → AreTokens Scl file text tokens
-    → IsFirstOutside Scl (lexemes_of text tokens) t → IsAscii t.bytes
-outside_ascii file text tokens t cut is =
-    is_ascii t.bytes (outside_by t.kind (behind_all first_spot is.before) t.bytes is.others is.outside
-    (at_ascii is.before t is.others (subst AreAscii is.parts (tokens_ascii file text tokens cut))))
+pub outside_ascii : (its : Language) (file : ℕ) (text : List ℕ) (tokens : List Token) (t : Lexeme) → AreTokens its file text tokens
+    → IsFirstOutside its (lexemes_of text tokens) t → IsAscii t.bytes
+outside_ascii its file text tokens t cut is =
+    is_ascii t.bytes (outside_by its t.kind (behind_all first_spot is.before) t.bytes is.others is.outside
+    (at_ascii is.before t is.others (subst AreAscii is.parts (tokens_ascii its file text tokens cut))))

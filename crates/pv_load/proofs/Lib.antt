@@ -10,6 +10,7 @@ mod FitLaws
 pub mod SubjectLaws
 mod AsciiLaws
 mod SourceLaws
+mod Noting
 mod Gathering
 mod CaseLaws
 pub mod OneCase

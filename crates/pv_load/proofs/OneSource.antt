@@ -4,7 +4,7 @@ use Rattle.std.proofs.lemmas.Option.{same_Some}
 use Rattle.pv_machine.specs.declared.place.Place.{Place}
 use Rattle.pv_edge.specs.Files.{FileMap}
 use Rattle.pv_lex.specs.declared.token.Token.{Token}
-use Rattle.pv_lex.specs.declared.token.Language.TheVariants.{Scl, Stl}
+use Rattle.pv_lex.specs.declared.token.Language.{Language}
 use Rattle.pv_lex.specs.declared.fault.FaultKind.{FaultKind}
 use Rattle.pv_lex.specs.declared.lex.TheConstants.{MAX_SOURCE}
 use Rattle.pv_lex.specs.Tokens.{AreTokens, IsFault}
@@ -15,75 +15,63 @@ use Rattle.pv_case.specs.Cases.{SourceData}
 use Rattle.pv_readings.specs.Judgements.{Judgement, Judged}
 use Rattle.pv_readings.specs.Judgements as j
 use Rattle.pv_load.specs.Spots.{spot_text}
-use Rattle.pv_load.specs.Refusals.{SourceRefusal, too_large, not_of_form, lex, outside, syntax, deep}
-use Rattle.pv_load.specs.Sources.{IsScl, HasTokens, ReadsAs, RefusesSource, ReadSource, HoldsSource, HoldSources, AtOne, IsRefused}
+use Rattle.pv_load.specs.Refusals.{SourceRefusal, too_large, lex, outside, syntax, deep}
+use Rattle.pv_load.specs.Sources.{HasTokens, ReadsAs, RefusesSource, ReadSource, HoldsSource, HoldSources, AtOne, IsRefused}
 use Rattle.pv_load.proofs.OneCase.{one_held, held_both}
 
--- a source of SCL is judged in one way
+-- a source is judged in one way
 abbrev pub IsOneJudgement : Type 0
-IsOneJudgement = (file : ℕ) (text : List ℕ) (tokens : List Token) (one other : Judgement) → AreTokens Scl file text tokens
-    → Judged (lexemes_of text tokens) one → Judged (lexemes_of text tokens) other → one ≡ other
+IsOneJudgement = (its : Language) (file : ℕ) (text : List ℕ) (tokens : List Token) (one other : Judgement) → AreTokens its file text tokens
+    → Judged its (lexemes_of text tokens) one → Judged its (lexemes_of text tokens) other → one ≡ other
 
 -- ---- what bytes say, by what decides it
 
 data Saying : Type 0 where
   large : Saying
-  other_language : Saying
   no_token : FaultKind → ℕ → Saying
   judged : Judgement → Saying
 
 record HasNone (number : ℕ) (source : SourceData) (bytes : List ℕ) (kind : FaultKind) (offset : ℕ) : Type 0 where
-  scl : IsScl source bytes
+  short : length bytes ≤ MAX_SOURCE
   place : Place
-  fault : IsFault Scl number bytes kind place
+  fault : IsFault source.language number bytes kind place
   at : place.offset ≡ offset
 
 record IsJudged (number : ℕ) (source : SourceData) (bytes : List ℕ) (judgement : Judgement) : Type 0 where
   tokens : List Token
   cut : HasTokens number source bytes tokens
-  is : Judged (lexemes_of bytes tokens) judgement
+  is : Judged source.language (lexemes_of bytes tokens) judgement
 
 abbrev Says : ℕ → SourceData → List ℕ → Saying → Type 0
 Says number source bytes large = MAX_SOURCE < length bytes
-Says number source bytes other_language = (length bytes ≤ MAX_SOURCE) × (source.language ≡ Stl)
 Says number source bytes (no_token kind offset) = HasNone number source bytes kind offset
 Says number source bytes (judged judgement) = IsJudged number source bytes judgement
 
 not_long : (bytes : List ℕ) → MAX_SOURCE < length bytes → length bytes ≤ MAX_SOURCE → ⊥
 not_long bytes more few = omega (arith, more, few)
 
-not_stl : (source : SourceData) (bytes : List ℕ) → IsScl source bytes → source.language ≡ Stl → ⊥
-not_stl source bytes scl stl = let no : Scl ≡ Stl = sym scl.language ∙ stl in absurd cc
-
 module _ (one : IsOneJudgement) (number : ℕ) (source : SourceData) (bytes : List ℕ) where
   none_cut : (kind : FaultKind) (n : ℕ) (judgement : Judgement) → HasNone number source bytes kind n → IsJudged number source bytes judgement → ⊥
-  none_cut kind n judgement r s = tokens-faultless Scl number bytes s.tokens kind r.place s.cut.cut r.fault
+  none_cut kind n judgement r s = tokens-faultless source.language number bytes s.tokens kind r.place s.cut.cut r.fault
 
   one_none : (k l : FaultKind) (m n : ℕ) → HasNone number source bytes k m → HasNone number source bytes l n → no_token k m ≡ no_token l n
   one_none k l m n r s =
-      let same = fault-one Scl number bytes k l r.place s.place r.fault s.fault in
+      let same = fault-one source.language number bytes k l r.place s.place r.fault s.fault in
       ap (λ z. no_token z m) same.0 ∙ ap (λ z. no_token l z) (sym r.at ∙ ap (λ z. z.offset) same.1 ∙ s.at)
 
   one_judged : (a b : Judgement) → IsJudged number source bytes a → IsJudged number source bytes b → a ≡ b
   one_judged a b r s =
-      one number bytes s.tokens a b s.cut.cut
-      (subst (λ (z : List Token). Judged (lexemes_of bytes z) a) (tokens-one Scl number bytes r.tokens s.tokens r.cut.cut s.cut.cut) r.is) s.is
+      one source.language number bytes s.tokens a b s.cut.cut
+      (subst (λ (z : List Token). Judged source.language (lexemes_of bytes z) a) (tokens-one source.language number bytes r.tokens s.tokens r.cut.cut s.cut.cut) r.is) s.is
 
   one_saying : (a b : Saying) → Says number source bytes a → Says number source bytes b → a ≡ b
   one_saying large large r s = refl
-  one_saying large other_language r s = absurd (not_long bytes r s.0)
-  one_saying large (no_token k n) r s = absurd (not_long bytes r s.scl.short)
-  one_saying large (judged b) r s = absurd (not_long bytes r s.cut.scl.short)
-  one_saying other_language large r s = absurd (not_long bytes s r.0)
-  one_saying other_language other_language r s = refl
-  one_saying other_language (no_token k n) r s = absurd (not_stl source bytes s.scl r.1)
-  one_saying other_language (judged b) r s = absurd (not_stl source bytes s.cut.scl r.1)
-  one_saying (no_token k n) large r s = absurd (not_long bytes s r.scl.short)
-  one_saying (no_token k n) other_language r s = absurd (not_stl source bytes r.scl s.1)
+  one_saying large (no_token k n) r s = absurd (not_long bytes r s.short)
+  one_saying large (judged b) r s = absurd (not_long bytes r s.cut.short)
+  one_saying (no_token k n) large r s = absurd (not_long bytes s r.short)
   one_saying (no_token k n) (no_token l m) r s = one_none k l n m r s
   one_saying (no_token k n) (judged b) r s = absurd (none_cut k n b r s)
-  one_saying (judged a) large r s = absurd (not_long bytes s r.cut.scl.short)
-  one_saying (judged a) other_language r s = absurd (not_stl source bytes r.cut.scl s.1)
+  one_saying (judged a) large r s = absurd (not_long bytes s r.cut.short)
   one_saying (judged a) (no_token k n) r s = absurd (none_cut k n a s r)
   one_saying (judged a) (judged b) r s = ap judged (one_judged a b r s)
 
@@ -105,7 +93,6 @@ module _ (source : SourceData) (bytes : List ℕ) where
 
   abbrev refusal_by : Saying → Option SourceRefusal
   refusal_by large = Some too_large
-  refusal_by other_language = Some (not_of_form source.file)
   refusal_by (no_token kind offset) = Some (lex kind (at offset))
   refusal_by (judged judgement) = refusal_in judgement
 
@@ -132,14 +119,9 @@ record ByRefusal (number : ℕ) (source : SourceData) (bytes : List ℕ) (refusa
 by_refusal : (number : ℕ) (source : SourceData) (bytes : List ℕ) (refusal : SourceRefusal) → RefusesSource number source bytes refusal
     → ByRefusal number source bytes refusal
 by_refusal number source bytes too_large r = record { saying = large; says = r; refused = refl }
-by_refusal number source bytes (not_of_form file) r = record {
-  saying = other_language;
-  says = (r.0, r.1);
-  refused = ap (λ z. Some (not_of_form z)) (sym r.2);
-}
 by_refusal number source bytes (lex kind text) r = record {
   saying = no_token kind r.place.offset;
-  says = record { scl = r.scl; place = r.place; fault = r.fault; at = refl };
+  says = record { short = r.short; place = r.place; fault = r.fault; at = refl };
   refused = ap (λ z. Some (lex kind z)) (sym r.is_there);
 }
 by_refusal number source bytes (outside word text) r = record {

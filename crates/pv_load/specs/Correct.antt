@@ -5,7 +5,7 @@ use Rattle.pv_load.specs.Refusals.{Refusal}
 use Rattle.pv_load.specs.Subjects.{SubjectData}
 use Rattle.pv_load.specs.Reads.{Reads, Refuses}
 
--- where the files tell what they hold, that is one thing that a command works on or one refusal, and not both
+-- where the files tell what they hold, that is one thing at most that a command works on, or one refusal at most, and not both
 pub record FilesDecideOne (files : FileMap) (file : List ℕ) : Type 0 where
   pub one_subject : (s t : SubjectData) → Reads (Some files) file s → Reads (Some files) file t → s ≡ t
   pub one_refusal : (r q : Refusal) → Refuses (Some files) file r → Refuses (Some files) file q → r ≡ q

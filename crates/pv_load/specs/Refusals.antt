@@ -16,19 +16,18 @@ pub data CaseRefusal : Type 0 where
   not_json : CaseRefusal
   broken : Kind → List ℕ → CaseRefusal
 
--- of a source: too many bytes; a language that isn't read yet, by the file's name; no token; a word outside the profile; syntax;
--- nesting
+-- of a source: too many bytes; no token; a word outside the profile; syntax; nesting
 pub data SourceRefusal : Type 0 where
   too_large : SourceRefusal
-  not_of_form : List ℕ → SourceRefusal
   lex : FaultKind → List ℕ → SourceRefusal
   outside : List ℕ → List ℕ → SourceRefusal
   syntax : List ℕ → SourceRefusal
   deep : List ℕ → SourceRefusal
 
--- of all sources together: this rule is broken there
+-- of all sources together: this rule is broken there; or a body isn't of the form that is run, in the file of this name
 pub data ProjectRefusal : Type 0 where
   rule : Rule → List ℕ → ProjectRefusal
+  not_of_form : List ℕ → ProjectRefusal
 
 -- of the entry, and of the cells: there are too many
 pub data TableRefusal : Type 0 where
@@ -67,7 +66,7 @@ refusal_status (of_fit r) = 4
 
 -- ---- their lines
 
--- of a file that can't be read, and of one of a form that isn't read
+-- of a file that can't be read, and of one that isn't of the form
 abbrev pub read_line : List ℕ → List ℕ
 read_line file = codes "plcv: read " ++ (file ++ codes "\n")
 
@@ -92,7 +91,6 @@ case_refusal_line (broken kind field) = case_line (kind_word kind) field
 
 abbrev pub source_line : SourceRefusal → List ℕ
 source_line too_large = limit_line (codes "bytes") MAX_SOURCE
-source_line (not_of_form file) = form_line file
 source_line (lex kind at) = place_line at (codes "Lex " ++ lex_word kind)
 source_line (outside word at) = place_line at (codes "Outside " ++ word)
 source_line (syntax at) = place_line at (codes "Syntax")
@@ -100,6 +98,7 @@ source_line (deep at) = place_line at (codes "Deep")
 
 abbrev pub project_line : ProjectRefusal → List ℕ
 project_line (rule r at) = place_line at (codes "Rule " ++ decimal (number_of r))
+project_line (not_of_form file) = form_line file
 
 abbrev pub table_line : TableRefusal → List ℕ
 table_line no_entry = case_line (codes "NoEntry") (codes "entry")

@@ -1,39 +1,35 @@
 -- The sources of a case, in their order: what each one's bytes read as, and why one is refused. A source is read whole before the
 -- next one's file is.
-use Rattle.std.specs.Prelude.{◌≡◌, ◌⊎◌, ◌<◌, ◌≤◌, ℕ, ◌+◌, List, [], ◌∷◌, length, Option}
+use Rattle.std.specs.Prelude.{◌≡◌, ◌⊎◌, ◌<◌, ◌≤◌, ℕ, ◌+◌, Bool, List, [], ◌∷◌, length, Option, option_map}
+use Rattle.std.specs.List.{find, list_any}
 use Rattle.pv_machine.specs.declared.place.Place.{Place}
 use Rattle.pv_edge.specs.Files.{FileMap}
-use Rattle.pv_lex.specs.declared.token.Language.TheVariants.{Scl, Stl}
 use Rattle.pv_lex.specs.declared.fault.FaultKind.{FaultKind}
 use Rattle.pv_lex.specs.declared.token.Token.{Token}
 use Rattle.pv_lex.specs.declared.lex.TheConstants.{MAX_SOURCE}
 use Rattle.pv_lex.specs.Tokens.{AreTokens, IsFault}
 use Rattle.pv_tree.specs.Tree.{BlockTree}
+use Rattle.pv_tree.specs.Scopes.{is_stl}
 use Rattle.pv_tree.specs.Lexemes.{Lexeme, lexemes_of}
 use Rattle.pv_tree.specs.Outside.{IsFirstOutside}
 use Rattle.pv_tree.specs.Reading.{ReadAsBlocks, IsRead, IsTooDeep, IsSyntaxFaultAt}
 use Rattle.pv_case.specs.Cases.{SourceData}
 use Rattle.pv_load.specs.Held.{Holds, HoldsBytes}
 use Rattle.pv_load.specs.Spots.{FileText, spot_text}
-use Rattle.pv_load.specs.Refusals.{SourceRefusal, too_large, not_of_form, lex, outside, syntax, deep}
+use Rattle.pv_load.specs.Refusals.{SourceRefusal, too_large, lex, outside, syntax, deep}
 
--- ---- one source, by its number and its bytes
+-- ---- one source, by its number and its bytes, in its language
 
--- it has no more bytes than a source may have, and is one of SCL, whose tokens are asked for
-pub record IsScl (source : SourceData) (bytes : List ℕ) : Type 0 where
-  pub short : length bytes ≤ MAX_SOURCE
-  pub language : source.language ≡ Scl
-
--- it has these tokens
+-- it has no more bytes than a source may have, and these tokens
 pub record HasTokens (number : ℕ) (source : SourceData) (bytes : List ℕ) (tokens : List Token) : Type 0 where
-  pub scl : IsScl source bytes
-  pub cut : AreTokens Scl number bytes tokens
+  pub short : length bytes ≤ MAX_SOURCE
+  pub cut : AreTokens source.language number bytes tokens
 
 -- it reads as these blocks
 pub record ReadsAs (number : ℕ) (source : SourceData) (bytes : List ℕ) (blocks : List BlockTree) : Type 0 where
   pub tokens : List Token
   pub cut : HasTokens number source bytes tokens
-  pub read : IsRead Scl (lexemes_of bytes tokens) blocks
+  pub read : IsRead source.language (lexemes_of bytes tokens) blocks
 
 -- ---- why it is refused
 
@@ -43,9 +39,9 @@ IsSpot source bytes offset at = at ≡ spot_text (record { file = source.file; b
 
 -- no token begins there
 pub record HasNoToken (number : ℕ) (source : SourceData) (bytes at : List ℕ) (kind : FaultKind) : Type 0 where
-  pub scl : IsScl source bytes
+  pub short : length bytes ≤ MAX_SOURCE
   pub place : Place
-  pub fault : IsFault Scl number bytes kind place
+  pub fault : IsFault source.language number bytes kind place
   pub is_there : IsSpot source bytes place.offset at
 
 -- the first word outside the profile stands there
@@ -53,7 +49,7 @@ pub record HasOutside (number : ℕ) (source : SourceData) (bytes word at : List
   pub tokens : List Token
   pub cut : HasTokens number source bytes tokens
   pub token : Lexeme
-  pub first : IsFirstOutside Scl (lexemes_of bytes tokens) token
+  pub first : IsFirstOutside source.language (lexemes_of bytes tokens) token
   pub spelled : word ≡ token.bytes
   pub is_there : IsSpot source bytes token.place.offset at
 
@@ -62,7 +58,7 @@ pub record HasSyntaxFault (number : ℕ) (source : SourceData) (bytes at : List 
   pub tokens : List Token
   pub cut : HasTokens number source bytes tokens
   pub place : Place
-  pub fault : IsSyntaxFaultAt (ReadAsBlocks Scl) Scl (lexemes_of bytes tokens) place
+  pub fault : IsSyntaxFaultAt (ReadAsBlocks source.language) source.language (lexemes_of bytes tokens) place
   pub is_there : IsSpot source bytes place.offset at
 
 -- what begins there is the first that nests too deep
@@ -70,13 +66,11 @@ pub record IsNestedTooDeep (number : ℕ) (source : SourceData) (bytes at : List
   pub tokens : List Token
   pub cut : HasTokens number source bytes tokens
   pub place : Place
-  pub fault : IsTooDeep Scl (lexemes_of bytes tokens) place
+  pub fault : IsTooDeep source.language (lexemes_of bytes tokens) place
   pub is_there : IsSpot source bytes place.offset at
 
 abbrev pub RefusesSource : ℕ → SourceData → List ℕ → SourceRefusal → Type 0
 RefusesSource number source bytes too_large = MAX_SOURCE < length bytes
-RefusesSource number source bytes (not_of_form file) =
-    (length bytes ≤ MAX_SOURCE) × (source.language ≡ Stl) × (file ≡ source.file)
 RefusesSource number source bytes (lex kind at) = HasNoToken number source bytes at kind
 RefusesSource number source bytes (outside word at) = HasOutside number source bytes word at
 RefusesSource number source bytes (syntax at) = HasSyntaxFault number source bytes at
@@ -88,6 +82,14 @@ RefusesSource number source bytes (deep at) = IsNestedTooDeep number source byte
 pub record ReadSource : Type 0 where
   pub text : FileText
   pub blocks : List BlockTree
+
+-- a block of it has a body of STL, be it empty
+abbrev pub has_stl : ReadSource → Bool
+has_stl source = list_any (λ b. is_stl b.body) source.blocks
+
+-- the file's name of the first of these sources of which that is so
+abbrev pub first_stl : List ReadSource → Option (List ℕ)
+first_stl sources = option_map (λ s. s.text.file) (find has_stl sources)
 
 -- the file of the source of this number holds it so
 pub record HoldsSource (told : Option FileMap) (number : ℕ) (source : SourceData) (read : ReadSource) : Type 0 where

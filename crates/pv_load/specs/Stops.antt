@@ -49,7 +49,6 @@ case_stopped case_stop.NoMemory = no_memory
 abbrev pub source_stopped : SourceStop → Stopped SourceRefusal
 source_stopped (source_stop.Unread file) = unread (string_bytes file)
 source_stopped source_stop.TooLarge = refused r.too_large
-source_stopped (source_stop.NotOfForm file) = refused (r.not_of_form (string_bytes file))
 source_stopped (source_stop.Lex kind at) = refused (r.lex kind (at_text at))
 source_stopped (source_stop.Outside word at) = refused (r.outside (string_bytes word) (at_text at))
 source_stopped (source_stop.Syntax at) = refused (r.syntax (at_text at))
@@ -58,6 +57,7 @@ source_stopped source_stop.NoMemory = no_memory
 
 abbrev pub project_stopped : ProjectStop → Stopped ProjectRefusal
 project_stopped (project_stop.Broken rule at) = refused (r.rule (rule_of rule) (at_text at))
+project_stopped (project_stop.NotOfForm file) = refused (r.not_of_form (string_bytes file))
 project_stopped project_stop.NoMemory = no_memory
 
 abbrev pub table_stopped : TableStop → Stopped TableRefusal

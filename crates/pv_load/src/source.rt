@@ -2,14 +2,14 @@
 ghost use Rattle.std.specs.Prelude.{◌≡◌, ◌++◌, ◌≤◌, ℕ, length, take, drop, codes, Some, IfOk, IfErr, string_bytes};
 ghost use Rattle.pv_machine.specs.declared.place.Place.{Place as A_place};
 ghost use Rattle.pv_lex.specs.declared.lex.TheConstants.{MAX_SOURCE};
-ghost use Rattle.pv_lex.specs.declared.token.Language.TheVariants.{Scl};
+ghost use Rattle.pv_lex.specs.declared.token.Language.TheVariants.{Scl, Stl};
 ghost use Rattle.pv_lex.specs.Tokens.{AreTokens};
 ghost use Rattle.pv_parse.specs.declared.fault.ParseFault.TheVariants.{Outside as Is_outside};
 ghost use Rattle.pv_tree.specs.View.{block_trees};
 ghost use Rattle.pv_load.specs.Words.{lex_word};
-ghost use Rattle.pv_load.specs.Refusals.{not_of_form, form_line, place_line, limit_line, source_line};
+ghost use Rattle.pv_load.specs.Refusals.{form_line, place_line, limit_line, source_line};
 ghost use Rattle.pv_load.specs.Sources.{ReadsAs};
-ghost use Rattle.pv_load.specs.Stopped.{refused, stopped_text};
+ghost use Rattle.pv_load.specs.Stopped.{stopped_text};
 ghost use Rattle.pv_load.specs.Stops.{text_tree, at_text, source_stopped, source_status, StopsAtSource};
 ghost use Rattle.pv_load.specs.Passing.{source_named, IsWordAt, lex_stopped, parse_stopped};
 ghost use Rattle.pv_load.specs.declared.source.SourceStop.TheVariants.{NoMemory};
@@ -19,7 +19,7 @@ use crate::spot::{SourceText, Spot};
 use crate::status::{NO_MEMORY, READ_FAULT, SOURCE_REFUSED, Status};
 use pv_lex::{FaultKind, Language, LexFault, MAX_SOURCE, Token, tokens};
 use pv_machine::Place;
-use pv_scl_parse::{ParseFault, parse};
+use pv_parse::ParseFault;
 use pv_tree::Blocks;
 use std::alloc::{AllocError, Global};
 use thiserror::Error;
@@ -33,9 +33,6 @@ pub enum SourceStop {
     /// It has more than [`pv_lex::MAX_SOURCE`] bytes.
     #[error("the source is too long")]
     TooLarge,
-    /// It is one of STL, which isn't read yet.
-    #[error("{file} is of a language that isn't read yet")]
-    NotOfForm { file: String },
     /// No token begins there.
     #[error("no token begins there")]
     Lex { kind: FaultKind, at: Spot },
@@ -109,7 +106,8 @@ fn outside_line(alloc: Global, at: &Spot, word: &String) -> Result<String, Alloc
     format!(in alloc; "plcv: {at}: Outside {word}\n")
 }
 
-fn form_line(alloc: Global, file: &String) -> Result<String, AllocError>
+/// The fault line of a file that isn't of the form.
+pub(crate) fn form_line(alloc: Global, file: &String) -> Result<String, AllocError>
     ensures { IfOk result (λ text. string_bytes text ≡ form_line (string_bytes file.now)) }
 {
     format!(in alloc; "plcv: form {file}\n")
@@ -129,7 +127,6 @@ impl SourceStop {
         match self {
             SourceStop::Unread { .. } => READ_FAULT,
             SourceStop::TooLarge => SOURCE_REFUSED,
-            SourceStop::NotOfForm { .. } => SOURCE_REFUSED,
             SourceStop::Lex { .. } => SOURCE_REFUSED,
             SourceStop::Outside { .. } => SOURCE_REFUSED,
             SourceStop::Syntax { .. } => SOURCE_REFUSED,
@@ -145,7 +142,6 @@ impl SourceStop {
         match self {
             SourceStop::Unread { file } => read_line(alloc, file),
             SourceStop::TooLarge => limit_line(alloc, "bytes", MAX_SOURCE),
-            SourceStop::NotOfForm { file } => form_line(alloc, file),
             SourceStop::Lex { kind, at } => lex_line(alloc, at, *kind),
             SourceStop::Outside { word, at } => outside_line(alloc, at, word),
             SourceStop::Syntax { at } => place_line(alloc, at, "Syntax"),
@@ -214,20 +210,25 @@ fn of_parse(alloc: Global, source: &SourceText, fault: ParseFault) -> Result<Sou
     }
 }
 
-/// The tokens of a source of SCL.
-fn tokens_of(alloc: Global, number: u32, source: &SourceText) -> Result<Vec<Token>, SourceStop>
+/// The tokens of a source.
+fn tokens_of(
+    alloc: Global,
+    number: u32,
+    language: Language,
+    source: &SourceText,
+) -> Result<Vec<Token>, SourceStop>
     requires { length source.now.bytes.items ≤ MAX_SOURCE }
-    ensures cut { IfOk result (λ tokens. AreTokens Scl number source.now.bytes.items tokens.items) }
-    ensures stopped { IfErr result (StopsAtSource number (source_named source.now Scl) source.now.bytes.items) }
+    ensures cut { IfOk result (λ tokens. AreTokens language number source.now.bytes.items tokens.items) }
+    ensures stopped { IfErr result (StopsAtSource number (source_named source.now language) source.now.bytes.items) }
 {
-    match tokens(alloc, number, Language::Scl, source.bytes.as_slice()) {
+    match tokens(alloc, number, language, source.bytes.as_slice()) {
         Ok(tokens) => Ok(tokens),
         Err(fault) => Err(of_lex(alloc, source, fault)?),
     }
 }
 
 /// The blocks that the tokens of a source of SCL are.
-fn parsed(
+fn scl_parsed(
     alloc: Global,
     number: u32,
     source: &SourceText,
@@ -239,7 +240,26 @@ fn parsed(
         (block_trees blocks.list.items)) }
     ensures stopped { IfErr result (StopsAtSource number (source_named source.now Scl) source.now.bytes.items) }
 {
-    match parse(alloc, source.bytes.as_slice(), tokens) {
+    match pv_scl_parse::parse(alloc, source.bytes.as_slice(), tokens) {
+        Ok(blocks) => Ok(blocks),
+        Err(fault) => Err(of_parse(alloc, source, fault)?),
+    }
+}
+
+/// The blocks that the tokens of a source of STL are.
+fn stl_parsed(
+    alloc: Global,
+    number: u32,
+    source: &SourceText,
+    tokens: &[Token],
+) -> Result<Blocks, SourceStop>
+    requires short { length source.now.bytes.items ≤ MAX_SOURCE }
+    requires cut { AreTokens Stl number source.now.bytes.items tokens.now }
+    ensures read { IfOk result (λ blocks. ReadsAs number (source_named source.now Stl) source.now.bytes.items
+        (block_trees blocks.list.items)) }
+    ensures stopped { IfErr result (StopsAtSource number (source_named source.now Stl) source.now.bytes.items) }
+{
+    match pv_stl_parse::parse(alloc, source.bytes.as_slice(), tokens) {
         Ok(blocks) => Ok(blocks),
         Err(fault) => Err(of_parse(alloc, source, fault)?),
     }
@@ -252,15 +272,19 @@ fn scl_blocks(alloc: Global, number: u32, source: &SourceText) -> Result<Blocks,
         (block_trees blocks.list.items)) }
     ensures stopped { IfErr result (StopsAtSource number (source_named source.now Scl) source.now.bytes.items) }
 {
-    let tokens = tokens_of(alloc, number, source)?;
-    parsed(alloc, number, source, tokens.as_slice())
+    let tokens = tokens_of(alloc, number, Language::Scl, source)?;
+    scl_parsed(alloc, number, source, tokens.as_slice())
 }
 
-fn not_of_form(alloc: Global, source: &SourceText) -> Result<SourceStop, AllocError>
-    ensures { IfOk result (λ stop. source_stopped stop ≡ refused (not_of_form (string_bytes source.now.file))) }
+/// The blocks of a source of STL.
+fn stl_blocks(alloc: Global, number: u32, source: &SourceText) -> Result<Blocks, SourceStop>
+    requires { length source.now.bytes.items ≤ MAX_SOURCE }
+    ensures read { IfOk result (λ blocks. ReadsAs number (source_named source.now Stl) source.now.bytes.items
+        (block_trees blocks.list.items)) }
+    ensures stopped { IfErr result (StopsAtSource number (source_named source.now Stl) source.now.bytes.items) }
 {
-    let file = String::from_str(alloc, source.file.as_str())?;
-    Ok(SourceStop::NotOfForm { file })
+    let tokens = tokens_of(alloc, number, Language::Stl, source)?;
+    stl_parsed(alloc, number, source, tokens.as_slice())
 }
 
 /// The blocks of the source of this number: its length is asked first, then its tokens, its words outside the profile, its grammar, and how
@@ -280,6 +304,6 @@ pub fn blocks_of(
     }
     match language {
         Language::Scl => scl_blocks(alloc, number, source),
-        Language::Stl => Err(not_of_form(alloc, source)?),
+        Language::Stl => stl_blocks(alloc, number, source),
     }
 }

@@ -6,12 +6,12 @@ use Rattle.std.proofs.lemmas.Bool.{cases_lt}
 use Rattle.std.proofs.lemmas.Option.{same_Some}
 use Rattle.std.proofs.Math.Nat.{le_antisymm}
 use Rattle.pv_machine.specs.declared.place.Place.{Place}
-use Rattle.pv_lex.specs.declared.token.Language.TheVariants.{Scl}
+use Rattle.pv_lex.specs.declared.token.Language.{Language}
 use Rattle.pv_tree.specs.Lexemes.{Lexeme}
 use Rattle.pv_tree.specs.Reading.{IsSyntaxFault, IsSyntaxFaultAt}
 use Rattle.pv_readings.proofs.Ends.{inner_same}
 
-module _ {Tree : Type 0} (Reads : Tree → List Lexeme → Type 0) where
+module _ {Tree : Type 0} (its : Language) (Reads : Tree → List Lexeme → Type 0) where
   -- a longer list with which some tree reads has the shorter in front
   none_before : (inner : List Lexeme) (i j : ℕ) → i < j → IsSyntaxFault Reads inner i → IsSyntaxFault Reads inner j → ⊥
   none_before inner i j less a b =
@@ -32,7 +32,7 @@ module _ {Tree : Type 0} (Reads : Tree → List Lexeme → Type 0) where
     ]
   ]
 
-  pub one_fault : (tokens : List Lexeme) (at other : Place) → IsSyntaxFaultAt Reads Scl tokens at → IsSyntaxFaultAt Reads Scl tokens other → at ≡ other
+  pub one_fault : (tokens : List Lexeme) (at other : Place) → IsSyntaxFaultAt Reads its tokens at → IsSyntaxFaultAt Reads its tokens other → at ≡ other
   one_fault tokens at other a b =
       let inner = inner_same tokens a.inner b.inner a.ended b.ended in
       let same : a.at ≡ b.at = one_at b.inner a.at b.at (subst (λ z. IsSyntaxFault Reads z a.at) inner a.fault) b.fault in

@@ -1,7 +1,7 @@
--- What is said of a source of SCL by its tokens. A fault is told by the bytes before it.
+-- What is said of a source by its tokens. A fault is told by the bytes before it.
 use Rattle.std.specs.Prelude.{◌≡◌, ℕ, List}
 use Rattle.pv_machine.specs.declared.place.Place.{Place}
-use Rattle.pv_lex.specs.declared.token.Language.TheVariants.{Scl}
+use Rattle.pv_lex.specs.declared.token.Language.{Language}
 use Rattle.pv_tree.specs.Tree.{BlockTree}
 use Rattle.pv_tree.specs.Lexemes.{Lexeme}
 use Rattle.pv_tree.specs.Outside.{IsFirstOutside}
@@ -14,10 +14,10 @@ pub data Judgement : Type 0 where
   syntax : ℕ → Judgement
   deep : ℕ → Judgement
 
-abbrev pub Judged : List Lexeme → Judgement → Type 0
-Judged tokens (read blocks) = IsRead Scl tokens blocks
-Judged tokens (outside word) = IsFirstOutside Scl tokens word
-Judged tokens (syntax offset) =
-    (place : Place) × IsSyntaxFaultAt (ReadAsBlocks Scl) Scl tokens place × (place.offset ≡ offset)
-Judged tokens (deep offset) =
-    (place : Place) × IsTooDeep Scl tokens place × (place.offset ≡ offset)
+abbrev pub Judged : Language → List Lexeme → Judgement → Type 0
+Judged its tokens (read blocks) = IsRead its tokens blocks
+Judged its tokens (outside word) = IsFirstOutside its tokens word
+Judged its tokens (syntax offset) =
+    (place : Place) × IsSyntaxFaultAt (ReadAsBlocks its) its tokens place × (place.offset ≡ offset)
+Judged its tokens (deep offset) =
+    (place : Place) × IsTooDeep its tokens place × (place.offset ≡ offset)

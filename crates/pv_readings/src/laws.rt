@@ -2,7 +2,7 @@
 ghost use Rattle.std.specs.Prelude.{◌≡◌, ℕ, List};
 ghost use Rattle.pv_types.specs.declared.name.Name.{Name};
 ghost use Rattle.pv_lex.specs.declared.token.Token.{Token};
-ghost use Rattle.pv_lex.specs.declared.token.Language.TheVariants.{Scl};
+ghost use Rattle.pv_lex.specs.declared.token.Language.{Language};
 ghost use Rattle.pv_lex.specs.Tokens.{AreTokens};
 ghost use Rattle.pv_tree.specs.Tree.{BlockTree};
 ghost use Rattle.pv_tree.specs.Lexemes.{Lexeme, lexemes_of};
@@ -12,23 +12,26 @@ ghost use Rattle.pv_readings.specs.Judgements.{Judgement, Judged};
 
 use pv_pattern_read::laws::tokens_read_as_one_expression;
 use pv_scl_parse::scl;
+use pv_stl_parse::stl;
 
-/// Tokens read as one list of blocks at most.
+/// In each language tokens read as one list of blocks at most.
 pub fn tokens_read_as_one_source()
-    ensures { (tokens : List Lexeme) (all other : List BlockTree) → ReadAsBlocks Scl all tokens
-        → ReadAsBlocks Scl other tokens → all ≡ other }
+    ensures { (its : Language) (tokens : List Lexeme) (all other : List BlockTree)
+        → ReadAsBlocks its all tokens → ReadAsBlocks its other tokens → all ≡ other }
 {
-    let _language = scl();
+    let _of_scl = scl();
+    let _of_stl = stl();
 }
 
-/// A source of SCL reads in one way at most: what is said of its tokens, be it the first word outside the profile, the place at which the syntax is
+/// A source of either language reads in one way at most: what is said of its tokens, be it the first word outside the profile, the place at which the syntax is
 /// at fault, or the list of blocks and where it first nests too deep, is the same whoever says it.
 pub fn sources_are_judged_in_one_way()
-    ensures { (file : ℕ) (text : List ℕ) (tokens : List Token) (one other : Judgement)
-        → AreTokens Scl file text tokens → Judged (lexemes_of text tokens) one
-        → Judged (lexemes_of text tokens) other → one ≡ other }
+    ensures { (its : Language) (file : ℕ) (text : List ℕ) (tokens : List Token) (one other : Judgement)
+        → AreTokens its file text tokens → Judged its (lexemes_of text tokens) one
+        → Judged its (lexemes_of text tokens) other → one ≡ other }
 {
-    let _language = scl();
+    let _of_scl = scl();
+    let _of_stl = stl();
 }
 
 /// A text, as that of a case's entry, is one name at most.

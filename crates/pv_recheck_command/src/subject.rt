@@ -1,13 +1,11 @@
 //! What a recheck works on, by all its stages up to that.
-ghost use Rattle.std.specs.Prelude.{◌≡◌, ◌≢◌, ◌≤◌, ◌∷◌, ℕ, List, [], Option, length, map, All, IfOk, IfErr, IfSome, MatchResult, string_bytes};
+ghost use Rattle.std.specs.Prelude.{◌≡◌, ◌≢◌, ◌≤◌, ◌∷◌, ℕ, List, [], Option, length, All, IfOk, IfErr, IfSome, MatchResult, string_bytes};
 ghost use Rattle.pv_edge.specs.Files.{FileMap};
 ghost use Rattle.pv_lex.specs.declared.lex.TheConstants.{MAX_SOURCE};
-ghost use Rattle.pv_tree.specs.View.{block_tree};
 ghost use Rattle.pv_case.specs.Cases.{SourceData, data_of};
 ghost use Rattle.pv_load.specs.Held.{Counts};
-ghost use Rattle.pv_load.specs.Subjects.{Given, blocks_of};
+ghost use Rattle.pv_load.specs.Subjects.{Given, blocks_of, HasNoStl};
 ghost use Rattle.pv_load.specs.Reads.{HoldsCase, ReadsSources, ReadsProject};
-ghost use Rattle.pv_check.specs.NoInstructions.{ArePlain};
 ghost use Rattle.pv_load.specs.Made.{IsCase, AreGiven, IsProjectOf};
 ghost use Rattle.pv_recheck_command.specs.Forms.{IsFirstCase, IsFirstAlone, AreFirst};
 ghost use Rattle.pv_recheck_command.specs.Rechecks.{recheck_stop_status, StopsRecheck};
@@ -18,7 +16,6 @@ use crate::recheck::RecheckStop;
 use crate::requirement::requirement_of;
 use pv_bool::Program;
 use pv_case::Case;
-use pv_check::scl_blocks_have_no_instructions;
 use pv_edge::Files;
 use pv_first_form::first_form;
 use pv_load::{Sources, case_in, project_of, sources_in, table_of};
@@ -67,19 +64,18 @@ fn source_file(case: &Case) -> Option<&String>
     }
 }
 
-/// The project of the case's source, which is one block of the first form.
+/// The project of the case's source, which is one block of the first form. Sources of SCL have no body of STL.
 fn first_project(alloc: Global, case: &Case, sources: Sources) -> Result<Project, RecheckStop>
-    requires { ArePlain (map block_tree sources.blocks.list.items) }
     ensures found { (given : Given) → data_of case.now ≡ given.case → IsFirstCase given.case
         → AreGiven sources.texts.items sources.blocks.list.items [] given
         → IfOk result (λ project. IsProjectOf given project × IsFirstAlone (blocks_of given)) }
     ensures stopped { (told : Option FileMap) (case_file file : List ℕ) (given : Given)
         → data_of case.now ≡ given.case → IsFirstCase given.case
         → AreGiven sources.texts.items sources.blocks.list.items [] given → ReadsSources told case_file given
-        → IfErr result (StopsRecheck told case_file file) }
+        → HasNoStl given → IfErr result (StopsRecheck told case_file file) }
     ensures unread { IfErr result (λ stop. recheck_stop_status stop ≢ 6) }
 {
-    let Sources { texts, blocks } = sources;
+    let Sources { texts, blocks, .. } = sources;
     let project = project_of(alloc, texts.as_slice(), blocks, Vec::new(alloc))?;
     if is_first_project(alloc, &project)? {
         return Ok(project);
@@ -140,7 +136,6 @@ pub(crate) fn first_subject_in<F: Files>(
         (λ stop. Counts (recheck_stop_status stop) (F.read_faults files.old) (F.read_faults files.new)) }
     ensures writes { F.write_faults files.new ≡ F.write_faults files.old }
 {
-    scl_blocks_have_no_instructions();
     let case = first_case_in(alloc, files, case_file)?;
     let sources = sources_in(alloc, files, &case)?;
     let project = first_project(alloc, &case, sources)?;

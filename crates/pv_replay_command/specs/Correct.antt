@@ -16,7 +16,7 @@ pub record RunsEndInOneWay (source : Source) (p : Pattern) (params : Params) (in
   pub one : (end other : End) → IsEnd source p (run source params inputs) end
       → IsEnd source p (run source params inputs) other → end ≡ other
 
--- where the files tell what they hold, a trace's file holds one trace of the source or has one line at fault, and not both
+-- where the files tell what they hold, a trace's file holds one trace of the source at most, or has one line at fault at most, and not both
 pub record FilesDecideOneTrace (files : FileMap) (file : List ℕ) (source : Source) : Type 0 where
   pub one_trace : (t u : Trace) → HoldsTrace (Some files) file source t → HoldsTrace (Some files) file source u → t ≡ u
   pub one_line : (n m : ℕ) → HoldsNoTrace (Some files) file source n → HoldsNoTrace (Some files) file source m → n ≡ m

@@ -3,7 +3,7 @@ ghost use Rattle.std.specs.Prelude.{◌≡◌, ◌+◌, ◌^◌, ◌<◌, true, 
 ghost use Rattle.std.specs.List.{AllByRecursion};
 ghost use Rattle.pv_machine.specs.Ranges.{AreWithin};
 ghost use Rattle.pv_mean.specs.Sources.{Source};
-ghost use Rattle.pv_mean.specs.Frames.{param_ranges, input_ranges};
+ghost use Rattle.pv_mean.specs.Frames.{input_ranges};
 ghost use Rattle.pv_mean.specs.Scans.{scan};
 ghost use Rattle.pv_mean.specs.Runs.{run, run_from};
 ghost use Rattle.pv_pattern.specs.Patterns.{Pattern as A_pattern};

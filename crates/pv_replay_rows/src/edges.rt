@@ -18,7 +18,7 @@ const MEMBERS: &str = "\
 \"depth\":3,\"depth\":65@4 case: OutOfLimit depth|\
 \"comment\":1@4 case: UnknownField comment|\
 \"sources\":[{\"file\":\"A.scl\",\"language\":\"scl\"}]@6 read A.scl|\
-\"sources\":[{\"file\":\"a.scl\",\"language\":\"stl\"}]@3 form a.scl|\
+\"sources\":[{\"file\":\"a.scl\",\"language\":\"stl\"}]@3 a.scl:1:89: Syntax|\
 \"sources\":[{\"file\":\"a.scl\",\"language\":\"scl\"},{\"file\":\"a.scl\",\"language\":\"scl\"}]@3 a.scl:1:16: Rule 1|\
 \"sources\":[{\"file\":\"t.txt\",\"language\":\"scl\"}]@3 t.txt:1:1: Syntax|\
 \"params\":[\"a\"],\"bind\":{\"B\":true}@8 trace: line 2";

@@ -14,3 +14,5 @@ mod replays;
 mod rows;
 #[cfg(test)]
 mod sources;
+#[cfg(test)]
+mod stl;

@@ -116,7 +116,7 @@ fn files_in(alloc: Global, part: Part, row: &str) -> Result<MemFiles, AllocError
 }
 
 /// The status and the output of an answer: `kept`, of two scans; `broken` with the scan; or a status and what its fault line says.
-fn output_of(alloc: Global, answer: &str) -> Result<String, AllocError> {
+pub(crate) fn output_of(alloc: Global, answer: &str) -> Result<String, AllocError> {
     let (first, rest) = answer.split_once(' ').unwrap_or((answer, ""));
     if first == "kept" {
         String::from_str(

@@ -26,16 +26,17 @@ fn lines(alloc: Global, text: &str) -> Result<String, AllocError> {
     Ok(out)
 }
 
-/// The files in memory: `c.json` the case, `a.scl` the source, and `t.txt` the trace.
-pub(crate) fn files_of(
+/// The files in memory: `c.json` the case, the source by this name, and `t.txt` the trace.
+pub(crate) fn named_files(
     alloc: Global,
     case: &[u8],
+    name: &[u8],
     source: &[u8],
     trace: &[u8],
 ) -> Result<MemFiles, AllocError> {
     let mut files = Vec::new(alloc);
     files.push((text(alloc, b"c.json")?, Vec::from_slice(alloc, case)?))?;
-    files.push((text(alloc, b"a.scl")?, Vec::from_slice(alloc, source)?))?;
+    files.push((text(alloc, name)?, Vec::from_slice(alloc, source)?))?;
     files.push((text(alloc, b"t.txt")?, Vec::from_slice(alloc, trace)?))?;
     Ok(MemFiles {
         files,
@@ -44,6 +45,16 @@ pub(crate) fn files_of(
         read_faults: 0,
         write_faults: 0,
     })
+}
+
+/// The same with `a.scl` as the source.
+pub(crate) fn files_of(
+    alloc: Global,
+    case: &[u8],
+    source: &[u8],
+    trace: &[u8],
+) -> Result<MemFiles, AllocError> {
+    named_files(alloc, case, b"a.scl", source, trace)
 }
 
 /// A sink that takes so many bytes at each call.

@@ -1,11 +1,11 @@
 use Rattle.std.proofs.Common.{[], refl, ◌∙◌}
 use Rattle.pv_case.specs.Cases.{data_of}
 use Rattle.pv_load.specs.declared.subject.SubjectStop.TheVariants as stop_at
-use Rattle.pv_load.proofs.ForCallers.{passed, code_short, plain_kept, is_case, held_texts, given_by, are_given, reads_kept, reads_project}
+use Rattle.pv_load.proofs.ForCallers.{passed, code_short, is_case, held_texts, given_by, are_given, reads_kept, reads_project}
 use Rattle.pv_recheck_command.specs.declared.recheck.RecheckStop.TheVariants.{Subject as At_subject}
 use Rattle.pv_recheck_command.specs.Forms.{AreFirst}
 use Rattle.pv_recheck_command.specs.Rechecks.{recheck_stop_status, StopsRecheck}
-use Rattle.pv_recheck_command.proofs.Working.{no_symbols, few_sources, stays, passed_counts, stops_source, are_first}
+use Rattle.pv_recheck_command.proofs.Working.{no_symbols, no_stl, few_sources, stays, passed_counts, stops_source, are_first}
 use Rattle.pv_recheck_command.proofs.subject.first_subject_in.Goals as goal
 
 pub returns-in_err-case-clause-stopped : goal.returns-in_err-case-clause-stopped
@@ -26,9 +26,6 @@ returns-in_err-sources-clause-stopped g c = λ file.
     c.from_residual-in_err-sources.ensures.1
     (stops_source told _ case_file (data_of c.in_ok-case.case) stop c.in_ok-case.ensures.files found.0 found.1 c.in_err-sources.ensures.stopped)
 
-pub first_project-requires : goal.first_project-requires
-first_project-requires g c = plain_kept c.scl_blocks_have_no_instructions.ensures _ _ c.in_ok-sources.sources c.in_ok-sources.ensures.found
-
 pub returns-in_err-project-clause-stopped : goal.returns-in_err-project-clause-stopped
 returns-in_err-project-clause-stopped g c = λ file.
     let told = g.F.Files.told c.args.files.now in
@@ -41,7 +38,7 @@ returns-in_err-project-clause-stopped g c = λ file.
     let are = are_given _ case sources sources.texts.items [] refl (no_symbols case found.1) has in
     let reads = reads_kept told _ case_file (data_of case) sources c.in_ok-case.ensures.files found.0 has in
     passed (StopsRecheck told case_file file) c.from_residual-in_err-project.result c.in_err-project.field-0.0
-    c.from_residual-in_err-project.ensures.1 (c.in_err-project.ensures.stopped told case_file file given refl found.1 are reads)
+    c.from_residual-in_err-project.ensures.1 (c.in_err-project.ensures.stopped told case_file file given refl found.1 are reads (no_stl _ (data_of case) has.read found.1 has.held))
 
 pub returns-in_err-project-clause-counted : goal.returns-in_err-project-clause-counted
 returns-in_err-project-clause-counted g c =
@@ -65,7 +62,8 @@ returns-in_err-program-clause-stopped g c = λ file.
     let are = are_given _ case sources sources.texts.items [] refl (no_symbols case found.1) has in
     let reads = reads_kept told _ case_file (data_of case) sources c.in_ok-case.ensures.files found.0 has in
     let made = c.in_ok-project.ensures.found given refl found.1 are in
-    let kept = reads_project told case_file given c.in_ok-project.project reads made.0 in
+    let none = no_stl _ (data_of case) has.read found.1 has.held in
+    let kept = reads_project told case_file given c.in_ok-project.project reads made.0 none in
     passed (StopsRecheck told case_file file) c.from_residual-in_err-program.result c.in_err-program.field-0.0
     c.from_residual-in_err-program.ensures.1
     (c.in_err-program.ensures.stopped told file given (is_case case) (are_first given found.1 made.1) kept made.0)
@@ -88,7 +86,8 @@ returns-clause-found g c =
     let are = are_given _ case sources sources.texts.items [] refl (no_symbols case found.1) has in
     let reads = reads_kept told _ case_file (data_of case) sources c.in_ok-case.ensures.files found.0 has in
     let made = c.in_ok-project.ensures.found given refl found.1 are in
-    let kept = reads_project told case_file given c.in_ok-project.project reads made.0 in
+    let none = no_stl _ (data_of case) has.read found.1 has.held in
+    let kept = reads_project told case_file given c.in_ok-project.project reads made.0 none in
     record {
       given = given;
       name = refl;
