@@ -1,7 +1,7 @@
 #!/usr/bin/env python3
 """Compares the reader of SCL with plain productions on random texts, by what it answers and where.
 
-Usage: agree.py [seed [count]] (1, 1,000). Builds bench/parse/main.rt.txt over pv_scl_parse in a temporary copy, and needs `rt`. A half
+Usage: agree.py [seed [count]] (1, 1,000). Builds bench/parse/main.rt.txt over both readers in a temporary copy, and needs `rt`. A half
 of the texts are sentences of the productions (productions.py), of which three in four are then changed: the reader has to read them, or
 to tell the first token with which no text goes on. The other half nest around 64 levels (nested.py). Prints each text that is answered
 otherwise, and how many there are of each answer."""
@@ -39,7 +39,7 @@ def deep(rng, mode):
 
 
 def answer(program, mode, text):
-    run = subprocess.run([program, mode, "", text, "1", "", "", ""], capture_output=True, text=True)
+    run = subprocess.run([program, "scl", mode, "", text, "1", "", "", ""], capture_output=True, text=True)
     return run.stdout.strip().split(", ")[-1] or run.stderr
 
 
@@ -48,7 +48,7 @@ def main():
     count = int(sys.argv[2]) if len(sys.argv) > 2 else 1000
     answers, wrong = collections.Counter(), 0
     with tempfile.TemporaryDirectory() as place:
-        program = built(place, "parse_bench", HERE / "main.rt.txt", ["pv_lex", "pv_parse", "pv_scl_parse"])
+        program = built(place, "parse_bench", HERE / "main.rt.txt", ["pv_lex", "pv_parse", "pv_scl_parse", "pv_stl_parse"])
         for _ in range(count):
             mode = rng.choice(["source", "source", "expression"])
             tokens, word, at = rng.choice([flat, deep])(rng, mode)
