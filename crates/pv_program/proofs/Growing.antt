@@ -1,5 +1,5 @@
 -- Programs that grow, and what stands in an array that had more put behind it.
-use Rattle.std.proofs.Common.{◌≡◌, ℕ, zero, suc, ◌+◌, ◌≤◌, List, [], ◌∷◌, ◌++◌, length, Option, Some, refl, sym, ap, ◌∙◌, subst, arith, append_assoc, length-append}
+use Rattle.std.proofs.Common.{◌≡◌, ℕ, zero, suc, ◌+◌, ◌≤◌, List, [], ◌∷◌, ◌++◌, length, take, drop, ◌-◌, Option, Some, refl, sym, ap, ◌∙◌, subst, arith, append_assoc, length-append}
 use Rattle.std.specs.Prelude.{slice_get, Vec}
 use Rattle.std.specs.declared.alloc.Global.{Global}
 use Rattle.pv_eval.specs.declared.expression.Expression.{Expression}
@@ -12,9 +12,10 @@ use Rattle.pv_run.specs.declared.program.Called.{Called}
 use Rattle.pv_run.specs.declared.program.Inward.{Inward}
 use Rattle.pv_run.specs.declared.program.Outward.{Outward}
 use Rattle.pv_run.specs.declared.program.Code.{Code}
-use Rattle.std.proofs.lemmas.List.{append-nil}
+use Rattle.std.specs.List.{between}
+use Rattle.std.proofs.lemmas.List.{append-nil, take-append-le, drop-append-le, length-drop}
 use Rattle.pv_run.specs.declared.program.Program.{Program}
-use Rattle.pv_program.specs.Growth.{HasCode, Keeps, Extends, Stands, none_stands, stands_then}
+use Rattle.pv_program.specs.Growth.{HasCode, Keeps, Continues, Extends, Stands, none_stands, stands_then}
 
 pub keeps-same : {A : Type 0} (xs : List A) → Keeps xs xs
 keeps-same xs = record { at = λ n a e. e }
@@ -31,10 +32,31 @@ stays (x ∷ xs) ys (suc n) a e = stays xs ys n a e
 pub keeps-more : {A : Type 0} (old new more : List A) → new ≡ old ++ more → Keeps old new
 keeps-more old new more e = subst (λ l. Keeps old l) (sym e) (record { at = λ n a is. stays old more n a is })
 
+pub continues-same : {A : Type 0} (xs : List A) → Continues xs xs
+continues-same xs = record { more = []; is = sym (append-nil xs) }
+
+pub continues-then : {A : Type 0} (xs ys zs : List A) → Continues xs ys → Continues ys zs → Continues xs zs
+continues-then xs ys zs p q = record {
+  more = p.more ++ q.more;
+  is = q.is ∙ ap (λ l. l ++ q.more) p.is ∙ append_assoc xs p.more q.more;
+}
+
+-- the part that stood there
+pub part-stays : {A : Type 0} (xs ys : List A) (a b : ℕ) → Continues xs ys → a ≤ b → b ≤ length xs → between a b ys ≡ between a b xs
+part-stays xs ys a b c le within =
+    ap (between a b) c.is
+    ∙ ap (take (b - a)) (drop-append-le a xs c.more (omega (arith, le, within)))
+    ∙ take-append-le (b - a) (drop a xs) c.more (omega (arith, length-drop a xs, le, within))
+
+pub part-within : {A : Type 0} (xs ys : List A) (b : ℕ) → Continues xs ys → b ≤ length xs → b ≤ length ys
+part-within xs ys b c le = omega (arith, ap length c.is, length-append xs c.more, le)
+
 pub extends-same : (p : Program) → Extends p p
 extends-same p = record {
   stmts = keeps-same p.stmts.items;
   longer = omega arith;
+  instrs = continues-same p.instrs.items;
+  ranges = omega arith;
   arms = keeps-same p.arms.items;
   branches = keeps-same p.branches.items;
   choices = keeps-same p.choices.items;
@@ -55,6 +77,8 @@ pub extends-then : (p q r : Program) → Extends p q → Extends q r → Extends
 extends-then p q r a b = record {
   stmts = keeps-then p.stmts.items q.stmts.items r.stmts.items a.stmts b.stmts;
   longer = omega (arith, a.longer, b.longer);
+  instrs = continues-then p.instrs.items q.instrs.items r.instrs.items a.instrs b.instrs;
+  ranges = omega (arith, a.ranges, b.ranges);
   arms = keeps-then p.arms.items q.arms.items r.arms.items a.arms b.arms;
   branches = keeps-then p.branches.items q.branches.items r.branches.items a.branches b.branches;
   choices = keeps-then p.choices.items q.choices.items r.choices.items a.choices b.choices;
@@ -102,6 +126,8 @@ pub with-stmts : (p : Program) (v : Vec Stmt Global) → Keeps p.stmts.items v.i
 with-stmts p v k le = let same = extends-same p in record {
   stmts = k;
   longer = le;
+  instrs = same.instrs;
+  ranges = same.ranges;
   arms = same.arms;
   branches = same.branches;
   choices = same.choices;
@@ -122,6 +148,8 @@ pub with-arms : (p : Program) (v : Vec Arm Global) → Keeps p.arms.items v.item
 with-arms p v k = let same = extends-same p in record {
   stmts = same.stmts;
   longer = same.longer;
+  instrs = same.instrs;
+  ranges = same.ranges;
   arms = k;
   branches = same.branches;
   choices = same.choices;
@@ -142,6 +170,8 @@ pub with-branches : (p : Program) (v : Vec Branch Global) → Keeps p.branches.i
 with-branches p v k = let same = extends-same p in record {
   stmts = same.stmts;
   longer = same.longer;
+  instrs = same.instrs;
+  ranges = same.ranges;
   arms = same.arms;
   branches = k;
   choices = same.choices;
@@ -162,6 +192,8 @@ pub with-choices : (p : Program) (v : Vec Choice Global) → Keeps p.choices.ite
 with-choices p v k = let same = extends-same p in record {
   stmts = same.stmts;
   longer = same.longer;
+  instrs = same.instrs;
+  ranges = same.ranges;
   arms = same.arms;
   branches = same.branches;
   choices = k;
@@ -182,6 +214,8 @@ pub with-calls : (p : Program) (v : Vec Called Global) → Keeps p.calls.items v
 with-calls p v k = let same = extends-same p in record {
   stmts = same.stmts;
   longer = same.longer;
+  instrs = same.instrs;
+  ranges = same.ranges;
   arms = same.arms;
   branches = same.branches;
   choices = same.choices;
@@ -202,6 +236,8 @@ pub with-inward : (p : Program) (v : Vec Inward Global) → Keeps p.inward.items
 with-inward p v k = let same = extends-same p in record {
   stmts = same.stmts;
   longer = same.longer;
+  instrs = same.instrs;
+  ranges = same.ranges;
   arms = same.arms;
   branches = same.branches;
   choices = same.choices;
@@ -222,6 +258,8 @@ pub with-outward : (p : Program) (v : Vec Outward Global) → Keeps p.outward.it
 with-outward p v k = let same = extends-same p in record {
   stmts = same.stmts;
   longer = same.longer;
+  instrs = same.instrs;
+  ranges = same.ranges;
   arms = same.arms;
   branches = same.branches;
   choices = same.choices;
@@ -242,6 +280,8 @@ pub with-values : (p : Program) (v : Vec Expression Global) → Keeps p.values.i
 with-values p v k = let same = extends-same p in record {
   stmts = same.stmts;
   longer = same.longer;
+  instrs = same.instrs;
+  ranges = same.ranges;
   arms = same.arms;
   branches = same.branches;
   choices = same.choices;
@@ -262,6 +302,8 @@ pub with-targets : (p : Program) (v : Vec Target Global) → Keeps p.targets.ite
 with-targets p v k = let same = extends-same p in record {
   stmts = same.stmts;
   longer = same.longer;
+  instrs = same.instrs;
+  ranges = same.ranges;
   arms = same.arms;
   branches = same.branches;
   choices = same.choices;
@@ -282,6 +324,8 @@ pub with-scratch : (p : Program) (n : ℕ) → p.scratch ≤ n → Extends p (re
 with-scratch p n le = let same = extends-same p in record {
   stmts = same.stmts;
   longer = same.longer;
+  instrs = same.instrs;
+  ranges = same.ranges;
   arms = same.arms;
   branches = same.branches;
   choices = same.choices;
@@ -302,6 +346,8 @@ pub with-widest : (p : Program) (n : ℕ) → p.widest ≤ n → Extends p (reco
 with-widest p n le = let same = extends-same p in record {
   stmts = same.stmts;
   longer = same.longer;
+  instrs = same.instrs;
+  ranges = same.ranges;
   arms = same.arms;
   branches = same.branches;
   choices = same.choices;
@@ -325,6 +371,8 @@ pub with-blocks : (p : Program) (v : Vec (Option Code) Global)
 with-blocks p v made = let same = extends-same p in record {
   stmts = same.stmts;
   longer = same.longer;
+  instrs = same.instrs;
+  ranges = same.ranges;
   arms = same.arms;
   branches = same.branches;
   choices = same.choices;

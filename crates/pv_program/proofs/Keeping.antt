@@ -1,13 +1,23 @@
 -- What was made means the same in a program that has more.
-use Rattle.std.proofs.Common.{◌≡◌, ℕ, ◌≤◌, List, Option, Some, None, refl, arith}
+use Rattle.std.proofs.Common.{◌≡◌, ℕ, ◌≤◌, List, Option, Some, None, refl, sym, subst, arith}
 use Rattle.std.specs.Prelude.{slice_get}
 use Rattle.pv_machine.specs.declared.place.Place.{Place}
 use Rattle.pv_types.specs.declared.name.Name.{Name}
 use Rattle.pv_types.specs.declared.declaration.Literal.{Literal}
-use Rattle.pv_tree.specs.Tree.{ExprTree, OperandTree, Choices, StmtTree, StmtTrees, ArmTrees, BranchTrees, ElseTree, BodyTree, scl, stl, starts, BlockTree}
+use Rattle.pv_tree.specs.Tree.{ExprTree, OperandTree, Choices, StmtTree, StmtTrees, ArmTrees, BranchTrees, ElseTree, CallPlain, InstrTree, BodyTree, scl, stl, starts, BlockTree}
 use Rattle.pv_tree.specs.Callees.{CallSite, Callee, runs, not_declared, not_callable, unknown, callee_of}
 use Rattle.pv_tree.specs.Parts.{operand_of}
 use Rattle.pv_mean.specs.Sources.{Source}
+use Rattle.pv_mean.specs.Instructions.{site_of}
+use Rattle.pv_stl_run.specs.declared.instr.Deed.{Deed}
+use Rattle.pv_stl_run.specs.declared.instr.Deed.TheVariants as deed
+use Rattle.pv_stl_run.specs.declared.instr.Instr.{Instr}
+use Rattle.pv_stl_run.specs.Code as stl
+use Rattle.pv_stl_run.specs.Code.{IsDeed, changes, joins, writes, finds_edge, loads, transfers, jumps, ends, ends_where}
+use Rattle.pv_stl_run.specs.Going.{Does, IsInstr, AreInstrs, ranges_in}
+use Rattle.pv_run.specs.declared.program.Span.{Span}
+use Rattle.pv_run.specs.declared.program.Body.{Body}
+use Rattle.pv_run.specs.declared.program.Body.TheVariants as flat
 use Rattle.pv_run.specs.declared.program.List as code
 use Rattle.pv_run.specs.declared.program.Stmt.{Stmt}
 use Rattle.pv_run.specs.declared.program.Arm.{Arm}
@@ -17,9 +27,10 @@ use Rattle.pv_run.specs.declared.program.Called.{Called}
 use Rattle.pv_run.specs.declared.program.Code.{Code}
 use Rattle.pv_run.specs.declared.program.Program.{Program}
 use Rattle.pv_run.specs.Handing.{Handed}
-use Rattle.pv_run.specs.Code.{IsValue, IsTarget, AreChoices, no_choice, choice_then, AreInward, none_in, not_given, given, GoesTo, AreOutward, none_out, not_taken, taken, RunsBlock, RunsSo, IsCall, Counts, IsStmt, assigns, assigns_call, decides, selects, counts, goes_while, repeats, exits, continues, returns, calls, nothing, AreStmts, no_stmt, stmt_then, IsBody, body_before, IsElse, nothing_else, something_else, AreArms, no_arm, arm_then, AreBranches, no_branch, branch_then, RunsBody, IsCode}
+use Rattle.pv_run.specs.Code.{IsValue, IsTarget, AreChoices, no_choice, choice_then, AreInward, none_in, not_given, given, GoesTo, AreOutward, none_out, not_taken, taken, RunsBlock, RunsSo, IsCall, Counts, IsStmt, assigns, assigns_call, decides, selects, counts, goes_while, repeats, exits, continues, returns, calls, nothing, AreStmts, no_stmt, stmt_then, IsBody, body_before, IsElse, nothing_else, something_else, AreArms, no_arm, arm_then, AreBranches, no_branch, branch_then, instrs_in, HasInstrs, RunsBody, IsCode}
 use Rattle.pv_program.specs.Growth.{HasCode, Extends}
 use Rattle.pv_program.specs.Made.{IsArm, IsBranch}
+use Rattle.pv_program.proofs.Growing.{part-stays, part-within}
 
 pub value-kept : {source : Source} {block : BlockTree} {p q : Program} {n : ℕ} {e : ExprTree} → Extends p q → IsValue source block p n e
     → IsValue source block q n e
@@ -162,13 +173,85 @@ pub branch-kept : {source : Source} {block : BlockTree} {p q : Program} {b : Bra
     → IsBranch source block p b t → IsBranch source block q b t
 branch-kept x is = record { choices = choices-kept x is.choices; body = body-kept x x.longer is.body }
 
+-- ---- instructions
+
+taken-kept : {source : Source} {block : BlockTree} {p q : Program} {n : ℕ} {o : OperandTree} → Extends p q
+    → stl.IsTarget source block p.targets.items p.scratch n o → stl.IsTarget source block q.targets.items q.scratch n o
+taken-kept {n = n} x t = record {
+  target = t.target;
+  at = x.targets.at n t.target t.at;
+  fits = omega (arith, t.fits, x.scratch);
+  names = t.names;
+}
+
+deed-kept : {source : Source} {block : BlockTree} {p q : Program} {d : Deed} {i : InstrTree} → Extends p q
+    → IsDeed source block p.targets.items p.scratch d i → IsDeed source block q.targets.items q.scratch d i
+deed-kept x (changes row) = changes row
+deed-kept x (joins o e t row) = joins o e (taken-kept x t) row
+deed-kept x (writes o e t row) = writes o e (taken-kept x t) row
+deed-kept x (finds_edge o e t row) = finds_edge o e (taken-kept x t) row
+deed-kept x (loads o e none t ty row) = loads o e none (taken-kept x t) ty row
+deed-kept x (transfers o e t ty row) = transfers o e (taken-kept x t) ty row
+deed-kept x (jumps row) = jumps row
+deed-kept x (ends row) = ends row
+deed-kept x (ends_where row) = ends_where row
+
+does-kept : (source : Source) (block : BlockTree) (i : InstrTree) (d : Deed) {p q : Program} → Extends p q
+    → Does source block p.targets.items p.scratch d i → Does source block q.targets.items q.scratch d i
+does-kept source block i (deed.Change c) x h = (h.0, deed-kept x h.1)
+does-kept source block i (deed.Join j n) x h = (h.0, deed-kept x h.1)
+does-kept source block i (deed.Write w n) x h = (h.0, deed-kept x h.1)
+does-kept source block i (deed.Edge rising n) x h = (h.0, deed-kept x h.1)
+does-kept source block i (deed.Load ty n) x h = (h.0, deed-kept x h.1)
+does-kept source block i (deed.Transfer ty n) x h = (h.0, deed-kept x h.1)
+does-kept source block i (deed.Jump w goal) x h = (h.0, deed-kept x h.1)
+does-kept source block i deed.End x h = (h.0, deed-kept x h.1)
+does-kept source block i deed.EndWhere x h = (h.0, deed-kept x h.1)
+does-kept source block i (deed.Call n) x h = h
+
+instr-kept : {source : Source} {block : BlockTree} {p q : Program} {all : List InstrTree} {code : List Instr} {k : ℕ} {c : Instr}
+    {i : InstrTree} → Extends p q → IsInstr source block p.targets.items p.scratch all code k c i
+    → IsInstr source block q.targets.items q.scratch all code k c i
+instr-kept {source} {block} {p} {q} {all} {code} {k} {c} {i} x h = record {
+  place = h.place;
+  does = does-kept source block i c.deed x h.does;
+  range = h.range;
+  jumps = h.jumps;
+  nests = h.nests;
+}
+
+are-kept : {source : Source} {block : BlockTree} {p q : Program} {all : List InstrTree} {code : List Instr} → Extends p q
+    → AreInstrs source block p.targets.items p.scratch code all → AreInstrs source block q.targets.items q.scratch code all
+are-kept x h = record {
+  same = h.same;
+  short = h.short;
+  each = λ k c i at is. instr-kept x (h.each k c i at is);
+}
+
+instrs-kept : {source : Source} {block : BlockTree} {p q : Program} {s : Span} {all : List InstrTree} → Extends p q
+    → HasInstrs source block p s all → HasInstrs source block q s all
+instrs-kept {source = source} {block = block} {p = p} {q = q} {s = s} {all = all} x h =
+    let same : instrs_in p s ≡ instrs_in q s = sym (part-stays p.instrs.items q.instrs.items s.first s.end x.instrs h.ordered h.within) in
+    record {
+      ordered = h.ordered;
+      within = part-within p.instrs.items q.instrs.items s.end x.instrs h.within;
+      are = subst (λ l. AreInstrs source block q.targets.items q.scratch l all) same (are-kept x h.are);
+      ranges = subst (λ l. ranges_in l ≤ q.ranges) same (omega (arith, h.ranges, x.ranges));
+      calls = subst (λ l. (k c : ℕ) (code : Instr) (i : InstrTree) (call : CallPlain) → slice_get l k ≡ Some code → slice_get all k ≡ Some i
+          → code.deed ≡ deed.Call c → i.call ≡ Some call → IsCall source block q c (site_of i call)) same
+          (λ k c code i call at is makes of. call-kept x (h.calls k c code i call at is makes of));
+    }
+
 -- ---- blocks
 
-pub runs-body-kept : (source : Source) (block : BlockTree) (l : code.List) {p q : Program} (body : BodyTree) → Extends p q
-    → RunsBody source block p l body → RunsBody source block q l body
-runs-body-kept source block l (scl trees) x r = stmts-kept x r
-runs-body-kept source block l (stl instructions) x r = r
-runs-body-kept source block l (starts values) x r = r
+pub runs-body-kept : (source : Source) (block : BlockTree) (b : Body) {p q : Program} (body : BodyTree) → Extends p q
+    → RunsBody source block p b body → RunsBody source block q b body
+runs-body-kept source block (flat.Statements l) (scl trees) x r = stmts-kept x r
+runs-body-kept source block (flat.Statements l) (stl instructions) x r = r
+runs-body-kept source block (flat.Statements l) (starts values) x r = r
+runs-body-kept source block (flat.Instructions s) (scl trees) x r = r
+runs-body-kept source block (flat.Instructions s) (stl instructions) x r = instrs-kept x r
+runs-body-kept source block (flat.Instructions s) (starts values) x r = r
 
 pub code-kept : {source : Source} {p q : Program} {block : BlockTree} {c : Code} → Extends p q → IsCode source p block c → IsCode source q block c
 code-kept {source = source} {block = block} {c = c} x k = record {

@@ -33,13 +33,14 @@ use Rattle.pv_mean.specs.Layout.{size_among, is_brief_in}
 use Rattle.pv_mean.specs.Activations.{value_number, brief_count}
 use Rattle.pv_mean.specs.declared.cell.Cell.{Cell}
 use Rattle.pv_mean.specs.Frames.{visible_cells, is_brief}
+use Rattle.pv_run.specs.declared.program.Body.TheVariants as flat
 use Rattle.pv_run.specs.declared.program.List as code
 use Rattle.pv_run.specs.declared.program.Stmt.{Stmt}
 use Rattle.pv_run.specs.declared.program.Called.{Called}
 use Rattle.pv_run.specs.declared.program.Code.{Code}
 use Rattle.pv_run.specs.declared.program.TheConstants.{MOST_STATEMENTS}
 use Rattle.pv_run.specs.declared.program.Program.{Program}
-use Rattle.pv_run.specs.Code.{IsStmt, AreStmts, no_stmt, IsBody, body_before, nothing_else, something_else, RunsBlock, RunsSo, IsCall, RunsBody, IsCode, IsProgram}
+use Rattle.pv_run.specs.Code.{IsStmt, AreStmts, no_stmt, IsBody, body_before, nothing_else, something_else, RunsBlock, RunsSo, IsCall, statements_end, RunsBody, IsCode, IsProgram}
 use Rattle.pv_eval.specs.Writes.{TypesOf}
 use Rattle.pv_program.specs.Growth.{Coded, Extends, Stands}
 use Rattle.pv_program.specs.Pairs.{Pairs}
@@ -184,17 +185,19 @@ body-runs : {source : Source} {block : BlockTree} {p : Program} {k : ℕ} {l : c
 body-runs (body_before end are) = are
 
 pub scl-runs : (source : Source) (block : BlockTree) (p : Program) (l : code.List) (b : Body) (v : Vec code_tree.Stmt Global)
-    (xs : List code_tree.Stmt) → b ≡ body.Scl v → xs ≡ v.items → IsList source block p l (stmt_trees xs) → RunsBody source block p l (body_tree b)
+    (xs : List code_tree.Stmt) → b ≡ body.Scl v → xs ≡ v.items → IsList source block p l (stmt_trees xs)
+    → RunsBody source block p (flat.Statements l) (body_tree b)
 scl-runs source block p l b v xs is same made =
-    subst (λ x. RunsBody source block p l (body_tree x)) (sym is) (body-runs (list-as xs v.items same made))
+    subst (λ x. RunsBody source block p (flat.Statements l) (body_tree x)) (sym is) (body-runs (list-as xs v.items same made))
 
 pub starts-runs : (source : Source) (block : BlockTree) (p : Program) (b : Body) (v : Vec (Operand × Literal) Global) → b ≡ body.Starts v
-    → RunsBody source block p (record { first = 0; end = 0 }) (body_tree b)
-starts-runs source block p b v is = subst (λ x. RunsBody source block p (record { first = 0; end = 0 }) (body_tree x)) (sym is) refl
+    → RunsBody source block p (flat.Statements (record { first = 0; end = 0 })) (body_tree b)
+starts-runs source block p b v is =
+    subst (λ x. RunsBody source block p (flat.Statements (record { first = 0; end = 0 })) (body_tree x)) (sym is) refl
 
 pub code-made : {source : Source} {p q : Program} (block seen : BlockTree) (c : Code) → Extends p q → seen ≡ block
     → c.value ≡ value_number source block → (c.value ≡ value_number source seen → c.brief ≡ brief_count source seen) → c.brief ≤ q.widest
-    → c.body.end < MOST_STATEMENTS → RunsBody source block p c.body seen.body → IsCode source q block c
+    → statements_end c.body < MOST_STATEMENTS → RunsBody source block p c.body seen.body → IsCode source q block c
 code-made {source} {p} {q} block seen c x is value brief widest short body-is = record {
   brief = brief (value ∙ ap (value_number source) (sym is)) ∙ ap (brief_count source) is;
   widest = widest;

@@ -1,5 +1,5 @@
 -- Programs that grow: what stands in an array stays where it is.
-use Rattle.std.specs.Prelude.{◌≡◌, ℕ, ◌+◌, ◌≤◌, List, [], ◌∷◌, length, slice_get, slice_index_or, Option, Some, None}
+use Rattle.std.specs.Prelude.{◌≡◌, ℕ, ◌+◌, ◌≤◌, List, [], ◌∷◌, ◌++◌, length, slice_get, slice_index_or, Option, Some, None}
 use Rattle.pv_run.specs.declared.program.Called.{Called}
 use Rattle.pv_run.specs.declared.program.Code.{Code}
 use Rattle.pv_run.specs.declared.program.Program.{Program}
@@ -15,10 +15,17 @@ HasCode p n = Coded p.blocks.items n
 pub record Keeps {A : Type 0} (old new : List A) : Type 0 where
   pub at : (n : ℕ) (a : A) → slice_get old n ≡ Some a → slice_get new n ≡ Some a
 
+-- more was put behind what stood there
+pub record Continues {A : Type 0} (old new : List A) : Type 0 where
+  pub more : List A
+  pub is : new ≡ old ++ more
+
 -- everything that stood in a program stands there still
 pub record Extends (old new : Program) : Type 0 where
   pub stmts : Keeps old.stmts.items new.stmts.items
   pub longer : length old.stmts.items ≤ length new.stmts.items
+  pub instrs : Continues old.instrs.items new.instrs.items
+  pub ranges : old.ranges ≤ new.ranges
   pub arms : Keeps old.arms.items new.arms.items
   pub branches : Keeps old.branches.items new.branches.items
   pub choices : Keeps old.choices.items new.choices.items

@@ -15,7 +15,7 @@ use crate::grow::widen;
 use crate::stmt::make_list;
 use pv_mean::BEYOND;
 use pv_resolve::{Context, ResolveFault};
-use pv_run::{Code, List, MOST_STATEMENTS, Program};
+use pv_run::{Body as CodeBody, Code, List, MOST_STATEMENTS, Program};
 use pv_tree::{Block, Body};
 use pv_word::Ty;
 use std::alloc::Global;
@@ -76,19 +76,19 @@ fn add_body(
     context: &Context,
     program: &mut Program,
     body: &Body,
-) -> Result<List, ProgramFault>
+) -> Result<CodeBody, ProgramFault>
     ensures grows { OnOk result (Extends program.old program.new) }
     ensures runs { (source : Source) → IsContext context.now source
-        → IfOk result (λ l. RunsBody source (block_in context.now) program.new l
+        → IfOk result (λ b. RunsBody source (block_in context.now) program.new b
         (body_tree body.now)) }
 {
     match body {
         Body::Scl(list) => {
             let made = make_list(alloc, context, program, list.as_slice())?;
-            Ok(made)
+            Ok(CodeBody::Statements(made))
         }
         Body::Stl(_) => Err(ProgramFault::Stl),
-        Body::Starts(_) => Ok(List { first: 0, end: 0 }),
+        Body::Starts(_) => Ok(CodeBody::Statements(List { first: 0, end: 0 })),
     }
 }
 
@@ -105,7 +105,7 @@ pub(crate) fn add_code(
     let block = context.scope.entry.block();
     let value = value_number(context)?;
     let body = add_body(alloc, context, program, &block.body)?;
-    if body.end >= MOST_STATEMENTS {
+    if body.statements_end() >= MOST_STATEMENTS {
         return Err(ProgramFault::NoMemory);
     }
     let brief = brief_count(block, value);

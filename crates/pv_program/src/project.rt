@@ -19,7 +19,7 @@ use pv_machine::Role;
 use pv_mean::{Cell, Sizes};
 use pv_names::{Entry, Scope, Tables, entries};
 use pv_resolve::{AreaBytes, context_of};
-use pv_run::{Code, List, Program};
+use pv_run::{Body, Code, List, Program};
 use pv_tree::Project;
 use pv_word::Ty;
 use std::alloc::{AllocError, Global};
@@ -58,7 +58,7 @@ fn visible_types(alloc: Global, cells: &[Cell]) -> Result<Vec<Ty>, AllocError>
 
 /// What stands for the code of a block while a program is made.
 const NOT_MADE: Code = Code {
-    body: List { first: 0, end: 0 },
+    body: Body::Statements(List { first: 0, end: 0 }),
     brief: 0,
     value: 0,
 };
@@ -77,6 +77,7 @@ fn begun(
 {
     Ok(Program {
         stmts: Vec::new(alloc),
+        instrs: Vec::new(alloc),
         arms: Vec::new(alloc),
         branches: Vec::new(alloc),
         choices: Vec::new(alloc),
@@ -91,6 +92,7 @@ fn begun(
         bound,
         scratch: 0,
         widest: 0,
+        ranges: 0,
     })
 }
 

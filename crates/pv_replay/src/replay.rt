@@ -9,6 +9,7 @@ use crate::image;
 use pv_machine::Role;
 use pv_mean::{CaseView, Cell};
 use pv_run::{MOST_CALLS, Program};
+use pv_stl_run::Turn;
 use std::alloc::{AllocError, Global};
 
 /// The runs of a project by a case: what is stored from scan to scan, and the visible cells of the last scan.
@@ -23,9 +24,11 @@ pub struct Replay<'a> {
     /// The visible cells at the last scan's beginning and end.
     begin: Vec<i128>,
     end: Vec<i128>,
-    /// The visible cells at work, the brief cells of the blocks that call each other, and the values of an expression.
+    /// The visible cells at work, the brief cells and the turns of ranges of the blocks that call each other, and the values of an
+    /// expression.
     values: Vec<i64>,
     brief: Vec<Option<i64>>,
+    turns: Vec<Turn>,
     scratch: Vec<i64>,
     ready: bool,
     ghost stored: { length image.items ≡ stored_count roles.items },
@@ -36,6 +39,7 @@ pub struct Replay<'a> {
     ghost long_beginning: { All IsLong begin.items },
     ghost long_ending: { All IsLong end.items },
     ghost room: { (most_calls + 1) * program.widest ≤ length brief.items },
+    ghost turning: { (most_calls + 1) * program.ranges ≤ length turns.items },
     ghost space: { program.scratch ≤ length scratch.items },
 }
 
@@ -77,6 +81,16 @@ fn brief_cells(alloc: Global, widest: usize) -> Result<Vec<Option<i64>>, AllocEr
     }
 }
 
+/// The turns of ranges of eight blocks, of which none has more ranges than these.
+fn turns_of_ranges(alloc: Global, ranges: usize) -> Result<Vec<Turn>, AllocError>
+    ensures { IfOk result (λ turns. (most_calls + 1) * ranges ≤ length turns.items) }
+{
+    match ranges.checked_mul(MOST_CALLS as usize + 1) {
+        Some(room) => vec![in alloc; Turn { at: 0, left: 0 }; room],
+        None => Err(AllocError),
+    }
+}
+
 impl<'a> Replay<'a> {
     ghost use Rattle.pv_machine.specs.Ranges.{AreWithin};
     ghost use Rattle.pv_mean.specs.Sources.{Source};
@@ -107,6 +121,7 @@ impl<'a> Replay<'a> {
         let end = vec![in alloc; 0; roles.len()]?;
         let values = vec![in alloc; 0; roles.len()]?;
         let brief = brief_cells(alloc, program.widest)?;
+        let turns = turns_of_ranges(alloc, program.ranges)?;
         let scratch = vec![in alloc; 0; program.scratch]?;
         Ok(Replay {
             view,
@@ -118,6 +133,7 @@ impl<'a> Replay<'a> {
             end,
             values,
             brief,
+            turns,
             scratch,
             ready: false,
         })
@@ -171,9 +187,12 @@ impl<'a> Replay<'a> {
     {
         image::begin(&self.roles, &self.image, input, &mut self.values);
         image::widen(&self.values, &mut self.begin);
-        let ran = self
-            .program
-            .run(&mut self.values, &mut self.brief, &mut self.scratch);
+        let ran = self.program.run(
+            &mut self.values,
+            &mut self.brief,
+            &mut self.turns,
+            &mut self.scratch,
+        );
         match ran {
             Ok(()) => {
                 image::widen(&self.values, &mut self.end);

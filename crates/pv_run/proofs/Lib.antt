@@ -12,3 +12,4 @@ mod Passing
 mod Statements
 mod Turning
 mod Blocks
+mod Instrs

@@ -4,18 +4,23 @@ use Rattle.pv_machine.specs.declared.place.Place.{Place}
 use Rattle.pv_types.specs.declared.name.Name.{Name}
 use Rattle.pv_types.specs.declared.declaration.Literal.{Literal}
 use Rattle.pv_tree.specs.declared.stmt.Choice as tree
-use Rattle.pv_tree.specs.Tree.{ExprTree, OperandTree, CallPlain, ArgTree, Choices, StmtTree, assign, assign_call, if_, case_, for_, while_, repeat_, exit_, continue_, return_, call_, empty_, StmtTrees, no_stmts, stmts, ArmTrees, no_arms, arms, BranchTrees, no_branches, branches, ElseTree, no_else, else_, BodyTree, scl, stl, starts, BlockTree}
+use Rattle.pv_tree.specs.Tree.{ExprTree, OperandTree, CallPlain, ArgTree, Choices, StmtTree, assign, assign_call, if_, case_, for_, while_, repeat_, exit_, continue_, return_, call_, empty_, StmtTrees, no_stmts, stmts, ArmTrees, no_arms, arms, BranchTrees, no_branches, branches, ElseTree, no_else, else_, InstrTree, BodyTree, scl, stl, starts, BlockTree}
 use Rattle.pv_tree.specs.Callees.{as_statement, as_value, CallSite, Callee, runs, not_declared, not_callable, unknown, callee_of}
 use Rattle.pv_tree.specs.Parts.{operand_of}
+use Rattle.std.specs.List.{between}
 use Rattle.pv_mean.specs.Sources.{Source}
 use Rattle.pv_mean.specs.Spots as m
 use Rattle.pv_mean.specs.Activations.{value_number, brief_count}
 use Rattle.pv_mean.specs.Statements.{choice_value, step_of, counter}
 use Rattle.pv_mean.specs.Calls.{instance_first}
+use Rattle.pv_mean.specs.Instructions.{site_of}
 use Rattle.pv_eval.specs.declared.expression.Expression.{Expression}
 use Rattle.pv_eval.specs.declared.target.Target.{Target}
 use Rattle.pv_eval.specs.Means.{Means, Names, activation}
 use Rattle.pv_eval.specs.Writes.{TypesOf}
+use Rattle.pv_stl_run.specs.declared.instr.Instr.{Instr}
+use Rattle.pv_stl_run.specs.declared.instr.Deed.TheVariants as deed
+use Rattle.pv_stl_run.specs.Going.{AreInstrs, ranges_in}
 use Rattle.pv_run.specs.declared.program.TheConstants.{MOST_STATEMENTS}
 use Rattle.pv_run.specs.declared.program.Span.{Span}
 use Rattle.pv_run.specs.declared.program.List as code
@@ -32,6 +37,8 @@ use Rattle.pv_run.specs.declared.program.Slot.TheVariants as slot
 use Rattle.pv_run.specs.declared.program.Inward.{Inward}
 use Rattle.pv_run.specs.declared.program.Outward.{Outward}
 use Rattle.pv_run.specs.declared.program.Called.{Called}
+use Rattle.pv_run.specs.declared.program.Body.{Body}
+use Rattle.pv_run.specs.declared.program.Body.TheVariants as body
 use Rattle.pv_run.specs.declared.program.Code.{Code}
 use Rattle.pv_run.specs.declared.program.Program.{Program}
 use Rattle.pv_run.specs.Handing.{Handed, handed_in, handed_out, argument_of}
@@ -246,16 +253,41 @@ mutual
 
 -- ---- blocks
 
--- a body of SCL; there is no code of one of STL yet
-abbrev pub RunsBody : Source → BlockTree → Program → code.List → BodyTree → Type 0
-RunsBody source block p l (scl trees) = AreStmts source block p l.first l.end trees
-RunsBody source block p l (stl instructions) = ⊥
-RunsBody source block p l (starts values) = l.first ≡ l.end
+-- where a body's statements end, if it has any
+abbrev pub statements_end : Body → ℕ
+statements_end (body.Statements l) = l.end
+statements_end (body.Instructions s) = 0
+
+abbrev pub instrs_in : Program → Span → List Instr
+instrs_in p s = between s.first s.end p.instrs.items
+
+-- a part of the instructions: each is what its code says, and the number of a call is that of the call that it makes
+pub record HasInstrs (source : Source) (block : BlockTree) (p : Program) (s : Span)
+    (all : List InstrTree) : Type 0 where
+  pub ordered : s.first ≤ s.end
+  pub within : s.end ≤ length p.instrs.items
+  pub are : AreInstrs source block p.targets.items p.scratch (instrs_in p s) all
+  pub ranges : ranges_in (instrs_in p s) ≤ p.ranges
+  pub calls : (k c : ℕ) (code : Instr) (i : InstrTree) (call : CallPlain)
+      → slice_get (instrs_in p s) k ≡ Some code → slice_get all k ≡ Some i
+      → code.deed ≡ deed.Call c → i.call ≡ Some call
+      → IsCall source block p c (site_of i call)
+
+-- a body: statements of SCL, or instructions of STL
+abbrev pub RunsBody : Source → BlockTree → Program → Body → BodyTree → Type 0
+RunsBody source block p (body.Statements l) (scl trees) =
+    AreStmts source block p l.first l.end trees
+RunsBody source block p (body.Statements l) (stl instructions) = ⊥
+RunsBody source block p (body.Statements l) (starts values) = l.first ≡ l.end
+RunsBody source block p (body.Instructions s) (scl trees) = ⊥
+RunsBody source block p (body.Instructions s) (stl instructions) =
+    HasInstrs source block p s instructions
+RunsBody source block p (body.Instructions s) (starts values) = ⊥
 
 pub record IsCode (source : Source) (p : Program) (block : BlockTree) (c : Code) : Type 0 where
   pub brief : c.brief ≡ brief_count source block
   pub widest : c.brief ≤ p.widest
-  pub short : c.body.end < MOST_STATEMENTS
+  pub short : statements_end c.body < MOST_STATEMENTS
   pub value : c.value ≡ value_number source block
   pub body : RunsBody source block p c.body block.body
 

@@ -5,6 +5,8 @@ use Rattle.pv_mean.specs.Endings.{Ended, ended, trapped, over, Ending, normal, a
 use Rattle.pv_mean.specs.Spots as m
 use Rattle.pv_eval.specs.declared.node.Spot.{Spot}
 use Rattle.pv_eval.specs.Operands.{spot_of}
+use Rattle.pv_stl_run.specs.declared.stop.Stop as stl
+use Rattle.pv_stl_run.specs.declared.stop.Stop.TheVariants as stl_stop
 use Rattle.pv_run.specs.declared.stop.Stop.{Stop}
 use Rattle.pv_run.specs.declared.stop.Stop.TheVariants as stop
 use Rattle.pv_run.specs.declared.stop.Flow.{Flow}
@@ -57,3 +59,8 @@ behind_turn flow.Return = Some flow.Return
 abbrev pub spot_end : Result Spot Stop → Ended m.Spot
 spot_end (Ok spot) = ended (spot_of spot)
 spot_end (Err s) = stop_end s
+
+-- why instructions stop
+abbrev pub stop_from : stl.Stop → Stop
+stop_from (stl_stop.Trap t) = stop.Trap t
+stop_from (stl_stop.Over place) = stop.Over place

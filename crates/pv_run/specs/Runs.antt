@@ -1,7 +1,7 @@
 -- What the code that runs promises, for any source and block that its arrays mean.
 use Rattle.std.specs.Prelude.{◌≡◌, ℕ, ◌+◌, ◌*◌, ◌<◌, ◌≤◌, ◌^◌, ℤ, List, map, Option, Some, None, Result, Ok, Err, Bool as Truth}
 use Rattle.pv_machine.specs.declared.place.Place.{Place}
-use Rattle.pv_tree.specs.Tree.{StmtTree, StmtTrees, ExprTree, BlockTree}
+use Rattle.pv_tree.specs.Tree.{StmtTree, StmtTrees, ExprTree, InstrTree, BodyTree, BlockTree}
 use Rattle.pv_tree.specs.Callees.{CallSite, runs, callee_of}
 use Rattle.pv_mean.specs.Sources.{Source}
 use Rattle.pv_mean.specs.Frames.{Frame}
@@ -9,13 +9,15 @@ use Rattle.pv_mean.specs.Endings.{Tried, got, Ended, ended, end_of, and_end, End
 use Rattle.pv_mean.specs.Values.{value, is_true}
 use Rattle.pv_mean.specs.Statements as m
 use Rattle.pv_mean.specs.Statements.{Returned, run_stmt, run_stmts, while_turns, repeat_turns, for_turns}
-use Rattle.pv_mean.specs.Calls.{calls_within, not_made, instance_first, Linked, copy_all_in, copy_all_out}
+use Rattle.pv_mean.specs.InstructionRuns.{run_stl}
+use Rattle.pv_mean.specs.Calls.{run_code, calls_within, not_made, instance_first, Linked, copy_all_in, copy_all_out}
 use Rattle.pv_eval.specs.Operands.{spot_of}
 use Rattle.pv_eval.specs.Means.{activation}
 use Rattle.pv_run.specs.declared.program.List as code
 use Rattle.pv_run.specs.declared.program.Stmt.{Stmt}
 use Rattle.pv_run.specs.declared.program.Program.{Program}
 use Rattle.pv_run.specs.declared.program.At.{At}
+use Rattle.pv_run.specs.declared.program.Body.{Body}
 use Rattle.pv_run.specs.declared.stop.Stop.{Stop}
 use Rattle.pv_run.specs.declared.stop.Flow.{Flow}
 use Rattle.pv_eval.specs.Writes.{TypesOf}
@@ -23,15 +25,16 @@ use Rattle.pv_run.specs.declared.program.Span.{Span}
 use Rattle.pv_run.specs.declared.counting.Begun.{Begun}
 use Rattle.pv_run.specs.declared.callee.Started.{Started}
 use Rattle.pv_run.specs.Handing.{Handed, passed_from}
-use Rattle.pv_run.specs.Code.{IsProgram, IsValue, IsStmt, AreStmts, IsBody, IsCall, AreInward, AreOutward, RunsBlock, IsCode}
-use Rattle.pv_run.specs.Ends.{stop_end, ending_of}
+use Rattle.pv_run.specs.Code.{IsProgram, IsValue, IsStmt, AreStmts, IsBody, IsCall, AreInward, AreOutward, RunsBlock, IsCode, RunsBody, HasInstrs}
+use Rattle.pv_run.specs.Ends.{stop_end, ending_of, end_in}
 
 abbrev pub frame_in : List ℤ → List (Option ℤ) → Frame
 frame_in visible brief = record { visible = visible; brief = brief }
 
--- a block at work has so many brief cells for the blocks that it calls, and so many values to evaluate with
-pub record HasRoom (p : Program) (at : At) (under room : ℕ) : Type 0 where
+-- a block at work has so many brief cells and turns for the blocks that it calls, and so many values to evaluate with
+pub record HasRoom (p : Program) (at : At) (under turns room : ℕ) : Type 0 where
   pub below : at.calls * p.widest ≤ under
+  pub ranges : at.calls * p.ranges ≤ turns
   pub scratch : p.scratch ≤ room
   pub first : at.first + at.calls * 2 ^ 16 < 2 ^ 32
 
@@ -67,6 +70,22 @@ RunsStmt p k c at before result after = (source : Source) (block : BlockTree) (t
     → IsStmt source block p k c tree
     → ending_of result after ≡ run_stmt source (calls_within source at.calls)
     (activation block at.first) tree before
+
+-- a body, in the frame of its block
+abbrev pub RunsCode : Program → Body → At → Frame → Result Unit Stop → Frame → Type 0
+RunsCode p b at before result after = (source : Source) (block : BlockTree) (body : BodyTree)
+    → IsProgram source p
+    → RunsBody source block p b body
+    → end_in (λ done. after) result ≡ run_code source (calls_within source at.calls)
+    (activation block at.first) body before
+
+abbrev pub RunsInstrs : Program → Span → At → Frame → Result Unit Stop → Frame → Type 0
+RunsInstrs p s at before result after = (source : Source) (block : BlockTree)
+    (all : List InstrTree)
+    → IsProgram source p
+    → HasInstrs source block p s all
+    → end_in (λ done. after) result ≡ run_stl source (calls_within source at.calls)
+    (activation block at.first) all before
 
 -- a call, and the value that it leaves
 abbrev pub returned_of : Result (Option ℤ) Stop → Frame → Ended Returned

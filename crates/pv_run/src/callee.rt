@@ -1,6 +1,6 @@
 //! The block that a call begins.
 ghost use Rattle.std.specs.Prelude.{◌≡◌, ◌+◌, ◌*◌, ◌<◌, ◌^◌, IfSome};
-ghost use Rattle.pv_run.specs.Code.{first_of};
+ghost use Rattle.pv_run.specs.Code.{first_of, statements_end};
 ghost use Rattle.pv_run.specs.Runs.{Starts};
 
 use crate::program::{At, Called, Code, First, MOST_STATEMENTS, Program};
@@ -31,7 +31,7 @@ impl Program {
         requires { at.first + at.calls * 2 ^ 16 < 2 ^ 32 }
         ensures starts { Starts self.now c at result }
         ensures calls { IfSome result (λ s. at.calls ≡ s.at.calls + 1) }
-        ensures short { IfSome result (λ s. s.code.body.end < MOST_STATEMENTS) }
+        ensures short { IfSome result (λ s. statements_end s.code.body < MOST_STATEMENTS) }
         ensures first { IfSome result (λ s. s.at.first + s.at.calls * 2 ^ 16 < 2 ^ 32) }
     {
         if at.calls == 0 {
@@ -46,7 +46,7 @@ impl Program {
         let Some(code) = self.code(n) else {
             return None;
         };
-        if code.body.end >= MOST_STATEMENTS {
+        if code.body.statements_end() >= MOST_STATEMENTS {
             return None;
         }
         Some(Started {

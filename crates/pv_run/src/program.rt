@@ -1,9 +1,10 @@
 //! A program: the bodies of a project's blocks with their names found.
-ghost use Rattle.std.specs.Prelude.{◌≡◌, ◌≤◌};
-ghost use Rattle.pv_run.specs.Code.{code_at};
+ghost use Rattle.std.specs.Prelude.{◌≡◌, ◌≤◌, length};
+ghost use Rattle.pv_run.specs.Code.{code_at, statements_end, instrs_in};
 
 use pv_eval::{Expression, Target};
 use pv_machine::Place;
+use pv_stl_run::Instr;
 use pv_word::Ty;
 
 /// Each body ends before the statement of this number.
@@ -140,10 +141,17 @@ pub struct Called {
     pub place: Place,
 }
 
+/// The body of a block: statements, or a part of the instructions.
+#[derive(Clone, Copy)]
+pub enum Body {
+    Statements(List),
+    Instructions(Span),
+}
+
 /// A block's body, how many brief cells it has, and which of them is the value of a function.
 #[derive(Clone, Copy)]
 pub struct Code {
-    pub body: List,
+    pub body: Body,
     pub brief: u32,
     pub value: u32,
 }
@@ -152,6 +160,7 @@ pub struct Code {
 #[derive(Drop)]
 pub struct Program {
     pub stmts: Vec<Stmt>,
+    pub instrs: Vec<Instr>,
     pub arms: Vec<Arm>,
     pub branches: Vec<Branch>,
     pub choices: Vec<Choice>,
@@ -172,6 +181,8 @@ pub struct Program {
     pub scratch: usize,
     /// How many brief cells one of these blocks has at most.
     pub widest: usize,
+    /// How many ranges begin in one of the bodies of instructions at most.
+    pub ranges: usize,
 }
 
 /// A block at work: the first visible cell of its instance, and how many calls may still stand behind one another.
@@ -179,6 +190,18 @@ pub struct Program {
 pub struct At {
     pub first: u32,
     pub calls: u32,
+}
+
+impl Body {
+    /// Where its statements end, if it has any.
+    pub fn statements_end(self) -> u32
+        ensures { result ≡ statements_end self }
+    {
+        match self {
+            Body::Statements(list) => list.end,
+            Body::Instructions(_) => 0,
+        }
+    }
 }
 
 impl List {
@@ -195,6 +218,18 @@ impl List {
 }
 
 impl Program {
+    /// The instructions of a body.
+    pub(crate) fn instrs_in(&self, span: Span) -> &[Instr]
+        ensures { span.first ≤ span.end → span.end ≤ length self.now.instrs.items
+            → result.now ≡ instrs_in self.now span }
+    {
+        if span.first <= span.end && (span.end as usize) <= self.instrs.len() {
+            &self.instrs[span.first as usize..span.end as usize]
+        } else {
+            &[]
+        }
+    }
+
     /// The code of the block of this number, if there is one.
     pub(crate) fn code(&self, n: u32) -> Option<Code>
         ensures { result ≡ code_at self.now n }

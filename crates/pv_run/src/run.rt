@@ -5,16 +5,17 @@ ghost use Rattle.pv_mean.specs.Cells.{most_calls};
 ghost use Rattle.pv_mean.specs.Scans.{scan_from};
 ghost use Rattle.pv_eval.specs.Operands.{IsSpot};
 ghost use Rattle.pv_run.specs.declared.program.TheConstants.{MOST_STATEMENTS};
-ghost use Rattle.pv_run.specs.Code.{IsProgram};
+ghost use Rattle.pv_run.specs.Code.{IsProgram, statements_end};
 ghost use Rattle.pv_run.specs.Ends.{end_in};
-ghost use Rattle.pv_run.specs.Runs.{frame_in, HasRoom, RunsList, RunsStmt, RunsCall, RunsWhile, RunsRepeat, RunsFor, RunsBegun};
+ghost use Rattle.pv_run.specs.Runs.{frame_in, HasRoom, RunsList, RunsStmt, RunsCall, RunsWhile, RunsRepeat, RunsFor, RunsBegun, RunsCode, RunsInstrs};
 
 use crate::callee::Started;
 use crate::counting::{Begun, is_on_the_way};
-use crate::program::{At, Counting, List, Program, Span, Stmt};
+use crate::program::{At, Body, Counting, List, Program, Span, Stmt};
 use crate::stop::{Flow, Stop};
 use pv_eval::Trap;
 use pv_machine::{Place, TrapKind};
+use pv_stl_run::{Going, Turn};
 
 /// How many calls may stand behind one another: a chain of calls has eight blocks at most.
 pub const MOST_CALLS: u32 = 7;
@@ -46,6 +47,15 @@ impl Program {
         (brief as usize).min(self.widest)
     }
 
+    /// How many turns a body takes for the ranges that it enters, where so many are at hand.
+    fn own_turns(&self, most: usize) -> usize
+        ensures same { self.now.ranges ≤ most → result ≡ self.now.ranges }
+        ensures within { result ≤ most }
+        ensures few { result ≤ self.now.ranges }
+    {
+        self.ranges.min(most)
+    }
+
     /// Runs statements one behind the other.
     #[cycle(run)]
     fn run_list(
@@ -55,16 +65,17 @@ impl Program {
         visible: &mut [i64],
         own: &mut [Option<i64>],
         below: &mut [Option<i64>],
+        turns: &mut [Turn],
         scratch: &mut [i64],
     ) -> Result<Flow, Stop>
-        requires { HasRoom self.now at (length below.old) (length scratch.old) }
+        requires { HasRoom self.now at (length below.old) (length turns.old) (length scratch.old) }
         ensures { RunsList self.now list at (frame_in visible.old own.old) result (frame_in visible.new own.new) }
     {
         for k in list.first..list.end {
             let Some(stmt) = self.stmts.get(k as usize) else {
                 return Ok(Flow::Normal);
             };
-            match self.run_stmt(k, stmt, at, visible, own, below, scratch) {
+            match self.run_stmt(k, stmt, at, visible, own, below, turns, scratch) {
                 Ok(flow) => {
                     if !flow.is_normal() {
                         return Ok(flow);
@@ -86,9 +97,10 @@ impl Program {
         visible: &mut [i64],
         own: &mut [Option<i64>],
         below: &mut [Option<i64>],
+        turns: &mut [Turn],
         scratch: &mut [i64],
     ) -> Result<Flow, Stop>
-        requires { HasRoom self.now at (length below.old) (length scratch.old) }
+        requires { HasRoom self.now at (length below.old) (length turns.old) (length scratch.old) }
         ensures { RunsStmt self.now k stmt.now at (frame_in visible.old own.old) result (frame_in visible.new own.new) }
     {
         match stmt {
@@ -103,7 +115,7 @@ impl Program {
                 target,
                 place,
             } => {
-                match self.run_call(*call, at, visible, own, below, scratch) {
+                match self.run_call(*call, at, visible, own, below, turns, scratch) {
                     Ok(Some(v)) => self.store(*target, v, at.first, visible, own, scratch),
                     Ok(None) => Err(Stop::Trap(Trap {
                         kind: TrapKind::Unset,
@@ -113,8 +125,16 @@ impl Program {
                 }
             }
             Stmt::If { arms, other } => match self.arm_of(*arms, at.first, visible, own, scratch) {
-                Ok(Some(body)) => self.run_list(body.before(k), at, visible, own, below, scratch),
-                Ok(None) => self.run_list(other.before(k), at, visible, own, below, scratch),
+                Ok(Some(body)) => self.run_list(
+                    body.before(k),
+                    at,
+                    visible,
+                    own,
+                    below,
+                    turns,
+                    scratch,
+                ),
+                Ok(None) => self.run_list(other.before(k), at, visible, own, below, turns, scratch),
                 Err(stop) => Err(stop),
             },
             Stmt::Case {
@@ -123,8 +143,16 @@ impl Program {
                 other,
             } => match self.value(*selector, at.first, visible, own, scratch) {
                 Ok(v) => match self.branch_of(*branches, v) {
-                    Some(body) => self.run_list(body.before(k), at, visible, own, below, scratch),
-                    None => self.run_list(other.before(k), at, visible, own, below, scratch),
+                    Some(body) => self.run_list(
+                        body.before(k),
+                        at,
+                        visible,
+                        own,
+                        below,
+                        turns,
+                        scratch,
+                    ),
+                    None => self.run_list(other.before(k), at, visible, own, below, turns, scratch),
                 },
                 Err(stop) => Err(stop),
             },
@@ -142,6 +170,7 @@ impl Program {
                     visible,
                     own,
                     below,
+                    turns,
                     scratch,
                 ),
                 Err(stop) => Err(stop),
@@ -158,6 +187,7 @@ impl Program {
                 visible,
                 own,
                 below,
+                turns,
                 scratch,
             ),
             Stmt::Repeat {
@@ -172,12 +202,15 @@ impl Program {
                 visible,
                 own,
                 below,
+                turns,
                 scratch,
             ),
             Stmt::Exit => Ok(Flow::Exit),
             Stmt::Continue => Ok(Flow::Continue),
             Stmt::Return => Ok(Flow::Return),
-            Stmt::Call(call) => match self.run_call(*call, at, visible, own, below, scratch) {
+            Stmt::Call(call) => match self.run_call(
+                *call, at, visible, own, below, turns, scratch,
+            ) {
                 Ok(_) => Ok(Flow::Normal),
                 Err(stop) => Err(stop),
             },
@@ -196,9 +229,10 @@ impl Program {
         visible: &mut [i64],
         own: &mut [Option<i64>],
         below: &mut [Option<i64>],
+        turns: &mut [Turn],
         scratch: &mut [i64],
     ) -> Result<Flow, Stop>
-        requires { HasRoom self.now at (length below.old) (length scratch.old) }
+        requires { HasRoom self.now at (length below.old) (length turns.old) (length scratch.old) }
         ensures { RunsWhile self.now body condition place at (frame_in visible.old own.old) result
             (frame_in visible.new own.new) }
     {
@@ -208,7 +242,7 @@ impl Program {
                 Ok(false) => return Ok(Flow::Normal),
                 Err(stop) => return Err(stop),
             }
-            match self.run_list(body, at, visible, own, below, scratch) {
+            match self.run_list(body, at, visible, own, below, turns, scratch) {
                 Ok(flow) => {
                     if let Some(end) = flow.behind_turn() {
                         return Ok(end);
@@ -235,14 +269,15 @@ impl Program {
         visible: &mut [i64],
         own: &mut [Option<i64>],
         below: &mut [Option<i64>],
+        turns: &mut [Turn],
         scratch: &mut [i64],
     ) -> Result<Flow, Stop>
-        requires { HasRoom self.now at (length below.old) (length scratch.old) }
+        requires { HasRoom self.now at (length below.old) (length turns.old) (length scratch.old) }
         ensures { RunsRepeat self.now body condition place at (frame_in visible.old own.old) result
             (frame_in visible.new own.new) }
     {
         for turn in 0..self.bound {
-            match self.run_list(body, at, visible, own, below, scratch) {
+            match self.run_list(body, at, visible, own, below, turns, scratch) {
                 Ok(flow) => {
                     if let Some(end) = flow.behind_turn() {
                         return Ok(end);
@@ -271,9 +306,10 @@ impl Program {
         visible: &mut [i64],
         own: &mut [Option<i64>],
         below: &mut [Option<i64>],
+        turns: &mut [Turn],
         scratch: &mut [i64],
     ) -> Result<Flow, Stop>
-        requires room { HasRoom self.now at (length below.old) (length scratch.old) }
+        requires room { HasRoom self.now at (length below.old) (length turns.old) (length scratch.old) }
         requires spot { IsSpot begun.now.spot }
         ensures { RunsFor self.now body begun.now counting.now.variable_place counting.now.by place at
             (frame_in visible.old own.old) result (frame_in visible.new own.new) }
@@ -283,7 +319,7 @@ impl Program {
             if !is_on_the_way(counting, count, begun) {
                 return Ok(Flow::Normal);
             }
-            match self.run_list(body, at, visible, own, below, scratch) {
+            match self.run_list(body, at, visible, own, below, turns, scratch) {
                 Ok(flow) => {
                     if let Some(end) = flow.behind_turn() {
                         return Ok(end);
@@ -312,13 +348,14 @@ impl Program {
         visible: &mut [i64],
         own: &mut [Option<i64>],
         below: &mut [Option<i64>],
+        turns: &mut [Turn],
         scratch: &mut [i64],
     ) -> Result<Option<i64>, Stop>
-        requires { HasRoom self.now at (length below.old) (length scratch.old) }
+        requires { HasRoom self.now at (length below.old) (length turns.old) (length scratch.old) }
         ensures { RunsCall self.now c at (frame_in visible.old own.old) result (frame_in visible.new own.new) }
     {
         match self.started(c, at) {
-            Some(started) => self.run_block(&started, at, visible, own, below, scratch),
+            Some(started) => self.run_block(&started, at, visible, own, below, turns, scratch),
             None => Ok(None),
         }
     }
@@ -332,11 +369,12 @@ impl Program {
         visible: &mut [i64],
         own: &mut [Option<i64>],
         below: &mut [Option<i64>],
+        turns: &mut [Turn],
         scratch: &mut [i64],
     ) -> Result<Option<i64>, Stop>
-        requires room { HasRoom self.now at (length below.old) (length scratch.old) }
+        requires room { HasRoom self.now at (length below.old) (length turns.old) (length scratch.old) }
         requires calls { at.calls ≡ started.now.at.calls + 1 }
-        requires short { started.now.code.body.end < MOST_STATEMENTS }
+        requires short { statements_end started.now.code.body < MOST_STATEMENTS }
         requires first { started.now.at.first + started.now.at.calls * 2 ^ 16 < 2 ^ 32 }
         ensures { RunsBegun self.now started.now at (frame_in visible.old own.old) result (frame_in visible.new own.new) }
     {
@@ -359,8 +397,8 @@ impl Program {
             Ok(()) => {}
             Err(stop) => return Err(stop),
         }
-        match self.run_list(code.body, inside, visible, inner, rest, scratch) {
-            Ok(_) => {}
+        match self.run_body(code.body, inside, visible, inner, rest, turns, scratch) {
+            Ok(()) => {}
             Err(stop) => return Err(stop),
         }
         match self.hand_out(
@@ -378,16 +416,94 @@ impl Program {
         }
     }
 
+    /// Runs a body. One of instructions takes some of the turns for itself.
+    #[cycle(run)]
+    fn run_body(
+        &self,
+        body: Body,
+        at: At,
+        visible: &mut [i64],
+        own: &mut [Option<i64>],
+        below: &mut [Option<i64>],
+        turns: &mut [Turn],
+        scratch: &mut [i64],
+    ) -> Result<(), Stop>
+        requires room { HasRoom self.now at (length below.old) (length turns.old) (length scratch.old) }
+        requires turns { (at.calls + 1) * self.now.ranges ≤ length turns.old }
+        ensures { RunsCode self.now body at (frame_in visible.old own.old) result
+            (frame_in visible.new own.new) }
+    {
+        match body {
+            Body::Statements(list) => {
+                match self.run_list(list, at, visible, own, below, turns, scratch) {
+                    Ok(_) => Ok(()),
+                    Err(stop) => Err(stop),
+                }
+            }
+            Body::Instructions(span) => {
+                self.run_instrs(span, at, visible, own, below, turns, scratch)
+            }
+        }
+    }
+
+    /// Runs the instructions of a body: up to each call, which is made, and on behind it.
+    #[cycle(run)]
+    fn run_instrs(
+        &self,
+        span: Span,
+        at: At,
+        visible: &mut [i64],
+        own: &mut [Option<i64>],
+        below: &mut [Option<i64>],
+        turns: &mut [Turn],
+        scratch: &mut [i64],
+    ) -> Result<(), Stop>
+        requires room { HasRoom self.now at (length below.old) (length turns.old) (length scratch.old) }
+        requires turns { (at.calls + 1) * self.now.ranges ≤ length turns.old }
+        ensures { RunsInstrs self.now span at (frame_in visible.old own.old) result
+            (frame_in visible.new own.new) }
+    {
+        let code = self.instrs_in(span);
+        let (its, rest) = turns.split_at_mut(self.own_turns(turns.len()));
+        let mut going = match Going::begin(code, self.bound, its) {
+            Ok(going) => going,
+            Err(stop) => return Err(Stop::of(stop)),
+        };
+        let targets = self.targets.as_slice();
+        let types = self.types.as_slice();
+        loop {
+            match going.go(
+                code, self.bound, targets, types, at.first, its, visible, own, scratch,
+            ) {
+                Ok(Some(call)) => {
+                    match self.run_call(call, at, visible, own, below, rest, scratch) {
+                        Ok(_) => {}
+                        Err(stop) => return Err(stop),
+                    }
+                    match going.behind_call(code, self.bound, its) {
+                        Ok(true) => {}
+                        Ok(false) => return Ok(()),
+                        Err(stop) => return Err(Stop::of(stop)),
+                    }
+                }
+                Ok(None) => return Ok(()),
+                Err(stop) => return Err(Stop::of(stop)),
+            }
+        }
+    }
+
     /// Runs the block that is entered, from visible cells with these values. Where it stops, no clause says what is left in them.
     ///
-    /// `brief` has room for the brief cells of eight blocks, and `scratch` for the values of an expression; what they hold doesn't matter.
+    /// `brief` has room for the brief cells of eight blocks, `turns` for the ranges of as many, and `scratch` for the values of an expression; what they hold doesn't matter.
     pub fn run(
         &self,
         visible: &mut [i64],
         brief: &mut [Option<i64>],
+        turns: &mut [Turn],
         scratch: &mut [i64],
     ) -> Result<(), Stop>
         requires brief { (most_calls + 1) * self.now.widest ≤ length brief.old }
+        requires turns { (most_calls + 1) * self.now.ranges ≤ length turns.old }
         requires scratch { self.now.scratch ≤ length scratch.old }
         ensures { (source : Source) → IsProgram source self.now
             → end_in (λ done. visible.new) result ≡ (scan_from source most_calls visible.old).end }
@@ -401,9 +517,6 @@ impl Program {
             first: 0,
             calls: MOST_CALLS,
         };
-        match self.run_list(code.body, at, visible, own, below, scratch) {
-            Ok(_) => Ok(()),
-            Err(stop) => Err(stop),
-        }
+        self.run_body(code.body, at, visible, own, below, turns, scratch)
     }
 }

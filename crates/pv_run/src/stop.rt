@@ -26,6 +26,18 @@ pub enum Flow {
     Return,
 }
 
+impl Stop {
+    /// Why instructions stop.
+    pub(crate) fn of(stop: pv_stl_run::Stop) -> Stop
+        ensures { result ≡ ends.stop_from stop }
+    {
+        match stop {
+            pv_stl_run::Stop::Trap(trap) => Stop::Trap(trap),
+            pv_stl_run::Stop::Over(place) => Stop::Over(place),
+        }
+    }
+}
+
 impl Flow {
     /// Whether it goes on behind the statement.
     pub(crate) fn is_normal(self) -> bool

@@ -15,5 +15,6 @@ invariant_of-result c =
       long_beginning = long-zeros c.in_ok-begin.begin.items c.in_ok-roles.roles.len (search rules);
       long_ending = long-zeros c.in_ok-end.end.items c.in_ok-roles.roles.len (search rules);
       room = search rules;
+      turning = search rules;
       space = search rules;
     }

@@ -1,17 +1,25 @@
-use Rattle.std.proofs.Common.{◌≡◌, ◌+◌, ◌-◌, ◌*◌, ◌^◌}
-use Rattle.pv_tree.specs.Tree.{ExprTree, StmtTrees, BlockTree}
+use Rattle.std.proofs.Common.{◌≡◌, ◌+◌, ◌-◌, ◌*◌, ◌^◌, ◌≤◌, List, length}
+use Rattle.pv_tree.specs.Tree.{ExprTree, StmtTrees, InstrTree, BlockTree}
 use Rattle.pv_mean.specs.Sources.{Source}
 use Rattle.pv_mean.specs.Values.{value}
 use Rattle.pv_mean.specs.Statements.{while_turns, repeat_turns, for_turns}
 use Rattle.pv_mean.specs.Calls.{calls_within}
 use Rattle.pv_eval.specs.Means.{activation}
-use Rattle.pv_run.specs.Code.{IsProgram, IsValue, AreStmts}
-use Rattle.pv_run.specs.Runs.{frame_in, body_of, counting_of}
+use Rattle.pv_stl_run.specs.Going.{most_left}
+use Rattle.pv_run.specs.Code.{IsProgram, IsValue, AreStmts, HasInstrs, statements_end}
+use Rattle.pv_run.specs.Runs.{frame_in, HasRoom, body_of, counting_of}
+use Rattle.pv_run.proofs.Instrs.{AtWork, whole_of}
 use Rattle.pv_run.proofs.Left.{StmtsLeft}
 use Rattle.pv_run.proofs.program.Program.+run.Given as goal
 
 abbrev pub decreases-run_block : goal.decreases-run_block
 decreases-run_block l = l.at.calls * 2 ^ 40 + 1
+
+abbrev pub decreases-run_body : goal.decreases-run_body
+decreases-run_body l = l.at.calls * 2 ^ 40 + 4 * statements_end l.body + 4
+
+abbrev pub decreases-run_instrs : goal.decreases-run_instrs
+decreases-run_instrs l = l.at.calls * 2 ^ 40 + 3
 
 abbrev pub decreases-run_call : goal.decreases-run_call
 decreases-run_call l = l.at.calls * 2 ^ 40 + 2
@@ -62,3 +70,19 @@ invariant-run_while-loop-turn l = (source : Source) (block : BlockTree) (e : Exp
     (frame_in l.fn.visible l.fn.own)
     ≡ while_turns (λ f. value source (activation block l.at.first) f e) (body_of source l.at block trees) l.place (l.self.bound - l.turn)
     (frame_in l.visible l.own)
+
+-- so many instructions may still be made, and as many calls
+abbrev pub decreases-run_instrs-loop-call : goal.decreases-run_instrs-loop-call
+decreases-run_instrs-loop-call l = most_left l.self.bound l.code l.going.at l.its l.going.entered
+
+-- what is left of the run is what it was at the start
+abbrev pub invariant-run_instrs-loop-call : goal.invariant-run_instrs-loop-call
+invariant-run_instrs-loop-call l = record {
+  within : l.going.entered ≤ length l.its;
+  enough : l.self.ranges ≤ length l.its;
+  room : HasRoom l.self l.at (length l.below) (length l.rest) (length l.scratch);
+  work : (source : Source) (block : BlockTree) (all : List InstrTree) → IsProgram source l.self → HasInstrs source block l.self l.fn.span all
+      → AtWork source (calls_within source l.at.calls) (activation block l.at.first) all l.code l.its l.going.entered l.going.at
+      l.going.registers (frame_in l.visible l.own)
+      (whole_of source (calls_within source l.at.calls) (activation block l.at.first) all (frame_in l.fn.visible l.fn.own));
+}
