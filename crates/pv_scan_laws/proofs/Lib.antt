@@ -1,0 +1,11 @@
+pub mod Images
+pub mod Assigning
+pub mod Passing
+pub mod Untouched
+pub mod Areas
+pub mod Ends
+pub mod Stepping
+pub mod LaidOut
+pub mod Naming
+pub mod Tables
+pub mod Bytes

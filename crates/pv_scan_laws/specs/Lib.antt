@@ -1,0 +1,4 @@
+pub mod Parts
+pub mod Areas
+pub mod Leaving
+pub mod Naming
