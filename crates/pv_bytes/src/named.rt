@@ -307,7 +307,8 @@ impl Marks {
 }
 
 /// The numbers of an area's bytes that a project's sources, its symbols or one of the operands name, from 0 to 65,535, rising and each
-/// once: of a word two bytes, of a double word four. An operand whose last byte would be past 65,535 names none.
+/// once: of a word two bytes, of a double word four. Neither an operand whose last byte would be past 65,535 nor one whose bit is past 7
+/// names any, and of those that are handed over the beginning counts, not what their indexes read.
 pub fn named_bytes(
     alloc: Global,
     project: &Project,

@@ -81,7 +81,7 @@ impl ScanInputs {
     }
 }
 
-/// What determines a stretch of scans: where it begins, and its inputs. No text of today has one.
+/// What determines a stretch of scans: where it begins, and its inputs. The text of a trace has no image and no value of the scan before.
 #[derive(Debug, Drop)]
 pub struct Trace {
     /// The values of the kept and the param cells before the first scan; none where the run begins at the start.

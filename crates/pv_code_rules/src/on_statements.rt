@@ -175,7 +175,8 @@ pub fn misfit_in_code<'p>(
     Ok(nearer_of(applied, other))
 }
 
-/// The least place in statements and instructions of a literal outside its type.
+/// The least place in expressions of code, and in the steps and values of statements, of a literal outside its type. The literal that
+/// an instruction takes itself has rules of its own.
 pub fn outside_in_code<'p>(
     alloc: Global,
     tables: &'p Tables<'p>,

@@ -8,8 +8,8 @@ use thiserror::Error;
 /// Why names aren't resolved.
 #[derive(Clone, Copy, PartialEq, Eq, Debug, Drop, Error)]
 pub enum ResolveFault {
-    /// There are more cells than a table may have, or a number is greater than 64 bits hold; so it is in no project that keeps
-    /// the rules and has a table.
+    /// There are more cells than a table may have, or a number is greater than 64 bits hold. A project that keeps the rules and
+    /// has a table should meet it nowhere; no clause says so but that of the cells.
     #[error("a number is too large")]
     TooLarge,
     #[error("out of memory")]

@@ -31,7 +31,8 @@ fn push_scans(text: &mut Vec<u8>, scans: &[CellValues]) -> Result<(), AllocError
     Ok(())
 }
 
-/// The one text of a trace that begins at the start: it has no image and no value of a scan before. `read_trace` gives it back.
+/// The one text of a trace that begins at the start: it has no image and no value of a scan before. `read_trace` gives
+/// it back where its params and all its scans lie within the ranges handed to it.
 pub fn write_trace(alloc: Global, trace: &Trace) -> Result<Vec<u8>, AllocError>
     requires image { trace.now.image ≡ None }
     requires prev { trace.now.prev ≡ None }
