@@ -1,3 +1,4 @@
+//! Tests of certificates: their text both ways, their parts, and the texts that are refused.
 use pv_cert::{CellValues, CertFault, Claim, Query, ScanInputs, Trace, read, write};
 use std::test::Fail;
 

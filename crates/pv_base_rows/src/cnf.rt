@@ -1,3 +1,4 @@
+//! Tests of formulas: their DIMACS text, what a store refuses, and values that make clauses hold.
 ghost use Rattle.std.specs.Prelude.{◌≡◌, false, ◌-◌, ◌^◌, ◌<◌, length, slice_index_or, IfOk};
 
 use pv_cnf::{ClauseView, Clauses, Formula, PushFault, Values, flip, holds, to_dimacs};

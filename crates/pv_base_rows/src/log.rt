@@ -1,3 +1,4 @@
+//! Tests of the checker of logs, on the step formula of a latch and on pigeons in holes.
 ghost use Rattle.std.specs.Prelude.{◌≡◌, ◌-◌, ◌^◌, ◌<◌, ◌≤◌, length, IfOk};
 
 use pv_cnf::{ClauseView, Clauses, Formula, PushFault};

@@ -1,3 +1,4 @@
+//! Tests of the solver: its answers, and how many words clauses take.
 ghost use Rattle.std.specs.Prelude.{◌≡◌, ◌<◌, ◌≤◌, ◌^◌, ◌-◌, length, true, IfOk};
 ghost use Rattle.std.specs.Option.{is_none};
 

@@ -1,4 +1,4 @@
-// The ends of each type through each public call. The results come from C's integers of the same widths, by Python's ctypes.
+//! The ends of each type through each public call. The results come from C's integers of the same widths, by Python's ctypes.
 use pv_word::*;
 use std::alloc::{AllocError, Global};
 use std::process::Abort;

@@ -1,3 +1,4 @@
+//! Certificates: a claim, and what shows it.
 ghost use Rattle.std.specs.Prelude.{◌≡◌, List, [], ◌∷◌, ◌++◌, OnOk, OnErr};
 ghost use Rattle.pv_cert.specs.declared.proof.Proof.{Proof};
 

@@ -1,3 +1,4 @@
+//! Why bytes are no certificate.
 ghost use Rattle.std.specs.Prelude.{◌≡◌};
 ghost use Rattle.pv_cert.specs.declared.fault.CertFault.TheVariants.{NoMemory};
 

@@ -1,3 +1,4 @@
+//! Laws of the texts: each tells what it is the text of.
 ghost use Rattle.std.specs.Prelude.{◌≡◌, ℕ, ℤ, List};
 ghost use Rattle.pv_cert.specs.declared.certificate.Certificate.{Certificate};
 ghost use Rattle.pv_cert.specs.CertificateText.{IsTextOf};

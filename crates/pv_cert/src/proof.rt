@@ -1,3 +1,4 @@
+//! The proofs of a certificate: queries, chains of reductions, logs.
 use pv_log::{Log, Numbers};
 
 /// What a proof refutes (k-induction after Sheeran, Singh and Stålmarck).

@@ -1,3 +1,4 @@
+//! Reading a certificate line by line.
 ghost use Rattle.std.specs.Prelude.{◌≡◌, ℕ, ◌-◌, ◌^◌, ◌<◌, ◌≤◌, [], length, Ok, Err, Some, None, IfOk, IfSome, IfNone, MatchOption, IsTrue, ◌↔◌};
 ghost use Rattle.pv_cert.specs.declared.certificate.Certificate.{Certificate};
 ghost use Rattle.pv_cert.specs.declared.stage.Stage.{Stage};

@@ -1,3 +1,4 @@
+//! How far the reading of a certificate has come.
 use crate::certificate::Proofs;
 use crate::proof::{Chain, Query};
 use pv_log::Log;

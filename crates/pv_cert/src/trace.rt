@@ -1,3 +1,4 @@
+//! Traces: the values that determine a stretch of scans, and how a failing scan ends.
 ghost use Rattle.std.specs.Prelude.{◌≡◌, List, ℤ, [], ◌∷◌, ◌++◌, OnOk, OnErr};
 
 use std::alloc::{AllocError, Global};

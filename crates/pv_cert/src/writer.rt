@@ -1,3 +1,4 @@
+//! Writing the text of a certificate.
 ghost use Rattle.std.specs.Prelude.{◌≡◌, ◌∷◌, ◌++◌, [], codes, map, length, None, IfOk, OnOk, if◌then◌else◌};
 ghost use Rattle.std.specs.List.{flat_map, AllByRecursion};
 ghost use Rattle.std.specs.Fmt.{decimal};

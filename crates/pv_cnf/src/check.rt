@@ -1,3 +1,4 @@
+//! The faults of a clause, found by a mark for each variable.
 ghost use Rattle.std.specs.Prelude.{◌≡◌, true, false, ◌+◌, ◌<◌, ◌≤◌, nat_lt, length, take, All};
 ghost use Rattle.pv_cnf.specs.Literal.{variable_of};
 ghost use Rattle.pv_cnf.specs.Clause.{has_outside, has_double, has_variable};

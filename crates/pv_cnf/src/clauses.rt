@@ -1,3 +1,4 @@
+//! The traits of stores of clauses, of lists of clauses and of values.
 ghost use Rattle.std.specs.Prelude.{◌≡◌, ◌↔◌, ℕ, Bool, true, false, ◌+◌, ◌-◌, ◌^◌, ◌<◌, ◌≤◌, List, [], ◌∷◌, ◌++◌, length, Option, IsTrue, OnOk, OnErr, slice_get, All};
 ghost use Rattle.pv_cnf.specs.Literal.{variable_of};
 ghost use Rattle.pv_cnf.specs.Clause.{has_outside, has_double, IsClause, AreClauses};

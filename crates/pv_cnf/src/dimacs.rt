@@ -1,3 +1,4 @@
+//! The DIMACS text of a formula.
 ghost use Rattle.std.specs.Prelude.{◌≡◌, ℕ, ◌^◌, ◌<◌, List, ◌++◌, length, IfOk, OnOk};
 ghost use Rattle.std.specs.Fmt.{decimal};
 ghost use Rattle.pv_cnf.specs.Clause.{AreClauses};

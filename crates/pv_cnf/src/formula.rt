@@ -1,3 +1,4 @@
+//! A formula as a list of clauses.
 ghost use Rattle.std.specs.Prelude.{◌≡◌, ◌+◌, ◌^◌, ◌<◌, ◌≤◌, [], ◌∷◌, ◌++◌, length, slice_get, slice_index, IfOk, OnOk, OnErr};
 ghost use Rattle.pv_cnf.specs.Clause.{Cnf};
 ghost use Rattle.pv_cnf.specs.Fault.{first_fault};

@@ -1,3 +1,4 @@
+//! Literals by their codes.
 ghost use Rattle.std.specs.Prelude.{◌≡◌, ℕ, Bool, not};
 ghost use Rattle.pv_cnf.specs.Literal.{complement, variable_of, literal_value};
 

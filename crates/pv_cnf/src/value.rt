@@ -1,3 +1,4 @@
+//! Whether values make clauses hold.
 ghost use Rattle.std.specs.Prelude.{◌≡◌, ◌↔◌, ◌<◌, ◌≤◌, IsTrue, All};
 ghost use Rattle.pv_cnf.specs.Literal.{variable_of, literal_value};
 ghost use Rattle.pv_cnf.specs.Clause.{clause_value, Holds};

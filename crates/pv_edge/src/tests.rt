@@ -1,3 +1,4 @@
+//! Tests of texts, of the files and the sink in memory, and of those of the host.
 use crate::slow::Slow;
 use crate::{
     FileFault, Files, HostFiles, HostOut, MemFiles, MemSink, Sink, SinkFault, Text, text, write_all,

@@ -1,3 +1,4 @@
+//! Tests of the recognizer on a sample language: faults, traces, walks, tables that are refused.
 ghost use Rattle.std.specs.Prelude.{◌≡◌, false};
 ghost use Rattle.pv_ll.specs.Check.{is_ll1};
 

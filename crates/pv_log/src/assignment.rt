@@ -1,3 +1,4 @@
+//! Which literals are false while a line is tried.
 ghost use Rattle.std.specs.Prelude.{◌≡◌, ℕ, ◌+◌, ◌*◌, ◌≤◌, ◌<◌, Bool, false, List, [], ◌∷◌, ◌++◌, IfOk, vec_capacity};
 ghost use Rattle.pv_cnf.specs.Literal.{complement, is_outside};
 ghost use Rattle.pv_log.specs.Propagation.{is_false};

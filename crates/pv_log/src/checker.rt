@@ -1,3 +1,4 @@
+//! The checker of logs: its lines tried in order.
 ghost use Rattle.std.specs.Prelude.{◌≡◌, ◌↔◌, ℕ, ◌+◌, ◌*◌, ◌<◌, ◌≤◌, ◌^◌, Bool, List, [], ◌∷◌, length, Ok, IfOk};
 ghost use Rattle.pv_cnf.specs.Clause.{Holds};
 ghost use Rattle.pv_log.specs.declared.fault.LineFault.{LineFault};

@@ -1,3 +1,4 @@
+//! What is wrong with a line, with a log and with a text.
 ghost use Rattle.std.specs.Prelude.{◌≡◌};
 ghost use Rattle.pv_log.specs.declared.fault.LratFault.TheVariants.{NoMemory};
 

@@ -1,3 +1,4 @@
+//! Clauses filed by one of their literals, to find those within others.
 ghost use Rattle.std.specs.Prelude.{◌≡◌, ℕ, ◌+◌, ◌*◌, ◌<◌, ◌≤◌, ◌^◌, true, All, List, [], ◌∷◌, ◌++◌, length, IfOk, OnOk, slice_index_or};
 ghost use Rattle.pv_log.specs.Propagation.{is_false};
 ghost use Rattle.pv_log.specs.Filing.{Filed, IsFiled};

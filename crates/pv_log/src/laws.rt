@@ -1,3 +1,4 @@
+//! Laws of lines and logs.
 ghost use Rattle.std.specs.Prelude.{◌≡◌, ◌↔◌, ℕ, ◌^◌, ◌<◌, Bool, List, length, None, IsTrue};
 ghost use Rattle.pv_cnf.specs.Clause.{Holds, clause_value};
 ghost use Rattle.pv_log.specs.declared.fault.LineFault.{LineFault};

@@ -1,3 +1,4 @@
+//! What is left of a clause of which some literals are false.
 ghost use Rattle.std.specs.Prelude.{◌≡◌, ℕ, ◌+◌, ◌*◌, ◌<◌, false, List, [], ◌∷◌, Ok, Err, Some, MatchResult};
 ghost use Rattle.std.specs.Result.{result_err};
 ghost use Rattle.pv_cnf.specs.Clause.{has_outside};

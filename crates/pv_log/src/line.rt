@@ -1,3 +1,4 @@
+//! A line of a log.
 use crate::numbers::Numbers;
 
 /// A line of a log: a clause that is claimed to follow, and the clauses that show it.

@@ -1,3 +1,4 @@
+//! Whether a line is new: no earlier clause has all its literals among the line's.
 ghost use Rattle.std.specs.Prelude.{◌≡◌, ℕ, ◌+◌, ◌-◌, ◌*◌, ◌<◌, ◌≤◌, ◌^◌, ◌||◌, false, List, [], ◌∷◌, ◌++◌, length, Some, slice_get, IfOk, OnOk};
 ghost use Rattle.std.specs.Result.{result_err};
 ghost use Rattle.pv_cnf.specs.Clause.{has_outside, has_double};

@@ -1,3 +1,4 @@
+//! Reading the text of a line.
 ghost use Rattle.std.specs.Prelude.{◌≡◌, ◌⊎◌, ℕ, ◌<◌, List, [], ◌∷◌, true, false, Some, None, Ok, Err, IfOk, OnOk, IfSome};
 ghost use Rattle.std.specs.Option.{option_map};
 ghost use Rattle.pv_log.specs.declared.line.Line.{Line};

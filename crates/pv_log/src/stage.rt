@@ -1,3 +1,4 @@
+//! How far the reading of a line has come.
 ghost use Rattle.std.specs.Prelude.{◌≡◌, ◌≤◌, IfSome};
 ghost use Rattle.pv_log.specs.Reading.{StageFits, with_digit, first_digit, stage_after};
 

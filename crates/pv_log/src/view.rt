@@ -1,3 +1,4 @@
+//! Logs: the trait of what can be read as one, and the list of lines.
 ghost use Rattle.std.specs.Prelude.{◌≡◌, ℕ, ◌+◌, ◌-◌, ◌^◌, ◌<◌, ◌≤◌, List, [], ◌∷◌, ◌++◌, length, map, Some, slice_get, OnOk, OnErr};
 ghost use Rattle.pv_log.specs.declared.line.Line.{Line};
 

@@ -1,3 +1,4 @@
+//! Why a certificate isn't accepted.
 ghost use Rattle.std.specs.Prelude.{◌≡◌};
 ghost use Rattle.pv_recheck.specs.Kinds.{line_word, kind_word};
 

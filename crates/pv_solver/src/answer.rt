@@ -1,3 +1,4 @@
+//! What a solver answers.
 ghost use Rattle.std.specs.Prelude.{◌≡◌};
 
 use std::alloc::AllocError;

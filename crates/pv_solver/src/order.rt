@@ -1,3 +1,4 @@
+//! In which order variables are decided.
 ghost use Rattle.std.specs.Prelude.{◌≡◌, ℕ, ◌+◌, ◌*◌, ◌^◌, ◌<◌, ◌≤◌, false, IfSome, IfNone, IsTrue, ◌↔◌, ◌/◌};
 ghost use Rattle.pv_cnf.specs.Literal.{is_outside};
 ghost use Rattle.pv_solver.specs.Search.{IsFree, AllSet};

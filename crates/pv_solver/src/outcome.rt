@@ -1,3 +1,4 @@
+//! What a search came to.
 use crate::answer::Answer;
 use pv_log::{Line, Log};
 

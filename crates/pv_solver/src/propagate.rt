@@ -1,3 +1,4 @@
+//! Unit propagation by going over all clauses.
 ghost use Rattle.std.specs.Prelude.{◌≡◌, ◌+◌, ◌-◌, ◌^◌, ◌<◌, ◌≤◌, false, length, take, IfSome, IfNone};
 ghost use Rattle.pv_cnf.specs.Clause.{has_outside};
 ghost use Rattle.pv_solver.specs.Trail.{Path, IsSound};

@@ -1,3 +1,5 @@
+//! When decisions are taken back.
+
 /// When to take all decisions back: after a number of conflicts that grows in waves. Nothing is claimed of it.
 #[derive(Clone, Copy, Debug)]
 pub(crate) struct Restarts {

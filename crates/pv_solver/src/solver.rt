@@ -1,3 +1,4 @@
+//! The solver: a store of clauses, a log and values.
 ghost use Rattle.std.specs.Prelude.{◌≡◌, ◌↔◌, ℕ, ◌+◌, ◌*◌, ◌^◌, ◌<◌, ◌≤◌, [], Some, None, length, IfOk, OnErr, IsSome};
 ghost use Rattle.pv_cnf.specs.Clause.{Holds};
 ghost use Rattle.pv_log.specs.Follows.{Follows, IsAccepted};

@@ -1,3 +1,4 @@
+//! Which literals are false, in their order, and why.
 ghost use Rattle.std.specs.Prelude.{◌≡◌, ℕ, ◌+◌, ◌*◌, ◌^◌, ◌<◌, ◌≤◌, Bool, false, List, [], ◌∷◌, ◌++◌, length, take, IfOk, OnOk, OnErr, vec_capacity, Some, slice_index_or, slice_set};
 ghost use Rattle.pv_cnf.specs.Literal.{complement, is_outside};
 ghost use Rattle.pv_cnf.specs.Clause.{has_outside, has_double};

@@ -1,3 +1,4 @@
+//! Tests of the texts of traces, both ways, and of the lines at fault.
 use crate::{read_trace, write_trace};
 use pv_cert::CertFault;
 use std::test::Fail;

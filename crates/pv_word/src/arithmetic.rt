@@ -1,4 +1,4 @@
-// The operations on whole numbers, wrapped, and the order.
+//! The operations on whole numbers, wrapped, and the order.
 ghost use Rattle.std.specs.Prelude.{◌≡◌, ◌≢◌, ◌↔◌, pos, ◌+ℤ◌, ◌-ℤ◌, ◌*ℤ◌, ◌<ℤ◌};
 ghost use Rattle.pv_word.specs.Division.{IsDivision, quotient, remainder};
 ghost use Rattle.pv_word.specs.Types.{InRange, wrap_of};

@@ -1,4 +1,4 @@
-// The operations on the bit patterns of values, and the shifts, which bring in zeros.
+//! The operations on the bit patterns of values, and the shifts, which bring in zeros.
 ghost use Rattle.std.specs.Prelude.{◌≡◌, ◌+◌, ◌-◌, ◌%◌, ◌≤◌, pos, min, max, nat_lt, if◌then◌else◌};
 ghost use Rattle.pv_word.specs.Types.{width_of, InRange, pattern_of, bit_of, HasBits, and_of, or_of, xor_of, not_of, shl_of, shr_of};
 

@@ -1,4 +1,4 @@
-// The types and their ranges.
+//! The types and their ranges.
 ghost use Rattle.std.specs.Prelude.{◌≡◌, ◌↔◌, ℕ, ◌^◌, pos, IsTrue};
 ghost use Rattle.pv_word.specs.Types.{width_of, is_signed_of, least_of, greatest_of, InRange};
 

@@ -1,4 +1,4 @@
-// The pattern of a number, and the value of a type that has it.
+//! The pattern of a number, and the value of a type that has it.
 ghost use Rattle.std.specs.Prelude.{◌≡◌};
 ghost use Rattle.pv_word.specs.Types.{InRange, IsWrapOf, wrap_of, pattern_of};
 
