@@ -2,4 +2,3 @@
 pub use Rattle.pv_cert.proofs.Texts.{feedless, cut-one, all-behind}
 pub use Rattle.pv_cert.proofs.Chains.{without-words}
 pub use Rattle.pv_cert.proofs.Whole.{made-of-proofs, FirstLines, first-lines, one-certificate, fails-once}
-pub use Rattle.pv_cert.proofs.TraceLemmas.{stored, IsNextScan, next_is, none_left, one_reading, behind_head, read_shortens}

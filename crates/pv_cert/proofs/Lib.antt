@@ -4,5 +4,4 @@ pub mod Parsing
 pub mod Steps
 pub mod Whole
 pub mod Writable
-pub mod TraceLemmas
 pub mod ForCallers

@@ -1,4 +1,3 @@
 pub mod ChainText
 pub mod CertificateText
 pub mod Reading
-pub mod Traces

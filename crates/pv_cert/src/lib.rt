@@ -1,4 +1,4 @@
-//! Certificates: a verdict with the proofs that show it, and their text; and the text of traces.
+//! Certificates: a verdict with the proofs that show it, and their text; and the type of traces.
 //!
 //! The text of a certificate of today is that of the verdict `satisfied 0`.
 #![tactic(auto)]
@@ -12,12 +12,11 @@ mod proof;
 mod reader;
 mod stage;
 mod trace;
-pub mod traces;
 mod writer;
 
 pub use certificate::{Certificate, Claim, Proofs};
 pub use fault::CertFault;
-pub use laws::{text_determines_certificate, trace_text_determines_scans};
+pub use laws::text_determines_certificate;
 pub use parts::cut_line;
 pub use proof::{Chain, Proof, Query};
 pub use reader::read;
