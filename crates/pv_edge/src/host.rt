@@ -65,9 +65,7 @@ fn read_all<R: Read>(alloc: Global, file: &mut R) -> Result<Vec<u8>, FileFault>
         if n == 0 {
             return Ok(bytes);
         }
-        if bytes.extend_from_slice(&buffer[..n]).is_err() {
-            return Err(FileFault::NoMemory);
-        }
+        bytes.extend_from_slice(&buffer[..n])?;
     }
     Err(FileFault::Failed)
 }

@@ -4,7 +4,7 @@ ghost use Rattle.pv_edge.specs.Faults.{HasRisen, last_count};
 ghost use Rattle.pv_edge.specs.Files.{FileMap, Puts, PutsPart, Changes};
 ghost use Rattle.pv_edge.specs.Sink.{Takes};
 
-use std::alloc::Global;
+use std::alloc::{AllocError, Global};
 use thiserror::Error;
 
 /// Why a call on files gave up.
@@ -18,6 +18,14 @@ pub enum FileFault {
     NoMemory,
 }
 
+impl From<AllocError> for FileFault {
+    ghost from_gives = { λ _ fault. fault ≡ FileFault.NoMemory };
+
+    fn from(_error: AllocError) -> FileFault {
+        FileFault::NoMemory
+    }
+}
+
 /// Why a call on a sink gave up.
 #[derive(Clone, Copy, Debug, PartialEq, Eq, Error)]
 pub enum SinkFault {
@@ -27,6 +35,14 @@ pub enum SinkFault {
     /// There was no memory left. Nothing changed.
     #[error("out of memory")]
     NoMemory,
+}
+
+impl From<AllocError> for SinkFault {
+    ghost from_gives = { λ _ fault. fault ≡ SinkFault.NoMemory };
+
+    fn from(_error: AllocError) -> SinkFault {
+        SinkFault::NoMemory
+    }
 }
 
 /// Files by name. A name is a text; what it means is left to the implementation.

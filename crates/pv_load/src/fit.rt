@@ -44,6 +44,14 @@ pub enum FitStop {
     NoMemory,
 }
 
+impl From<AllocError> for FitStop {
+    ghost from_gives = { λ _ stop. stop ≡ FitStop.NoMemory };
+
+    fn from(_error: AllocError) -> FitStop {
+        FitStop::NoMemory
+    }
+}
+
 impl From<InputFault> for FitStop {
     ghost use Rattle.std.specs.Prelude.{◌≡◌};
     ghost use Rattle.pv_load.specs.Faults.{of_input};

@@ -133,9 +133,7 @@ fn check_log(alloc: Global, program: &Program, limit: u32, log: &Log) -> Result<
         Ok(formula) => formula,
         Err(fault) => return Err(fault),
     };
-    let Ok(mut checker) = Checker::make(alloc, formula.variables()) else {
-        return Err(RecheckFault::NoMemory);
-    };
+    let mut checker = Checker::make(alloc, formula.variables())?;
     match checker.check(&formula, log) {
         Verdict::Accepted => Ok(()),
         Verdict::NoEmpty => Err(RecheckFault::Fault {
@@ -174,9 +172,7 @@ fn formula_of(alloc: Global, step: &StepCircuit) -> Result<Formula, RecheckFault
     ensures small { IfOk result (λ formula. formula.variables < 2 ^ 31) }
     ensures err { IfErr result (λ fault. fault ≡ RecheckFault.NoMemory) }
 {
-    let Ok(mut formula) = Formula::make(alloc, variables(&step.gates)) else {
-        return Err(RecheckFault::NoMemory);
-    };
+    let mut formula = Formula::make(alloc, variables(&step.gates))?;
     match push_step(&step.gates, step.fail, &mut formula) {
         Ok(()) => Ok(formula),
         Err(_) => Err(RecheckFault::NoMemory),

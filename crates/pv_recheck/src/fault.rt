@@ -3,6 +3,7 @@ ghost use Rattle.std.specs.Prelude.{◌≡◌};
 ghost use Rattle.pv_recheck.specs.Kinds.{line_word, kind_word};
 
 use pv_log::LineFault;
+use std::alloc::AllocError;
 use thiserror::Error;
 
 /// What is wrong first with a certificate. (The kinds of traces, of lemmas and of a region are to
@@ -70,4 +71,12 @@ pub enum RecheckFault {
     /// The allocator has no memory left.
     #[error("out of memory")]
     NoMemory,
+}
+
+impl From<AllocError> for RecheckFault {
+    ghost from_gives = { λ _ fault. fault ≡ RecheckFault.NoMemory };
+
+    fn from(_error: AllocError) -> RecheckFault {
+        RecheckFault::NoMemory
+    }
 }
