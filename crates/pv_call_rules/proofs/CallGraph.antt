@@ -19,7 +19,7 @@ use Rattle.pv_graph.specs.Graphs as graph
 use Rattle.pv_call_rules.specs.Links.{IsFirstBlock, number_of, link_of, links_of_sites, links_of, link_tree, AreLinks}
 use Rattle.pv_call_rules.specs.ByNumber.{links_graph, links_at, HasBackLink, HasDeepLink}
 use Rattle.pv_call_rules.specs.declared.links.Links.{Links}
-use Rattle.pv_call_rules.proofs.RunBlocks.{run_block}
+use Rattle.pv_tree.proofs.ForCallers.{run_block}
 
 -- ---- elements of lists by number
 

@@ -1,4 +1,3 @@
 pub mod CallGraph
 pub mod Gathering
 pub mod Linking
-pub mod RunBlocks

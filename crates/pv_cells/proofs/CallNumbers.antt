@@ -14,7 +14,8 @@ use Rattle.pv_cells.specs.declared.made.Made.{Made}
 use Rattle.pv_cells.specs.Calls.{made_tree}
 use Rattle.pv_cells.specs.Below.{at_numbers}
 use Rattle.pv_cells.specs.Graphs.{at_number, node_tree, IsNode, NodesAre}
-use Rattle.pv_cells.proofs.FirstCallees.{callee_in}
+use Rattle.pv_tree.proofs.ForCallers.{run_block}
+use Rattle.pv_mean.proofs.ForCallers.{runs_such}
 use Rattle.pv_cells.proofs.Pushing.{taken, next_left, none_left}
 use Rattle.pv_cells.proofs.Graphing.{numbers-push}
 
@@ -26,7 +27,8 @@ module _ (p q : ProjectTree) (same : q ≡ p) (b : BlockTree) (s : CallSite) (c 
     (found : RunsSuch (λ x. first_block q.blocks x.name.key ≡ Some x) c → at_number q.blocks o ≡ block_of_callee c) where
   found-there : at_number q.blocks o ≡ block_of_callee (callee_of (record { project = q; block = b }) s)
   found-there =
-      found (subst (RunsSuch (λ x. first_block q.blocks x.name.key ≡ Some x)) (sym is) (callee_in (record { project = q; block = b }) s))
+      found (runs_such (λ x. first_block q.blocks x.name.key ≡ Some x) c
+      (λ x run. run_block (record { project = q; block = b }) s x (sym is ∙ run)))
       ∙ ap block_of_callee is
 
   pub callee-number : at_number p.blocks o ≡ block_of_callee (callee_of (record { project = p; block = b }) s)

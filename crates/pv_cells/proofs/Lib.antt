@@ -9,7 +9,6 @@ pub mod OwnCells
 pub mod Starting
 pub mod DataCells
 pub mod DataFields
-pub mod FirstCallees
 pub mod Below
 pub mod Graphing
 pub mod CallNumbers

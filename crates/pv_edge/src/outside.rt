@@ -19,7 +19,9 @@ pub enum FileFault {
 }
 
 impl From<AllocError> for FileFault {
-    ghost from_gives = { λ _ fault. fault ≡ FileFault.NoMemory };
+    ghost use Rattle.pv_edge.specs.declared.outside.FileFault.TheVariants.{NoMemory};
+
+    ghost from_gives = { λ _ fault. fault ≡ NoMemory };
 
     fn from(_error: AllocError) -> FileFault {
         FileFault::NoMemory
@@ -38,7 +40,9 @@ pub enum SinkFault {
 }
 
 impl From<AllocError> for SinkFault {
-    ghost from_gives = { λ _ fault. fault ≡ SinkFault.NoMemory };
+    ghost use Rattle.pv_edge.specs.declared.outside.SinkFault.TheVariants.{NoMemory};
+
+    ghost from_gives = { λ _ fault. fault ≡ NoMemory };
 
     fn from(_error: AllocError) -> SinkFault {
         SinkFault::NoMemory

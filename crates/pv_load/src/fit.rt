@@ -45,7 +45,9 @@ pub enum FitStop {
 }
 
 impl From<AllocError> for FitStop {
-    ghost from_gives = { λ _ stop. stop ≡ FitStop.NoMemory };
+    ghost use Rattle.pv_load.specs.declared.fit.FitStop.TheVariants.{NoMemory};
+
+    ghost from_gives = { λ _ stop. stop ≡ NoMemory };
 
     fn from(_error: AllocError) -> FitStop {
         FitStop::NoMemory

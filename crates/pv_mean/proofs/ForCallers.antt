@@ -1,2 +1,3 @@
 -- What proofs of crates above cite.
 pub use Rattle.pv_mean.proofs.Images.{length-image_after, length-start_image, within-start, within-next}
+pub use Rattle.pv_mean.proofs.CalledBlocks.{runs_such}

@@ -3,7 +3,6 @@ mod Keeping
 mod Pairing
 mod Standing
 mod Passing
-mod FirstCallees
 mod Numbers
 mod Making
 mod Arguments

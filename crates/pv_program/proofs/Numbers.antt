@@ -3,11 +3,8 @@ use Rattle.std.proofs.Common.{◌≡◌, ℕ, suc, List, [], ◌∷◌, map, Opt
 use Rattle.std.specs.Prelude.{slice_get, if◌then◌else◌}
 use Rattle.std.proofs.lemmas.Option.{same_Some}
 use Rattle.pv_tree.specs.Tree.{BlockTree}
-use Rattle.pv_tree.specs.Scopes.{Scope, first_block}
-use Rattle.pv_tree.specs.Callees.{CallSite, runs, callee_of}
-use Rattle.pv_mean.specs.Chains.{RunsSuch}
+use Rattle.pv_tree.specs.Scopes.{first_block}
 use Rattle.pv_names.specs.Firsts.{first_number}
-use Rattle.pv_program.proofs.FirstCallees.{In, callee_in}
 
 later : (o : Option ℕ) (x : BlockTree) (xs : List BlockTree) (n : ℕ) (b : BlockTree) → ((m : ℕ) → Some m ≡ o → slice_get xs m ≡ Some b)
     → Some n ≡ option_map (λ n. suc n) o → slice_get (x ∷ xs) n ≡ Some b
@@ -25,10 +22,6 @@ number-finds key (x ∷ xs) n b e f = lead (bytes_eq key x.name.key) (λ m is re
         → cond t (Some x) (first_block xs key) ≡ Some b → slice_get (x ∷ xs) n ≡ Some b
     lead true ih is found = ap (slice_get (x ∷ xs)) (same_Some n 0 is) ∙ found
     lead false ih is found = later (first_number (bytes_eq key) (map (λ b. b.name.key) xs)) x xs n b (λ m at. ih m at found) is
-
--- the block that a call runs is the first of its name
-pub called-first : (scope : Scope) (s : CallSite) (b : BlockTree) → callee_of scope s ≡ runs b → first_block scope.project.blocks b.name.key ≡ Some b
-called-first scope s b e = subst (RunsSuch (In scope.project)) e (callee_in scope s)
 
 -- by the number of its name in a table
 pub block-number : (blocks other : List BlockTree) (key : List ℕ) (b : BlockTree) (n v : ℕ) → other ≡ blocks → key ≡ b.name.key

@@ -74,7 +74,9 @@ pub enum RecheckFault {
 }
 
 impl From<AllocError> for RecheckFault {
-    ghost from_gives = { λ _ fault. fault ≡ RecheckFault.NoMemory };
+    ghost use Rattle.pv_recheck.specs.declared.fault.RecheckFault.TheVariants.{NoMemory};
+
+    ghost from_gives = { λ _ fault. fault ≡ NoMemory };
 
     fn from(_error: AllocError) -> RecheckFault {
         RecheckFault::NoMemory

@@ -28,7 +28,8 @@ use Rattle.pv_mean.specs.AreaBytes.{Bytes}
 use Rattle.pv_mean.specs.Chains.{RunsSuch}
 use Rattle.pv_mean.specs.Cells.{cell_of, leaves_of_block, entry_cells, data_leaves, byte_cell, area_cells, brief_cell, brief_variables, value_cells, stl_types, stl_cells, own_brief_cells, nameless, most_calls, brief_of_callee, brief_below, brief_cells}
 use Rattle.pv_starts.proofs.Declared.{block_lies, types_lie}
-use Rattle.pv_starts.proofs.Callees.{runs_such}
+use Rattle.pv_tree.proofs.ForCallers.{run_block_in}
+use Rattle.pv_mean.proofs.ForCallers.{runs_such}
 
 -- it begins with a value of its type, and no case has bound it yet
 pub record Begins (c : Cell) : Type 0 where
@@ -160,8 +161,8 @@ below_begins project keeps zero b = tt
 below_begins project keeps (suc n) b =
     flat_begin (λ (s : CallSite). brief_of_callee project (brief_below project n) (callee_of (record { project = project; block = b }) s))
     (λ s. callee_begins project (brief_below project n) (callee_of (record { project = project; block = b }) s)
-    (runs_such (record { project = project; block = b }) (λ x. Begin (own_brief_cells project x) × Begin (brief_below project n x))
-    (λ x c. (own_begin project keeps x c, below_begins project keeps n x)) s)) (calls_of b)
+    (runs_such (λ x. Begin (own_brief_cells project x) × Begin (brief_below project n x)) (callee_of (record { project = project; block = b }) s)
+    (λ x run. (own_begin project keeps x (run_block_in (record { project = project; block = b }) s x run), below_begins project keeps n x)))) (calls_of b)
 
 pub brief_begin : (project : ProjectTree) → KeepsRules project → (b : BlockTree) → Contains project.blocks b → Begin (brief_cells project b)
 brief_begin project keeps b c =

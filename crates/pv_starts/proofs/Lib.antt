@@ -1,7 +1,6 @@
 pub mod Declared
 pub mod Placing
 pub mod Telling
-pub mod Callees
 pub mod Beginning
 pub mod DataBlocks
 pub mod Bindings

@@ -19,3 +19,5 @@ pub use Rattle.pv_tree.proofs.Faults.{fault-one}
 pub use Rattle.pv_tree.proofs.Leasts.{least-one, none-least}
 -- named types as declarations are laid out over them
 pub use Rattle.pv_tree.proofs.NamedTypes.{type_contained, type_looked_up, types_nest}
+-- the block that a call runs is the first of its name, and one of the project's
+pub use Rattle.pv_tree.proofs.CalledBlocks.{run_block, run_block_in}

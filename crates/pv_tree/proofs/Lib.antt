@@ -20,5 +20,6 @@ pub mod Outsides
 pub mod Deepest
 pub mod Leasts
 pub mod Faults
+pub mod CalledBlocks
 mod Examples
 mod Sample

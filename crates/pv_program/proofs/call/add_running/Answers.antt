@@ -6,7 +6,7 @@ use Rattle.pv_resolve.specs.Contexts.{block_in}
 use Rattle.pv_program.proofs.Growing.{extends-then}
 use Rattle.pv_program.proofs.Keeping.{inward-kept, outward-kept}
 use Rattle.pv_program.proofs.Making.{call-running}
-use Rattle.pv_program.proofs.Numbers.{called-first}
+use Rattle.pv_tree.proofs.ForCallers.{run_block}
 use Rattle.pv_program.proofs.call.add_running.Goals as goal
 
 pub returns : goal.returns
@@ -19,7 +19,7 @@ returns c =
           call-running c.in_ok-made.made _ c.in_ok-block.block at (block_in c.args.inner.now) c.in_ok-made.ensures.at refl called
           (record {
             number = c.in_ok-block.ensures source is
-                (called-first (record { project = source.project; block = block_in c.args.context.now }) at (block_in c.args.inner.now) called);
+                (run_block (record { project = source.project; block = block_in c.args.context.now }) at (block_in c.args.inner.now) called);
             made = c.in_ok-see_code.ensures;
             first = λ k. c.in_ok-first.ensures source k is;
             inward = inward-kept behind (c.in_ok-inward.ensures.are source is inner);

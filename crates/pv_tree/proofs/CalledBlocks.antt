@@ -1,7 +1,8 @@
--- The block that a call runs is the first of its name.
-use Rattle.std.proofs.Common.{◌≡◌, ℕ, List, [], ◌∷◌, Bool, true, false, cond, Option, Some, None, refl, sym, subst, ap, ◌∙◌}
+-- The block that a call runs is the first of its name, and so one of the project's.
+use Rattle.std.proofs.Common.{◌≡◌, ℕ, List, [], ◌∷◌, Bool, true, false, cond, Option, Some, None, refl, sym, subst, ap, ◌∙◌, arith}
+use Rattle.std.proofs.lemmas.List.Elements.{Contains-append_right}
 use Rattle.std.proofs.lemmas.Slice.Eq.{bytes_eq-Decides}
-use Rattle.std.specs.Prelude.{⊤, is_some, if◌then◌else◌, option_and_then}
+use Rattle.std.specs.Prelude.{⊤, Contains, is_some, if◌then◌else◌, option_and_then}
 use Rattle.pv_machine.specs.declared.place.Place.{Place}
 use Rattle.pv_types.specs.declared.name.Name.{Name}
 use Rattle.pv_types.specs.Tree.{TypeTree, plain, array, structure, named, unread, VarTree}
@@ -11,7 +12,6 @@ use Rattle.pv_tree.specs.declared.block.BlockKind.TheVariants.{Fb, Fc, Ob, Db, U
 use Rattle.pv_tree.specs.Tree.{PlacedName, BlockTree}
 use Rattle.pv_tree.specs.Scopes.{ProjectTree, Scope, has_key, first_block, first_var, is_fb, is_type, block_where, type_named}
 use Rattle.pv_tree.specs.Callees.{How, as_statement, as_value, by_call, by_uc, is_by_stl, CallSite, is_word, Called, a_variable, block_called, no_callee, undeclared, called_where, called_block, called_name, Callee, runs, not_declared, not_callable, unknown, may_be_instance, function_runs, instance_runs, instance_of, variable_runs, block_runs, one_name_runs, data_block_runs, second_name_runs, first_name_runs, callee_of}
-use Rattle.pv_call_rules.specs.Links.{IsFirstBlock}
 
 -- P holds of what there is, and of what is run
 abbrev IsAll : {X : Type 0} → (X → Type 0) → Option X → Type 0
@@ -27,7 +27,7 @@ RunsSuch P unknown = ⊤
 -- ---- looked up blocks
 
 abbrev Is : ProjectTree → BlockTree → Type 0
-Is project b = IsFirstBlock project b
+Is project b = first_block project.blocks b.name.key ≡ Some b
 
 -- what is found of a key has it, and is what is found of its own
 same_found : (blocks : List BlockTree) (key other : List ℕ) → key ≡ other → first_block blocks key ≡ first_block blocks other
@@ -198,6 +198,23 @@ callee_is scope s = named_by s.call.base
     named_by (Some second) = first_is scope s.how (called_name scope s.call.name s.call.hash) s.call.name_place
         (called_name scope second.0 false) second.1 (called_is scope s.call.name s.call.hash)
 
--- the block that a call runs is the first of its name
-pub run_block : (scope : Scope) (s : CallSite) (b : BlockTree) → callee_of scope s ≡ runs b → IsFirstBlock scope.project b
+pub run_block : (scope : Scope) (s : CallSite) (b : BlockTree) → callee_of scope s ≡ runs b
+    → first_block scope.project.blocks b.name.key ≡ Some b
 run_block scope s b e = subst (RunsSuch (Is scope.project)) e (callee_is scope s)
+
+-- ---- among the blocks
+
+among : (key : List ℕ) (blocks all : List BlockTree) → ((b : BlockTree) → Contains blocks b → Contains all b)
+    → IsAll (λ b. Contains all b) (first_block blocks key)
+among key [] all f = tt
+among key (b ∷ more) all f =
+    lead (has_key key b.name) (f b (0, omega arith, refl)) (among key more all (λ c is. f c (Contains-append_right (b ∷ []) more c is)))
+  where
+    lead : (t : Bool) → Contains all b → IsAll (λ c. Contains all c) (first_block more key)
+        → IsAll (λ c. Contains all c) (cond t (Some b) (first_block more key))
+    lead true is rest = is
+    lead false is rest = rest
+
+pub run_block_in : (scope : Scope) (s : CallSite) (b : BlockTree) → callee_of scope s ≡ runs b → Contains scope.project.blocks b
+run_block_in scope s b e = subst (IsAll (λ c. Contains scope.project.blocks c)) (run_block scope s b e)
+    (among b.name.key scope.project.blocks scope.project.blocks (λ c is. is))
