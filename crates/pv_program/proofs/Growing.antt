@@ -13,7 +13,9 @@ use Rattle.pv_run.specs.declared.program.Inward.{Inward}
 use Rattle.pv_run.specs.declared.program.Outward.{Outward}
 use Rattle.pv_run.specs.declared.program.Code.{Code}
 use Rattle.std.specs.List.{between}
-use Rattle.std.proofs.lemmas.List.{append-nil, take-append-le, drop-append-le, length-drop}
+use Rattle.std.proofs.Math.Seq.{drop-append_seam}
+use Rattle.std.proofs.lemmas.List.{append-nil, take-append-le, drop-append-le, length-drop, take_all}
+use Rattle.pv_stl_run.specs.declared.instr.Instr.{Instr}
 use Rattle.pv_run.specs.declared.program.Program.{Program}
 use Rattle.pv_program.specs.Growth.{HasCode, Keeps, Continues, Extends, Stands, none_stands, stands_then}
 
@@ -50,6 +52,15 @@ part-stays xs ys a b c le within =
 
 pub part-within : {A : Type 0} (xs ys : List A) (b : ℕ) → Continues xs ys → b ≤ length xs → b ≤ length ys
 part-within xs ys b c le = omega (arith, ap length c.is, length-append xs c.more, le)
+
+-- what was put behind the others is the part behind them
+pub part-behind : {A : Type 0} (old more all : List A) (a b : ℕ) → all ≡ old ++ more → a ≡ length old → b ≡ length all → between a b all ≡ more
+part-behind old more all a b e first end =
+    let long : length all ≡ length old + length more = ap length e ∙ length-append old more in
+    let count : b - a ≡ length more = omega (arith, first, end, long) in
+    ap (λ k. take k (drop a all)) count
+    ∙ ap (take (length more)) (ap (drop a) e ∙ ap (λ n. drop n (old ++ more)) first ∙ drop-append_seam old more)
+    ∙ take_all (length more) more (omega arith)
 
 pub extends-same : (p : Program) → Extends p p
 extends-same p = record {
@@ -127,6 +138,28 @@ with-stmts p v k le = let same = extends-same p in record {
   stmts = k;
   longer = le;
   instrs = same.instrs;
+  ranges = same.ranges;
+  arms = same.arms;
+  branches = same.branches;
+  choices = same.choices;
+  calls = same.calls;
+  inward = same.inward;
+  outward = same.outward;
+  values = same.values;
+  targets = same.targets;
+  scratch = same.scratch;
+  widest = same.widest;
+  types = same.types;
+  bound = same.bound;
+  entry = same.entry;
+  coded = same.coded;
+}
+
+pub with-instrs : (p : Program) (v : Vec Instr Global) → Continues p.instrs.items v.items → Extends p (record p { instrs = v })
+with-instrs p v k = let same = extends-same p in record {
+  stmts = same.stmts;
+  longer = same.longer;
+  instrs = k;
   ranges = same.ranges;
   arms = same.arms;
   branches = same.branches;
@@ -358,6 +391,28 @@ with-widest p n le = let same = extends-same p in record {
   targets = same.targets;
   scratch = same.scratch;
   widest = le;
+  types = same.types;
+  bound = same.bound;
+  entry = same.entry;
+  coded = same.coded;
+}
+
+pub with-ranges : (p : Program) (n : ℕ) → p.ranges ≤ n → Extends p (record p { ranges = n })
+with-ranges p n le = let same = extends-same p in record {
+  stmts = same.stmts;
+  longer = same.longer;
+  instrs = same.instrs;
+  ranges = le;
+  arms = same.arms;
+  branches = same.branches;
+  choices = same.choices;
+  calls = same.calls;
+  inward = same.inward;
+  outward = same.outward;
+  values = same.values;
+  targets = same.targets;
+  scratch = same.scratch;
+  widest = same.widest;
   types = same.types;
   bound = same.bound;
   entry = same.entry;

@@ -30,6 +30,7 @@ use Rattle.pv_run.specs.Handing.{Handed}
 use Rattle.pv_run.specs.Code.{IsValue, IsTarget, AreChoices, no_choice, choice_then, AreInward, none_in, not_given, given, GoesTo, AreOutward, none_out, not_taken, taken, RunsBlock, RunsSo, IsCall, Counts, IsStmt, assigns, assigns_call, decides, selects, counts, goes_while, repeats, exits, continues, returns, calls, nothing, AreStmts, no_stmt, stmt_then, IsBody, body_before, IsElse, nothing_else, something_else, AreArms, no_arm, arm_then, AreBranches, no_branch, branch_then, instrs_in, HasInstrs, RunsBody, IsCode}
 use Rattle.pv_program.specs.Growth.{HasCode, Extends}
 use Rattle.pv_program.specs.Made.{IsArm, IsBranch}
+use Rattle.pv_program.specs.Bodies.{CallsSo, AreMadeInstrs}
 use Rattle.pv_program.proofs.Growing.{part-stays, part-within}
 
 pub value-kept : {source : Source} {block : BlockTree} {p q : Program} {n : ℕ} {e : ExprTree} → Extends p q → IsValue source block p n e
@@ -184,7 +185,7 @@ taken-kept {n = n} x t = record {
   names = t.names;
 }
 
-deed-kept : {source : Source} {block : BlockTree} {p q : Program} {d : Deed} {i : InstrTree} → Extends p q
+pub deed-kept : {source : Source} {block : BlockTree} {p q : Program} {d : Deed} {i : InstrTree} → Extends p q
     → IsDeed source block p.targets.items p.scratch d i → IsDeed source block q.targets.items q.scratch d i
 deed-kept x (changes row) = changes row
 deed-kept x (joins o e t row) = joins o e (taken-kept x t) row
@@ -196,7 +197,7 @@ deed-kept x (jumps row) = jumps row
 deed-kept x (ends row) = ends row
 deed-kept x (ends_where row) = ends_where row
 
-does-kept : (source : Source) (block : BlockTree) (i : InstrTree) (d : Deed) {p q : Program} → Extends p q
+pub does-kept : (source : Source) (block : BlockTree) (i : InstrTree) (d : Deed) {p q : Program} → Extends p q
     → Does source block p.targets.items p.scratch d i → Does source block q.targets.items q.scratch d i
 does-kept source block i (deed.Change c) x h = (h.0, deed-kept x h.1)
 does-kept source block i (deed.Join j n) x h = (h.0, deed-kept x h.1)
@@ -209,7 +210,20 @@ does-kept source block i deed.End x h = (h.0, deed-kept x h.1)
 does-kept source block i deed.EndWhere x h = (h.0, deed-kept x h.1)
 does-kept source block i (deed.Call n) x h = h
 
-instr-kept : {source : Source} {block : BlockTree} {p q : Program} {all : List InstrTree} {code : List Instr} {k : ℕ} {c : Instr}
+pub calls-kept : (source : Source) (block : BlockTree) (i : InstrTree) (d : Deed) {p q : Program} → Extends p q
+    → CallsSo source block p i d → CallsSo source block q i d
+calls-kept source block i (deed.Change c) x h = h
+calls-kept source block i (deed.Join j n) x h = h
+calls-kept source block i (deed.Write w n) x h = h
+calls-kept source block i (deed.Edge rising n) x h = h
+calls-kept source block i (deed.Load ty n) x h = h
+calls-kept source block i (deed.Transfer ty n) x h = h
+calls-kept source block i (deed.Jump w goal) x h = h
+calls-kept source block i deed.End x h = h
+calls-kept source block i deed.EndWhere x h = h
+calls-kept source block i (deed.Call n) x h = λ call e. call-kept x (h call e)
+
+pub instr-kept : {source : Source} {block : BlockTree} {p q : Program} {all : List InstrTree} {code : List Instr} {k : ℕ} {c : Instr}
     {i : InstrTree} → Extends p q → IsInstr source block p.targets.items p.scratch all code k c i
     → IsInstr source block q.targets.items q.scratch all code k c i
 instr-kept {source} {block} {p} {q} {all} {code} {k} {c} {i} x h = record {
@@ -218,6 +232,13 @@ instr-kept {source} {block} {p} {q} {all} {code} {k} {c} {i} x h = record {
   range = h.range;
   jumps = h.jumps;
   nests = h.nests;
+}
+
+pub made-kept : {source : Source} {block : BlockTree} {p q : Program} {all : List InstrTree} {code : List Instr} → Extends p q
+    → AreMadeInstrs source block p all code → AreMadeInstrs source block q all code
+made-kept {source} {block} x h = λ k c i at is. record {
+  is = instr-kept x (h k c i at is).is;
+  calls = calls-kept source block i c.deed x (h k c i at is).calls;
 }
 
 are-kept : {source : Source} {block : BlockTree} {p q : Program} {all : List InstrTree} {code : List Instr} → Extends p q

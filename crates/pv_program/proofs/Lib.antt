@@ -11,3 +11,7 @@ mod Choosing
 mod Reaching
 mod Measuring
 mod Forms
+mod Labelled
+mod Deeds
+mod Instructing
+mod Placing

@@ -18,7 +18,7 @@ use Rattle.pv_tree.specs.declared.stmt.Choice as tree
 use Rattle.pv_tree.specs.declared.expr.Operand.{Operand}
 use Rattle.pv_tree.specs.declared.expr.Expr.TheFolds.{fold_out-Operand}
 use Rattle.pv_tree.specs.Tree.{ExprTree, StepTree, OperandTree, operand, no_steps, Choices, StmtTree, StmtTrees, BlockTree}
-use Rattle.pv_tree.specs.View.{expr_tree, expr_step, step_step, operand_step, operand_tree, step_tree, steps_of, stmt_tree, stmt_trees, else_of, body_tree}
+use Rattle.pv_tree.specs.View.{expr_tree, expr_step, step_step, operand_step, operand_tree, step_tree, steps_of, stmt_tree, stmt_trees, else_of, instr_tree, body_tree}
 use Rattle.pv_types.specs.declared.declaration.Literal.{Literal}
 use Rattle.pv_tree.specs.declared.block.Body.{Body}
 use Rattle.pv_tree.specs.declared.block.Body.TheVariants as body
@@ -33,6 +33,8 @@ use Rattle.pv_mean.specs.Layout.{size_among, is_brief_in}
 use Rattle.pv_mean.specs.Activations.{value_number, brief_count}
 use Rattle.pv_mean.specs.declared.cell.Cell.{Cell}
 use Rattle.pv_mean.specs.Frames.{visible_cells, is_brief}
+use Rattle.pv_tree.specs.declared.instr.Instr.{Instr}
+use Rattle.pv_run.specs.declared.program.Span.{Span}
 use Rattle.pv_run.specs.declared.program.Body.TheVariants as flat
 use Rattle.pv_run.specs.declared.program.List as code
 use Rattle.pv_run.specs.declared.program.Stmt.{Stmt}
@@ -40,7 +42,7 @@ use Rattle.pv_run.specs.declared.program.Called.{Called}
 use Rattle.pv_run.specs.declared.program.Code.{Code}
 use Rattle.pv_run.specs.declared.program.TheConstants.{MOST_STATEMENTS}
 use Rattle.pv_run.specs.declared.program.Program.{Program}
-use Rattle.pv_run.specs.Code.{IsStmt, AreStmts, no_stmt, IsBody, body_before, nothing_else, something_else, RunsBlock, RunsSo, IsCall, statements_end, RunsBody, IsCode, IsProgram}
+use Rattle.pv_run.specs.Code.{IsStmt, AreStmts, no_stmt, IsBody, body_before, nothing_else, something_else, RunsBlock, RunsSo, IsCall, HasInstrs, statements_end, RunsBody, IsCode, IsProgram}
 use Rattle.pv_eval.specs.Writes.{TypesOf}
 use Rattle.pv_program.specs.Growth.{Coded, Extends, Stands}
 use Rattle.pv_program.specs.Pairs.{Pairs}
@@ -189,6 +191,13 @@ pub scl-runs : (source : Source) (block : BlockTree) (p : Program) (l : code.Lis
     → RunsBody source block p (flat.Statements l) (body_tree b)
 scl-runs source block p l b v xs is same made =
     subst (λ x. RunsBody source block p (flat.Statements l) (body_tree x)) (sym is) (body-runs (list-as xs v.items same made))
+
+pub stl-runs : (source : Source) (block : BlockTree) (p : Program) (s : Span) (b : Body) (v : Vec Instr Global)
+    (xs : List Instr) → b ≡ body.Stl v → xs ≡ v.items → HasInstrs source block p s (map instr_tree xs)
+    → RunsBody source block p (flat.Instructions s) (body_tree b)
+stl-runs source block p s b v xs is same made =
+    subst (λ x. RunsBody source block p (flat.Instructions s) (body_tree x)) (sym is)
+    (subst (λ l. HasInstrs source block p s (map instr_tree l)) same made)
 
 pub starts-runs : (source : Source) (block : BlockTree) (p : Program) (b : Body) (v : Vec (Operand × Literal) Global) → b ≡ body.Starts v
     → RunsBody source block p (flat.Statements (record { first = 0; end = 0 })) (body_tree b)

@@ -1,19 +1,20 @@
 -- What is handed in and out, one parameter more.
 use Rattle.std.proofs.Common.{◌≡◌, ℕ, ◌+◌, ◌<◌, ◌≤◌, List, [], ◌∷◌, ◌++◌, map, filter, length, take, get_or, Option, Some, None, Bool, true, false, refl, sym, ap, ◌∙◌, subst, append_assoc}
-use Rattle.std.specs.Prelude.{◌&&◌, is_none, find, if◌then◌else◌}
+use Rattle.std.specs.Prelude.{◌&&◌, ◌||◌, not, find, if◌then◌else◌}
+use Rattle.pv_word.specs.declared.types.Ty.{Ty}
 use Rattle.std.proofs.lemmas.List.{append-nil, take_all}
 use Rattle.pv_types.specs.declared.declaration.Section.{Section}
 use Rattle.pv_types.specs.declared.declaration.Section.TheVariants.{Input, Output, InOut, Static, Temp, Const}
-use Rattle.pv_types.specs.Tree.{VarTree, var, plain}
+use Rattle.pv_types.specs.Tree.{VarTree, var}
 use Rattle.pv_types.specs.declared.declaration.Var.{Var}
 use Rattle.pv_types.specs.View.{var_tree, name_of, section_of}
 use Rattle.pv_types.proofs.ForCallers.{var_seen}
 use Rattle.pv_tree.specs.Tree.{ExprTree, ArgTree, BlockTree}
-use Rattle.pv_tree.specs.Scopes.{first_var, value_key}
-use Rattle.pv_tree.specs.Callees.{How, is_by_stl, CallSite, params_of_vars, value_param}
+use Rattle.pv_tree.specs.Callees.{How, CallSite, params_of_vars, value_param}
 use Rattle.pv_tree.specs.Parts.{operand_of}
 use Rattle.pv_mean.specs.Sources.{Source}
-use Rattle.pv_mean.specs.Activations.{word_begins, spot_of}
+use Rattle.pv_mean.specs.Activations.{word_begins, spot_of, value_number}
+use Rattle.pv_mean.specs.Spots.{brief, nowhere}
 use Rattle.pv_mean.specs.Calls.{value_spot, is_for}
 use Rattle.pv_names.specs.Params.{param_of}
 use Rattle.pv_eval.specs.Means.{activation}
@@ -23,7 +24,7 @@ use Rattle.pv_run.specs.declared.program.Program.{Program}
 use Rattle.pv_run.specs.Handing.{Handed, handed_in, handed_out, argument_of}
 use Rattle.pv_run.specs.Code.{IsValue, GoesTo, slot_spot}
 use Rattle.pv_program.specs.Growth.{Extends}
-use Rattle.pv_program.specs.Handed.{goes_in, goes_out, handed_one, handed_if, handed_of, IsSpotOf, AreGiven, none_given, left_out, one_given, AreTaken, none_taken, passed_over, one_taken}
+use Rattle.pv_program.specs.Handed.{goes_in, goes_out, handed_one, handed_if, handed_of, value_params, handed_value, values_handed, IsSpotOf, AreGiven, none_given, left_out, one_given, AreTaken, none_taken, passed_over, one_taken}
 use Rattle.pv_program.proofs.Keeping.{value-kept, goes-kept}
 use Rattle.pv_program.proofs.Pairing.{one-longer}
 
@@ -132,21 +133,10 @@ out-sections source callee (var name Const ty start place ∷ vs) = out-sections
 pub all-in : (source : Source) (callee : BlockTree) → handed_of source callee goes_in callee.vars ≡ handed_in source callee
 all-in source callee = in-sections source callee callee.vars
 
--- in SCL a function's value isn't handed out
-no-value : (how : How) (callee : BlockTree) → is_by_stl how ≡ false → value_param how callee ≡ []
-no-value how callee e =
-    ap (λ t. if t && is_none (first_var callee.vars value_key) then (elim callee.value [
-      | None ↦ []
-      | Some ty ↦ record { key = value_key; section = Output; ty = plain ty } ∷ []
-    ]) else []) e
-
-pub all-out : (source : Source) (how : How) (callee : BlockTree) → is_by_stl how ≡ false
-    → handed_of source callee goes_out callee.vars ≡ handed_out source how callee
-all-out source how callee e =
-    out-sections source callee callee.vars
-    ∙ sym (append-nil (through source callee goes_out callee.vars))
-    ∙ ap (λ l. through source callee goes_out callee.vars ++ map (λ p. record { param = p; spot = λ first. value_spot source callee }) l)
-    (sym (no-value how callee e))
+-- with a function's value behind them
+pub all-out : (source : Source) (how : How) (callee : BlockTree)
+    → handed_of source callee goes_out callee.vars ++ values_handed source how callee ≡ handed_out source how callee
+all-out source how callee = ap (λ l. l ++ values_handed source how callee) (out-sections source callee callee.vars)
 
 -- ---- variables of the code
 
@@ -260,23 +250,53 @@ pub taken-grown : {source : Source} {block : BlockTree} {p : Program} {site : Ca
 taken-grown {source} {block} {p} {site} {callee} test xs i j x cs inside is e are =
     subst (λ l. AreTaken source block p site callee cs l) (sym (handed-grown source callee test var_tree xs i j x inside is e)) are
 
-pub taken-whole : {source : Source} {block : BlockTree} {p q : Program} {site : CallSite} {callee : BlockTree} (test : Section → Bool)
-    (xs : List Var) (i : ℕ) (cs slice : List Outward) (hs : List Handed) → Extends p q → length xs ≤ i → slice ≡ cs
-    → handed_of source callee test (map var_tree xs) ≡ hs
-    → AreTaken source block p site callee cs (handed_of source callee test (map var_tree (take i xs)))
-    → AreTaken source block q site callee slice hs
-taken-whole {source} {block} {p} {q} {site} {callee} test xs i cs slice hs x end same all are =
-    subst (λ l. AreTaken source block q site callee l hs) (sym same)
-    (subst (λ l. AreTaken source block q site callee cs l) (ap (λ l. handed_of source callee test (map var_tree l)) (take_all i xs end) ∙ all)
-    (taken-kept x are))
-
 -- the variables of a block
 pub parameters-in : (source : Source) (callee seen : BlockTree) (vars : List VarTree) → seen ≡ callee → vars ≡ seen.vars
     → handed_of source callee goes_in vars ≡ handed_in source callee
 parameters-in source callee seen vars is e =
     ap (handed_of source callee goes_in) (e ∙ ap (λ (b : BlockTree). b.vars) is) ∙ all-in source callee
 
-pub parameters-out : (source : Source) (how : How) (callee seen : BlockTree) (vars : List VarTree) → is_by_stl how ≡ false → seen ≡ callee
-    → vars ≡ seen.vars → handed_of source callee goes_out vars ≡ handed_out source how callee
-parameters-out source how callee seen vars scl is e =
-    ap (handed_of source callee goes_out) (e ∙ ap (λ (b : BlockTree). b.vars) is) ∙ all-out source how callee scl
+pub parameters-out : (source : Source) (how : How) (callee seen : BlockTree) (vars : List VarTree) → seen ≡ callee
+    → vars ≡ seen.vars → handed_of source callee goes_out vars ++ values_handed source how callee ≡ handed_out source how callee
+parameters-out source how callee seen vars is e =
+    ap (λ l. handed_of source callee goes_out l ++ values_handed source how callee) (e ∙ ap (λ (b : BlockTree). b.vars) is)
+    ∙ all-out source how callee
+
+-- all variables, and what is handed out behind them
+pub taken-all : {source : Source} {block : BlockTree} {p : Program} {site : CallSite} {callee : BlockTree} (test : Section → Bool)
+    (xs : List Var) (i : ℕ) (cs : List Outward) → length xs ≤ i
+    → AreTaken source block p site callee cs (handed_of source callee test (map var_tree (take i xs)))
+    → AreTaken source block p site callee cs (handed_of source callee test (map var_tree xs))
+taken-all {source} {block} {p} {site} {callee} test xs i cs end are =
+    subst (λ l. AreTaken source block p site callee cs l) (ap (λ l. handed_of source callee test (map var_tree l)) (take_all i xs end)) are
+
+pub taken-end : {source : Source} {block : BlockTree} {p q : Program} {site : CallSite} {callee : BlockTree} (cs slice : List Outward)
+    (hs all : List Handed) → Extends p q → slice ≡ cs → hs ≡ all → AreTaken source block p site callee cs hs
+    → AreTaken source block q site callee slice all
+taken-end {source} {block} {p} {q} {site} {callee} cs slice hs all x same is are =
+    subst (λ l. AreTaken source block q site callee l all) (sym same)
+    (subst (λ l. AreTaken source block q site callee cs l) is (taken-kept x are))
+
+-- ---- a function's value
+
+-- the spot of the value
+pub value-spot-seen : (source : Source) (callee : BlockTree) (ty : Ty) (n first : ℕ) → callee.value ≡ Some ty → n ≡ value_number source callee
+    → brief ty n ≡ (handed_value source callee ty).spot first
+value-spot-seen source callee ty n first e is =
+    ap (brief ty) is ∙ sym (ap (λ (o : Option Ty). elim o [ None ↦ nowhere | Some t ↦ brief t (value_number source callee) ]) e)
+
+-- handed out, or not
+pub values-handed-one : {source : Source} {block : BlockTree} {p : Program} {site : CallSite} {callee : BlockTree} (how : How) (ty : Ty)
+    (cs : List Outward) (hs : List Handed) → value_params (Some ty) ≡ value_param how callee
+    → AreTaken source block p site callee cs (hs ++ handed_value source callee ty ∷ [])
+    → AreTaken source block p site callee cs (hs ++ values_handed source how callee)
+values-handed-one {source} {block} {p} {site} {callee} how ty cs hs e are =
+    subst (λ l. AreTaken source block p site callee cs (hs ++ map (λ p. record { param = p; spot = λ first. value_spot source callee }) l)) e are
+
+pub values-handed-none : {source : Source} {block : BlockTree} {p : Program} {site : CallSite} {callee : BlockTree} (how : How)
+    (cs : List Outward) (hs : List Handed) → value_params None ≡ value_param how callee
+    → AreTaken source block p site callee cs hs
+    → AreTaken source block p site callee cs (hs ++ values_handed source how callee)
+values-handed-none {source} {block} {p} {site} {callee} how cs hs e are =
+    subst (λ l. AreTaken source block p site callee cs (hs ++ map (λ p. record { param = p; spot = λ first. value_spot source callee }) l)) e
+    (subst (λ l. AreTaken source block p site callee cs l) (sym (append-nil hs)) are)

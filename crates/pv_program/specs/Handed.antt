@@ -1,11 +1,16 @@
 -- What is handed in and out, parameter by parameter.
-use Rattle.std.specs.Prelude.{◌≡◌, ℕ, List, [], ◌∷◌, ◌++◌, Bool as Truth, true, ◌||◌, if◌then◌else◌, Some, None}
+use Rattle.std.specs.Prelude.{◌≡◌, ℕ, List, [], ◌∷◌, ◌++◌, map, Bool as Truth, true, ◌||◌, if◌then◌else◌, Option, Some, None}
+use Rattle.pv_word.specs.declared.types.Ty.{Ty}
+use Rattle.pv_types.specs.declared.declaration.Section.TheVariants.{Output}
+use Rattle.pv_types.specs.Tree.{plain}
+use Rattle.pv_tree.specs.Scopes.{value_key}
+use Rattle.pv_mean.specs.Calls.{value_spot}
 use Rattle.pv_types.specs.declared.name.Name.{Name}
 use Rattle.pv_types.specs.declared.declaration.Section.{Section}
 use Rattle.pv_types.specs.Tree.{VarTree}
 use Rattle.pv_types.specs.View.{section_of}
 use Rattle.pv_tree.specs.Tree.{ArgTree, BlockTree}
-use Rattle.pv_tree.specs.Callees.{CallSite, is_input, is_output, is_in_out}
+use Rattle.pv_tree.specs.Callees.{How, CallSite, Param, value_param, is_input, is_output, is_in_out}
 use Rattle.pv_tree.specs.Parts.{operand_of}
 use Rattle.pv_names.specs.Params.{param_of}
 use Rattle.pv_mean.specs.Sources.{Source}
@@ -45,6 +50,22 @@ abbrev pub handed_of : Source → BlockTree → (Section → Truth) → List Var
 handed_of source callee test [] = []
 handed_of source callee test (v ∷ vs) =
     handed_if source callee test v ++ handed_of source callee test vs
+
+-- a function's value as a parameter, with its spot
+abbrev pub value_params : Option Ty → List Param
+value_params None = []
+value_params (Some ty) = record { key = value_key; section = Output; ty = plain ty } ∷ []
+
+abbrev pub handed_value : Source → BlockTree → Ty → Handed
+handed_value source callee ty = record {
+  param = record { key = value_key; section = Output; ty = plain ty };
+  spot = λ first. value_spot source callee;
+}
+
+abbrev pub values_handed : Source → How → BlockTree → List Handed
+values_handed source how callee =
+    map (λ p. record { param = p; spot = λ first. value_spot source callee })
+    (value_param how callee)
 
 -- a parameter without an argument isn't among what is handed
 pub data AreGiven (source : Source) (block : BlockTree) (p : Program) (site : CallSite)

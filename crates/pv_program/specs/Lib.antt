@@ -4,3 +4,6 @@ pub mod Pairs
 pub mod Made
 pub mod Handed
 pub mod Reached
+pub mod Rows
+pub mod Labels
+pub mod Bodies

@@ -12,6 +12,7 @@ ghost use Rattle.pv_program.specs.Growth.{Extends};
 
 use crate::fault::ProgramFault;
 use crate::grow::widen;
+use crate::instr::add_instrs;
 use crate::stmt::make_list;
 use pv_mean::BEYOND;
 use pv_resolve::{Context, ResolveFault};
@@ -33,7 +34,7 @@ fn is_stl(body: &Body) -> bool
 }
 
 /// The number of a function's value among the brief cells of the block: it lies behind the variables.
-fn value_number(context: &Context) -> Result<u32, ResolveFault>
+pub(crate) fn value_number(context: &Context) -> Result<u32, ResolveFault>
     ensures is { (source : Source) → IsContext context.now source
         → IfOk result (λ n. n ≡ value_number source (block_in context.now)) }
     ensures few { IfOk result (λ n. n < BOUND) }
@@ -70,7 +71,7 @@ fn brief_count(block: &Block, value: u32) -> u32
     value + cells + registers
 }
 
-/// Puts the statements of a body behind those of the program. There is no code of a body of STL yet.
+/// Puts the statements or instructions of a body behind those of the program.
 fn add_body(
     alloc: Global,
     context: &Context,
@@ -87,7 +88,10 @@ fn add_body(
             let made = make_list(alloc, context, program, list.as_slice())?;
             Ok(CodeBody::Statements(made))
         }
-        Body::Stl(_) => Err(ProgramFault::Stl),
+        Body::Stl(list) => {
+            let made = add_instrs(alloc, context, program, list.as_slice())?;
+            Ok(CodeBody::Instructions(made))
+        }
         Body::Starts(_) => Ok(CodeBody::Statements(List { first: 0, end: 0 })),
     }
 }

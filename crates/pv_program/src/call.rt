@@ -1,13 +1,14 @@
 //! Calls: which block one runs, on which instance, and what is handed in and out in the order of the declarations.
 //!
 //! Each parameter is looked for among the arguments of its call.
-ghost use Rattle.std.specs.Prelude.{◌≡◌, ◌++◌, ◌∷◌, [], List, find, bytes_eq, slice_get, option_map, IfOk, OnOk, None, Some, false};
-ghost use Rattle.pv_types.specs.View.{var_tree};
+ghost use Rattle.std.specs.Prelude.{◌≡◌, ◌++◌, ◌∷◌, [], List, find, bytes_eq, slice_get, option_map, is_some, IfOk, IfSome, OnOk, None, Some};
+ghost use Rattle.pv_types.specs.View.{var_tree, var_trees};
 ghost use Rattle.pv_tree.specs.View.{arg_tree, call_tree, expr_tree, operand_tree};
 ghost use Rattle.pv_tree.specs.Tree.{ArgTree, BlockTree};
 ghost use Rattle.pv_tree.specs.Callees as callees;
 ghost use Rattle.pv_tree.specs.Callees.{CallSite};
 ghost use Rattle.pv_tree.specs.Scopes as scopes;
+ghost use Rattle.pv_tree.specs.Scopes.{value_key};
 ghost use Rattle.pv_tree.specs.Parts as parts;
 ghost use Rattle.pv_tree.specs.Parts.{site};
 ghost use Rattle.pv_names.specs.Callees.{how_tree, param_tree};
@@ -15,22 +16,26 @@ ghost use Rattle.pv_names.specs.Entries.{block_of};
 ghost use Rattle.pv_names.specs.InScope.{scope_of};
 ghost use Rattle.pv_mean.specs.Sources.{Source};
 ghost use Rattle.pv_mean.specs.Calls as calls;
+ghost use Rattle.pv_mean.specs.Placed.{call_placed};
 ghost use Rattle.pv_run.specs.Code.{GoesTo, AreInward, AreOutward, IsCall};
 ghost use Rattle.pv_run.specs.Handing.{Handed, handed_in, handed_out, argument_of};
 ghost use Rattle.pv_resolve.specs.Contexts.{IsContext, block_in};
 ghost use Rattle.pv_program.specs.Growth.{Extends};
-ghost use Rattle.pv_program.specs.Handed.{goes_in, goes_out, handed_if, IsSpotOf, AreGiven, AreTaken};
+ghost use Rattle.pv_program.specs.Handed.{goes_in, goes_out, handed_if, value_params, handed_value, values_handed, IsSpotOf, AreGiven, AreTaken};
 
+use crate::block::value_number;
 use crate::grow::{append_inward, append_outward, number, push_call, see_code};
 use crate::instance::instance_of;
+use crate::placed::call_placed;
 use crate::slot::slot_of;
 use crate::value::{add_target, add_value};
 use pv_machine::Place;
 use pv_names::{Callee, Entry, How, Param, Scope, param_for};
 use pv_resolve::{Context, ResolveFault};
-use pv_run::{Called, First, Inward, Outward, Program, Span};
+use pv_run::{Called, First, Inward, Outward, Program, Slot, Span};
 use pv_tree::{Arg, CallTree, Expr, Operand};
 use pv_types::{Name, Section, Var};
+use pv_word::Ty;
 use std::alloc::Global;
 
 /// Whether what is declared in a section is copied in.
@@ -279,7 +284,133 @@ fn hand_out(
     }
 }
 
-/// Puts what a call of SCL hands out behind that of the program.
+fn is_by_stl(how: How) -> bool
+    ensures { result ≡ callees.is_by_stl (how_tree how) }
+{
+    match how {
+        How::Call | How::Uc => true,
+        How::Statement | How::Value => false,
+    }
+}
+
+/// Whether a parameter has the name of a function's value.
+fn has_value_name(param: Param) -> bool
+    ensures { result ≡ bytes_eq value_key (param_tree param.entry).key }
+{
+    match param {
+        Param::Var(var) => b"ret_val".as_slice() == var.name.key.bytes(),
+        Param::Value(_) => true,
+    }
+}
+
+/// Whether an argument is for the parameter with the name of a function's value.
+fn is_for_value(how: How, callee: &Entry, arg: &Arg) -> bool
+    ensures { result
+        ≡ calls.is_for (how_tree how) (block_of callee.now) value_key (arg_tree arg.now) }
+{
+    match param_for(how, callee, arg) {
+        Some(param) => has_value_name(param),
+        None => false,
+    }
+}
+
+/// The first argument for the parameter with the name of a function's value.
+fn argument_for_value<'c>(how: How, callee: &Entry, call: &'c CallTree) -> Option<&'c Arg>
+    ensures { option_map (λ a. arg_tree a.now) result
+        ≡ find (calls.is_for (how_tree how) (block_of callee.now) value_key)
+        (call_tree call.now).args }
+{
+    for arg in &call.args {
+        if is_for_value(how, callee, arg) {
+            return Some(arg);
+        }
+    }
+    None
+}
+
+/// Whether a variable has the name of a function's value.
+fn names_value(vars: &[Var]) -> bool
+    ensures { result ≡ is_some (scopes.first_var (var_trees vars.now) value_key) }
+{
+    for var in vars {
+        if b"ret_val".as_slice() == var.name.key.bytes() {
+            return true;
+        }
+    }
+    false
+}
+
+/// The type of a function's value, where a call hands it out.
+fn value_out(how: How, callee: &Entry) -> Option<Ty>
+    ensures params { value_params result
+        ≡ callees.value_param (how_tree how) (block_of callee.now) }
+    ensures is { IfSome result (λ ty. (block_of callee.now).value ≡ Some ty) }
+{
+    if !is_by_stl(how) || names_value(callee.block().interface.vars.as_slice()) {
+        return None;
+    }
+    callee.block().interface.value
+}
+
+/// Hands the value of a function out to its argument, if it has one.
+fn hand_value_out(
+    alloc: Global,
+    context: &Context,
+    inner: &Context,
+    how: How,
+    call: &CallTree,
+    program: &mut Program,
+    made: &mut Vec<Outward>,
+    ty: Ty,
+) -> Result<(), ResolveFault>
+    ensures grows { OnOk result (Extends program.old program.new) }
+    ensures taken { (source : Source) (hs : List Handed)
+        → IsContext context.now source → IsContext inner.now source
+        → (block_in inner.now).value ≡ Some ty
+        → AreTaken source (block_in context.now) program.old
+        (site (how_tree how) (call_tree call.now)) (block_in inner.now) made.old.items hs
+        → OnOk result (AreTaken source (block_in context.now) program.new
+        (site (how_tree how) (call_tree call.now)) (block_in inner.now) made.new.items
+        (hs ++ handed_value source (block_in inner.now) ty ∷ [])) }
+{
+    match argument_for_value(how, inner.scope.entry, call) {
+        Some(arg) => {
+            let to = add_taker(alloc, context, program, &arg.value)?;
+            let n = value_number(inner)?;
+            let from = Slot::Brief(ty, n);
+            made.push(Outward { from, to })?;
+            Ok(())
+        }
+        None => Ok(()),
+    }
+}
+
+/// Hands what a function gives out, if a call does.
+fn hand_any_value(
+    alloc: Global,
+    context: &Context,
+    inner: &Context,
+    how: How,
+    call: &CallTree,
+    program: &mut Program,
+    made: &mut Vec<Outward>,
+) -> Result<(), ResolveFault>
+    ensures grows { OnOk result (Extends program.old program.new) }
+    ensures taken { (source : Source) (hs : List Handed)
+        → IsContext context.now source → IsContext inner.now source
+        → AreTaken source (block_in context.now) program.old
+        (site (how_tree how) (call_tree call.now)) (block_in inner.now) made.old.items hs
+        → OnOk result (AreTaken source (block_in context.now) program.new
+        (site (how_tree how) (call_tree call.now)) (block_in inner.now) made.new.items
+        (hs ++ values_handed source (how_tree how) (block_in inner.now))) }
+{
+    match value_out(how, inner.scope.entry) {
+        Some(ty) => hand_value_out(alloc, context, inner, how, call, program, made, ty),
+        None => Ok(()),
+    }
+}
+
+/// Puts what a call hands out behind that of the program.
 fn add_outward(
     alloc: Global,
     context: &Context,
@@ -288,7 +419,6 @@ fn add_outward(
     call: &CallTree,
     program: &mut Program,
 ) -> Result<Span, ResolveFault>
-    requires { callees.is_by_stl (how_tree how) ≡ false }
     ensures grows { OnOk result (Extends program.old program.new) }
     ensures are { (source : Source) → IsContext context.now source → IsContext inner.now source
         → IfOk result (λ s. AreOutward source (block_in context.now) program.new
@@ -300,6 +430,7 @@ fn add_outward(
     for var in vars {
         hand_out(alloc, context, inner, how, call, program, &mut made, var)?;
     }
+    hand_any_value(alloc, context, inner, how, call, program, &mut made)?;
     let span = append_outward(program, made.as_slice())?;
     Ok(span)
 }
@@ -317,7 +448,7 @@ fn number_of_block(context: &Context, entry: &Entry) -> Result<u32, ResolveFault
     }
 }
 
-/// Puts a call of SCL that runs a block behind those of the program, and gives its number.
+/// Puts a call that runs a block behind those of the program, and gives its number.
 fn add_running(
     alloc: Global,
     context: &Context,
@@ -326,7 +457,6 @@ fn add_running(
     call: &CallTree,
     program: &mut Program,
 ) -> Result<u32, ResolveFault>
-    requires { callees.is_by_stl (how_tree how) ≡ false }
     ensures grows { OnOk result (Extends program.old program.new) }
     ensures means { (source : Source) → IsContext context.now source → IsContext inner.now source
         → callees.callee_of (record { project = source.project; block = block_in context.now })
@@ -374,7 +504,7 @@ fn add_idle(program: &mut Program, place: Place) -> Result<u32, ResolveFault>
     Ok(made)
 }
 
-/// Puts a call of SCL behind those of the program, and gives its number.
+/// Puts a call behind those of the program, and gives its number.
 pub(crate) fn add_call(
     alloc: Global,
     context: &Context,
@@ -382,7 +512,6 @@ pub(crate) fn add_call(
     call: &CallTree,
     program: &mut Program,
 ) -> Result<u32, ResolveFault>
-    requires { callees.is_by_stl (how_tree how) ≡ false }
     ensures grows { OnOk result (Extends program.old program.new) }
     ensures means { (source : Source) → IsContext context.now source
         → IfOk result (λ c. IsCall source (block_in context.now) program.new c
@@ -397,4 +526,21 @@ pub(crate) fn add_call(
         Callee::NotCallable(_) => add_idle(program, call.place),
         Callee::Unknown => add_idle(program, call.place),
     }
+}
+
+/// Puts a call of STL behind those of the program, and gives its number. What traps in an argument traps at the call.
+pub(crate) fn add_placed_call(
+    alloc: Global,
+    context: &Context,
+    how: How,
+    call: &CallTree,
+    program: &mut Program,
+) -> Result<u32, ResolveFault>
+    ensures grows { OnOk result (Extends program.old program.new) }
+    ensures means { (source : Source) → IsContext context.now source
+        → IfOk result (λ c. IsCall source (block_in context.now) program.new c
+        (site (how_tree how) (call_placed (call_tree call.now)))) }
+{
+    let made = call_placed(alloc, call)?;
+    add_call(alloc, context, how, &made, program)
 }

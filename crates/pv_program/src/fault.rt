@@ -9,10 +9,8 @@ use thiserror::Error;
 /// Why a project has no program.
 #[derive(Clone, Copy, PartialEq, Eq, Debug, Drop, Error)]
 pub enum ProgramFault {
-    /// A block that is reached is one of STL, of which no code is made yet.
-    #[error("a block is written in STL")]
-    Stl,
-    /// There are more cells than a table may have, a number is greater than 64 bits hold, or there is no block of a number.
+    /// There are more cells than a table may have, a number is greater than 64 bits hold, there is no block of a number, or an
+    /// instruction breaks a rule.
     #[error("a number is too large")]
     TooLarge,
     #[error("out of memory")]

@@ -1,10 +1,12 @@
 //! Programs that grow.
 ghost use Rattle.std.specs.Prelude.{◌≡◌, ◌++◌, ◌≤◌, length, slice_get, Some, IfOk, OnOk};
+ghost use Rattle.std.specs.List.{between};
 ghost use Rattle.pv_program.specs.Growth.{HasCode, Extends, Stands};
 
 use pv_eval::{Expression, Target};
 use pv_resolve::ResolveFault;
 use pv_run::{Arm, Branch, Called, Choice, Inward, List, Outward, Program, Span, Stmt};
+use pv_stl_run::Instr;
 
 /// A number of 32 bits; there is no memory for more.
 pub(crate) fn number(n: usize) -> Result<u32, ResolveFault>
@@ -81,6 +83,25 @@ pub(crate) fn append_outward(program: &mut Program, more: &[Outward]) -> Result<
 {
     let span = append(&mut program.outward, more)?;
     Ok(span)
+}
+
+/// Puts instructions behind those of the program.
+pub(crate) fn append_instrs(program: &mut Program, more: &[Instr]) -> Result<Span, ResolveFault>
+    ensures grows { OnOk result (Extends program.old program.new) }
+    ensures ordered { IfOk result (λ s. s.first ≤ s.end) }
+    ensures within { IfOk result (λ s. s.end ≤ length program.new.instrs.items) }
+    ensures are { IfOk result (λ s. between s.first s.end program.new.instrs.items ≡ more.now) }
+{
+    let span = append(&mut program.instrs, more)?;
+    Ok(span)
+}
+
+/// Bodies have room for so many ranges that begin in them.
+pub(crate) fn make_ranges(program: &mut Program, ranges: usize)
+    ensures grows { Extends program.old program.new }
+    ensures room { ranges ≤ program.new.ranges }
+{
+    program.ranges = program.ranges.max(ranges);
 }
 
 /// Puts a call behind those of the program, and gives its number.

@@ -8,14 +8,19 @@
 mod block;
 mod call;
 mod choice;
+mod deed;
 mod fault;
 mod grow;
 mod instance;
+mod instr;
+mod label;
+mod placed;
 mod project;
 mod reach;
 mod slot;
 mod stmt;
 mod value;
+mod word;
 
 pub use fault::ProgramFault;
 pub use project::program_of;

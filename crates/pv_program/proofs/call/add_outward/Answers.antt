@@ -5,7 +5,7 @@ use Rattle.pv_names.specs.Callees.{how_tree}
 use Rattle.std.proofs.Common.{ap, map, take}
 use Rattle.pv_program.specs.Handed.{goes_out, handed_of}
 use Rattle.pv_program.proofs.Growing.{extends-same, extends-then}
-use Rattle.pv_program.proofs.Passing.{taken-begun, taken-grown, taken-whole, parameters-out}
+use Rattle.pv_program.proofs.Passing.{taken-begun, taken-grown, taken-all, taken-end, parameters-out}
 use Rattle.pv_program.proofs.Standing.{are-outward}
 use Rattle.pv_program.proofs.call.add_outward.Goals as goal
 
@@ -27,14 +27,19 @@ loop-var-preserved c = record {
 }
 
 pub returns : goal.returns
-returns c = record {
-  grows = extends-then _ _ _ c.loop-var.invariant.grows c.in_ok-span.ensures.grows;
-  are = λ source is inner.
-      are-outward
-      (taken-whole goes_out c.as_slice-vars.result.now c.loop-var.var-index c.loop-var.made.items _ _ c.in_ok-span.ensures.grows (omega arith)
-      c.as_slice.ensures.value
-      (parameters-out source (how_tree c.args.how) (block_in c.args.inner.now) _ (var_trees c.as_slice-vars.result.now) c.requires c.block.ensures
-      (ap var_trees c.as_slice-vars.ensures.value))
-      (c.loop-var.invariant.are source is inner))
-      c.in_ok-span.ensures.stands;
-}
+returns c =
+    let before = extends-then _ _ _ c.loop-var.invariant.grows c.in_ok-hand_any_value.ensures.grows in
+    record {
+      grows = extends-then _ _ _ before c.in_ok-span.ensures.grows;
+      are = λ source is inner.
+          are-outward
+          (taken-end c.hand_any_value.new.made.items _ _ _ c.in_ok-span.ensures.grows
+          c.as_slice.ensures.value
+          (parameters-out source (how_tree c.args.how) (block_in c.args.inner.now) _ (var_trees c.as_slice-vars.result.now) c.block.ensures
+          (ap var_trees c.as_slice-vars.ensures.value))
+          (c.in_ok-hand_any_value.ensures.taken source
+          (handed_of source (block_in c.args.inner.now) goes_out (map var_tree c.as_slice-vars.result.now)) is inner
+          (taken-all goes_out c.as_slice-vars.result.now c.loop-var.var-index c.loop-var.made.items (omega arith)
+          (c.loop-var.invariant.are source is inner))))
+          c.in_ok-span.ensures.stands;
+    }

@@ -1,0 +1,26 @@
+use Rattle.std.proofs.Common.{sym, ap, ◌∙◌}
+use Rattle.pv_mean.specs.Instructions.{effect}
+use Rattle.pv_eval.specs.Means.{activation}
+use Rattle.pv_stl_run.specs.Code.{ends, ends_where}
+use Rattle.pv_program.proofs.word.end.Goals as goal
+
+pub returns-in-Be : goal.returns-in-Be
+returns-in-Be c = record {
+  row = λ source block targets room i e.
+      ends (λ first w. ap (λ o. effect source (activation block first) i o w) (sym e ∙ c.in-Be.is));
+  leads = λ all k i. tt;
+}
+
+pub returns-in-Beu : goal.returns-in-Beu
+returns-in-Beu c = record {
+  row = λ source block targets room i e.
+      ends (λ first w. ap (λ o. effect source (activation block first) i o w) (sym e ∙ c.in-Beu.is));
+  leads = λ all k i. tt;
+}
+
+pub returns-in-Bec : goal.returns-in-Bec
+returns-in-Bec c = record {
+  row = λ source block targets room i e.
+      ends_where (λ first w. ap (λ o. effect source (activation block first) i o w) (sym e ∙ c.in-Bec.is));
+  leads = λ all k i. tt;
+}

@@ -1,0 +1,161 @@
+//! Instructions of a body of STL, put behind those of the program.
+//!
+//! What breaks a rule of instructions has no code: a label that is doubled, more than seven open nestings, a jump within one, and a word
+//! without what belongs to it.
+ghost use Rattle.std.specs.Prelude.{◌≡◌, ◌+◌, ◌<◌, ◌^◌, List, IfOk, OnOk, Some, length, map, slice_get};
+ghost use Rattle.pv_tree.specs.Tree.{InstrTree};
+ghost use Rattle.pv_tree.specs.View.{instr_tree};
+ghost use Rattle.pv_mean.specs.Sources.{Source};
+ghost use Rattle.pv_stl_run.specs.Code.{MayOpen, MayDo, opened, opened_by};
+ghost use Rattle.pv_stl_run.specs.Going.{nested_behind, ranges_in};
+ghost use Rattle.pv_run.specs.Code.{HasInstrs};
+ghost use Rattle.pv_resolve.specs.Contexts.{IsContext, block_in};
+ghost use Rattle.pv_program.specs.Growth.{Extends};
+ghost use Rattle.pv_program.specs.Labels.{FindsLabels, FindsJumps};
+ghost use Rattle.pv_program.specs.Bodies.{Outside, AreMadeInstrs};
+
+use crate::deed::deed_of;
+use crate::grow::{append_instrs, make_ranges};
+use crate::label::{Labels, labels_of, range_at};
+use pv_resolve::{Context, ResolveFault};
+use pv_run::{Program, Span};
+use pv_stl_run::{Change, Deed, Instr as Code};
+use pv_tree::Instr;
+use std::alloc::Global;
+
+/// How many nestings are open behind a change, where so many were before it.
+fn nested_by(change: Change, depth: u32) -> Result<u32, ResolveFault>
+    ensures opened { IfOk result (λ n. n ≡ opened_by change depth) }
+    ensures may { OnOk result (MayOpen change depth) }
+{
+    match change {
+        Change::Open(_) => {
+            if depth < 7 {
+                Ok(depth + 1)
+            } else {
+                Err(ResolveFault::TooLarge)
+            }
+        }
+        Change::Close => Ok(depth.saturating_sub(1)),
+        Change::Nothing => Ok(depth),
+        Change::KeepOr => Ok(depth),
+        Change::Negate => Ok(depth),
+        Change::Put(_) => Ok(depth),
+        Change::Load(_) => Ok(depth),
+        Change::Calculate(_) => Ok(depth),
+        Change::Compare(..) => Ok(depth),
+        Change::Combine(..) => Ok(depth),
+        Change::Shift(..) => Ok(depth),
+        Change::Extend => Ok(depth),
+        Change::Swap => Ok(depth),
+        Change::Push => Ok(depth),
+        Change::Pop => Ok(depth),
+    }
+}
+
+/// How many nestings are open behind an instruction, where so many were before it. A jump has to stand in none.
+fn nested(deed: Deed, depth: u32) -> Result<u32, ResolveFault>
+    ensures opened { IfOk result (λ n. n ≡ opened deed depth) }
+    ensures may { OnOk result (MayDo deed depth) }
+    ensures outside { OnOk result (Outside deed depth) }
+{
+    match deed {
+        Deed::Change(change) => nested_by(change, depth),
+        Deed::Jump(..) => {
+            if depth == 0 {
+                Ok(depth)
+            } else {
+                Err(ResolveFault::TooLarge)
+            }
+        }
+        Deed::Join(..) => Ok(depth),
+        Deed::Write(..) => Ok(depth),
+        Deed::Edge(..) => Ok(depth),
+        Deed::Load(..) => Ok(depth),
+        Deed::Transfer(..) => Ok(depth),
+        Deed::End => Ok(depth),
+        Deed::EndWhere => Ok(depth),
+        Deed::Call(_) => Ok(depth),
+    }
+}
+
+/// Makes the instruction of a number, where so many nestings are open, and gives how many are open behind it.
+fn add_instr(
+    alloc: Global,
+    context: &Context,
+    program: &mut Program,
+    labels: &Labels,
+    made: &mut Vec<Code>,
+    k: usize,
+    depth: u32,
+    instr: &Instr,
+) -> Result<u32, ResolveFault>
+    ensures grows { OnOk result (Extends program.old program.new) }
+    ensures more { OnOk result (length made.new.items ≡ length made.old.items + 1) }
+    ensures nested { depth ≡ nested_behind made.old.items 0
+        → IfOk result (λ n. n ≡ nested_behind made.new.items 0) }
+    ensures are { (source : Source) (all : List InstrTree) → IsContext context.now source
+        → FindsLabels labels.now.at all → FindsJumps labels.now.last all 0 → length all < 2 ^ 32
+        → slice_get all k ≡ Some (instr_tree instr.now) → k ≡ length made.old.items
+        → depth ≡ nested_behind made.old.items 0
+        → AreMadeInstrs source (block_in context.now) program.old all made.old.items
+        → OnOk result (AreMadeInstrs source (block_in context.now) program.new all made.new.items) }
+{
+    let deed = deed_of(alloc, context, program, labels, k, instr)?;
+    let behind = nested(deed, depth)?;
+    let range = range_at(labels, k, instr);
+    made.push(Code {
+        deed,
+        place: instr.place,
+        range,
+    })?;
+    Ok(behind)
+}
+
+/// How many ranges begin among instructions.
+fn count_ranges(made: &[Code]) -> usize
+    ensures { result ≡ ranges_in made.now }
+{
+    let mut count = 0;
+    for code in made {
+        if code.range.is_some() {
+            count += 1;
+        }
+    }
+    count
+}
+
+/// Sees that instructions go by numbers of 32 bits; there is no memory for more.
+fn see_count(instrs: &[Instr]) -> Result<(), ResolveFault>
+    ensures { OnOk result (length instrs.now < 2 ^ 32) }
+{
+    match u32::try_from(instrs.len()) {
+        Ok(_) => Ok(()),
+        Err(_) => Err(ResolveFault::NoMemory),
+    }
+}
+
+/// Puts the instructions of a body behind those of the program.
+pub(crate) fn add_instrs(
+    alloc: Global,
+    context: &Context,
+    program: &mut Program,
+    instrs: &[Instr],
+) -> Result<Span, ResolveFault>
+    ensures grows { OnOk result (Extends program.old program.new) }
+    ensures has { (source : Source) → IsContext context.now source
+        → IfOk result (λ s. HasInstrs source (block_in context.now) program.new s
+        (map instr_tree instrs.now)) }
+{
+    see_count(instrs)?;
+    let labels = labels_of(alloc, instrs)?;
+    let mut made = Vec::new(alloc);
+    let mut depth = 0;
+    for (k, instr) in instrs.iter().enumerate() {
+        depth = add_instr(alloc, context, program, &labels, &mut made, k, depth, instr)?;
+    }
+    let list = made.as_slice();
+    make_ranges(program, count_ranges(list));
+    let span = append_instrs(program, list)?;
+    Ok(span)
+}
