@@ -1,7 +1,7 @@
 #!/usr/bin/env python3
-"""Times the scans of four blocks of SCL beside the same blocks written in C and compiled with gcc -O1, and at twice as many scans.
+"""Times the scans of four blocks of SCL and two of STL beside the same blocks written in C and compiled with gcc -O1, and at twice as many scans.
 
-Usage: run.py [name ..] (all of logic, arithmetic, arrays, calls). Builds bench/scans/main.rt.txt over pv_replay in a temporary copy, and
+Usage: run.py [name ..] (all of logic, arithmetic, arrays, calls, stl_logic, stl_arithmetic). Builds bench/scans/main.rt.txt over pv_replay in a temporary copy, and
 needs `rt` and `gcc`. Prints the assignments a second of both programs and how many times the C program's time the interpreter takes, each
 less the time of a run without scans; then time and memory at twice the scans. Ends with status 1 where the two come to different values."""
 import pathlib
@@ -16,7 +16,7 @@ sys.dont_write_bytecode = True
 from build import built  # noqa: E402
 from measure import compare, machine, measured  # noqa: E402
 
-LIBRARIES = ["pv_machine", "pv_lex", "pv_tree", "pv_scl_parse", "pv_check", "pv_mean", "pv_table", "pv_replay", "pv_replay_make"]
+LIBRARIES = ["pv_machine", "pv_lex", "pv_tree", "pv_scl_parse", "pv_stl_parse", "pv_check", "pv_mean", "pv_table", "pv_replay", "pv_replay_make"]
 INPUTS = 8
 SIZE = 100
 SCANS = 50_000
@@ -47,12 +47,13 @@ int main(int argc, char **argv) {
 
 
 class Block:
-    """A block as SCL and as C, which assigns so often in a scan. The text `rows` has the parts of both by pairs."""
+    """A block as SCL or STL and as C, which assigns so often in a scan. The text `rows` has the parts of both by pairs."""
 
-    def __init__(self, kind, declared, c_declared, rows, c_sum, assignments, scl_below="", c_below=""):
+    def __init__(self, kind, declared, c_declared, rows, c_sum, assignments, below="", c_below="", language="scl"):
         inputs = "".join(f"in{k} : {kind}; " for k in range(INPUTS))
-        body = "\n".join(scl for scl, _ in rows)
-        self.scl = f"FUNCTION_BLOCK bench\nVAR_INPUT {inputs}END_VAR\nVAR {declared} END_VAR\n{body}\nEND_FUNCTION_BLOCK\n{scl_below}"
+        body = "\n".join(part for part, _ in rows)
+        self.language = language
+        self.text = f"FUNCTION_BLOCK bench\nVAR_INPUT {inputs}END_VAR\nVAR {declared} END_VAR\nBEGIN\n{body}\nEND_FUNCTION_BLOCK\n{below}"
         c_type = "uint8_t" if kind == "BOOL" else "int16_t"
         scanned = "\n    ".join(c for _, c in rows)
         self.c = (
@@ -69,24 +70,39 @@ def variables():
     return [f"v{k}" for k in range(SIZE)], "for (int k = 0; k < SIZE; k++) total += v[k];".replace("SIZE", str(SIZE))
 
 
-def logic():
-    """Each assignment reads the one before, an input and another variable."""
-    draw, (names, total) = random.Random(1), variables()
+def assigned(kind, seed, language, form, c_form):
+    """Assignments of the form, each of which reads the one before, an input and another variable."""
+    draw, (names, total) = random.Random(seed), variables()
     rows = []
     for k in range(SIZE):
-        i, j, last = draw.randrange(INPUTS), draw.randrange(SIZE), (k - 1) % SIZE
-        rows.append((f"v{k} := v{last} AND NOT in{i} OR v{j};", f"v[{k}] = (v[{last}] & !in[{i}]) | v[{j}];"))
-    return Block("BOOL", "".join(f"{name} : BOOL; " for name in names), f"static value v[{SIZE}];", rows, total, SIZE)
+        part = {"k": k, "last": (k - 1) % SIZE, "i": draw.randrange(INPUTS), "j": draw.randrange(SIZE)}
+        rows.append((form.format(**part), c_form.format(**part)))
+    declared = "".join(f"{name} : {kind}; " for name in names)
+    return Block(kind, declared, f"static value v[{SIZE}];", rows, total, SIZE, language=language)
+
+
+C_LOGIC = "v[{k}] = (v[{last}] & !in[{i}]) | v[{j}];"
+C_ARITHMETIC = "v[{k}] = v[{last}] + in[{i}] * 3 - v[{j}];"
+
+
+def logic():
+    return assigned("BOOL", 1, "scl", "v{k} := v{last} AND NOT in{i} OR v{j};", C_LOGIC)
 
 
 def arithmetic():
     """A product, a sum and a difference in each assignment."""
-    draw, (names, total) = random.Random(2), variables()
-    rows = []
-    for k in range(SIZE):
-        i, j, last = draw.randrange(INPUTS), draw.randrange(SIZE), (k - 1) % SIZE
-        rows.append((f"v{k} := v{last} + in{i} * 3 - v{j};", f"v[{k}] = v[{last}] + in[{i}] * 3 - v[{j}];"))
-    return Block("INT", "".join(f"{name} : INT; " for name in names), f"static value v[{SIZE}];", rows, total, SIZE)
+    return assigned("INT", 2, "scl", "v{k} := v{last} + in{i} * 3 - v{j};", C_ARITHMETIC)
+
+
+def stl_logic():
+    """Four instructions for each assignment."""
+    return assigned("BOOL", 1, "stl", "A #v{last}; AN #in{i}; O #v{j}; = #v{k};", C_LOGIC)
+
+
+def stl_arithmetic():
+    """Eight instructions for each assignment."""
+    form = "L #in{i}; L 3; *I; L #v{last}; +I; L #v{j}; -I; T #v{k};"
+    return assigned("INT", 2, "stl", form, C_ARITHMETIC)
 
 
 def arrays():
@@ -121,7 +137,7 @@ def calls():
     return Block("INT", declared, c_declared, rows, total, 3 * count, INNER, C_INNER)
 
 
-CASES = [logic, arithmetic, arrays, calls]
+CASES = [logic, arithmetic, arrays, calls, stl_logic, stl_arithmetic]
 
 
 def compiled(place, name, text):
@@ -136,8 +152,8 @@ def compiled(place, name, text):
 def timed(place, program, case):
     """Prints what the case takes, and whether both programs come to the same."""
     name, block = case.__name__, case()
-    file = pathlib.Path(place) / f"{name}.scl"
-    file.write_text(block.scl)
+    file = pathlib.Path(place) / f"{name}.{block.language}"
+    file.write_text(block.text)
     plain = compiled(place, name, block.c)
     none, one, two = (measured([program, file, count]) for count in (0, SCANS, 2 * SCANS))
     c_none, c_same, c_many = (measured([plain, count]) for count in (0, SCANS, C_TIMES * SCANS))

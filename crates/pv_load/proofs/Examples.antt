@@ -5,7 +5,7 @@ use Rattle.pv_case.specs.declared.fault.Kind.TheVariants.{MissingField}
 use Rattle.pv_lex.specs.declared.fault.FaultKind.TheVariants.{NumberTooWide}
 use Rattle.pv_tree.specs.Rules.{out_of_range}
 use Rattle.pv_load.specs.Spots.{FileText, spot_text}
-use Rattle.pv_load.specs.Refusals.{not_json, broken, too_large, lex, outside, syntax, deep, rule, not_of_form, no_entry, too_many_cells, bound_range, pattern_text, brief_cell, read_line, case_refusal_line, source_line, project_line, table_line, fit_line}
+use Rattle.pv_load.specs.Refusals.{not_json, broken, too_large, lex, outside, syntax, deep, rule, no_entry, too_many_cells, bound_range, pattern_text, brief_cell, read_line, case_refusal_line, source_line, project_line, table_line, fit_line}
 
 -- ---- places
 
@@ -70,9 +70,6 @@ nested = refl
 long_source : source_line too_large ≡ codes "plcv: TooLarge bytes 4194304\n"
 unfolding digits
 long_source = refl
-
-stl_body : project_line (not_of_form (codes "a.stl")) ≡ codes "plcv: form a.stl\n"
-stl_body = refl
 
 start_value : project_line (rule out_of_range (codes "a.scl:4:16")) ≡ codes "plcv: a.scl:4:16: Rule 6\n"
 unfolding digits

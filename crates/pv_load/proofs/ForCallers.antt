@@ -2,7 +2,6 @@
 -- decide one thing that a command works on.
 pub use Rattle.pv_load.proofs.Exits.{passed}
 pub use Rattle.pv_load.proofs.CaseTexts.{HasTexts, has_texts, code_count, code_short}
-pub use Rattle.pv_load.proofs.PlainSources.{AreScl, no_stl_in}
 pub use Rattle.pv_load.proofs.EntryLaws.{entry_below, some_there, there_below}
 pub use Rattle.pv_load.proofs.SubjectLaws.{is_case, held_texts, given_by, are_given, reads_sources, reads_kept, reads_project, reads_table, entry_within}
 pub use Rattle.pv_load.proofs.OneCase.{one_held, held_both, CaseLaws, one_case, one_refused, case_apart}

@@ -1,9 +1,6 @@
 -- Sources read one behind the other.
 use Rattle.std.proofs.Common.{◌≡◌, ◌≤◌, ◌<◌, ◌+◌, ℕ, suc, List, [], ◌∷◌, ◌++◌, length, map, get_or, take, drop, refl, ap, sym, subst, ◌∙◌, arith, inl, inr, Option}
-use Rattle.std.specs.Prelude.{flat_map, string_bytes, option_map, Some, None, Result, Ok, Err, IfErr}
-use Rattle.std.specs.List.{find}
-use Rattle.std.specs.Option.{option_or}
-use Rattle.std.proofs.lemmas.List.Folds.{find-append}
+use Rattle.std.specs.Prelude.{flat_map, string_bytes, Result, Ok, Err, IfErr}
 use Rattle.std.specs.Result.{IsErrAnd}
 use Rattle.std.proofs.lemmas.List.{take_more, drop_more, take-append-drop, map-append, length-map, append-nil, length-take}
 use Rattle.std.proofs.lemmas.Grind.{flat_map-append}
@@ -18,7 +15,7 @@ use Rattle.pv_load.specs.declared.sources.Sources.{Sources as Kept}
 use Rattle.pv_load.specs.Spots.{FileText}
 use Rattle.pv_load.specs.Held.{Holds}
 use Rattle.pv_load.specs.Refusals.{SourceRefusal}
-use Rattle.pv_load.specs.Sources.{ReadSource, ReadsAs, has_stl, first_stl, HoldsSource, HoldSources, AtOne, IsAsked, IsRefused}
+use Rattle.pv_load.specs.Sources.{ReadSource, ReadsAs, HoldsSource, HoldSources, AtOne, IsAsked, IsRefused}
 use Rattle.pv_load.specs.Stopped.{Stopped, unread, refused, no_memory, StopsAt}
 use Rattle.pv_load.specs.Stops.{text_tree, source_stopped}
 use Rattle.pv_load.specs.declared.spot.SourceText.{SourceText}
@@ -87,17 +84,6 @@ few_texts told items list k kept same short few has =
       length-take k list,
     )
 
--- ---- the first with a body of STL
-
-map_or : {A B : Type 0} (f : A → B) (o p : Option A) → option_map f (option_or o p) ≡ option_or (option_map f o) (option_map f p)
-map_or f None p = refl
-map_or f (Some x) p = refl
-
-stl_append : (xs ys : List ReadSource) → first_stl (xs ++ ys) ≡ option_or (first_stl xs) (first_stl ys)
-stl_append xs ys =
-    ap (option_map (λ (s : ReadSource). s.text.file)) (find-append has_stl xs ys)
-    ∙ map_or (λ (s : ReadSource). s.text.file) (find has_stl xs) (find has_stl ys)
-
 -- ---- in the loop, where so many are read
 
 front_is : (list : List Source) (k : ℕ) (x : Source) → k < length list → x ≡ get_or list k x
@@ -113,8 +99,8 @@ whole_is list k x short e =
     ∙ map-append source_data (take k list) (get_or list k x ∷ drop (k + 1) list)
     ∙ ap (λ (y : Source). map source_data (take k list) ++ source_data y ∷ map source_data (drop (k + 1) list)) (sym e)
 
-pub none_yet : (told : Option FileMap) (kept : Kept) → kept.texts.items ≡ [] → kept.blocks.list.items ≡ [] → kept.stl ≡ None → HasSources told [] kept
-none_yet told kept t b s = record { read = []; held = tt; texts = ap (map text_tree) t; blocks = ap block_trees b; stl = ap (option_map string_bytes) s }
+pub none_yet : (told : Option FileMap) (kept : Kept) → kept.texts.items ≡ [] → kept.blocks.list.items ≡ [] → HasSources told [] kept
+none_yet told kept t b = record { read = []; held = tt; texts = ap (map text_tree) t; blocks = ap block_trees b }
 
 pub one_behind : (told : Option FileMap) (list : List Source) (k : ℕ) (x : Source) (old new : Kept) → k < length list → x ≡ get_or list k x
     → HasSources told (map source_data (take k list)) old → HasOneMore told (length old.texts.items) (source_data x) old new
@@ -129,7 +115,6 @@ one_behind told list k x old new short e has more =
       texts = more.texts ∙ ap (λ (ts : List FileText). ts ++ more.read.text ∷ []) has.texts
           ∙ sym (map-append (λ (s : ReadSource). s.text) has.read (more.read ∷ []));
       blocks = more.blocks ∙ ap (λ (bs : List BlockTree). bs ++ more.read.blocks) has.blocks ∙ last_blocks has.read more.read;
-      stl = more.stl ∙ ap (λ (o : Option (List ℕ)). option_or o (first_stl (more.read ∷ []))) has.stl ∙ sym (stl_append has.read (more.read ∷ []));
     }
   where
     last_blocks : (read : List ReadSource) (one : ReadSource)
@@ -188,9 +173,8 @@ pub put_behind : (told : Option FileMap) (n m : ℕ) (source : Source) (text : S
     → ReadsAs n (source_named text source.language) text.bytes.items blocks
     → map text_tree new.texts.items ≡ map text_tree old.texts.items ++ text_tree text ∷ []
     → block_trees new.blocks.list.items ≡ block_trees old.blocks.list.items ++ blocks
-    → option_map string_bytes new.stl ≡ option_or (option_map string_bytes old.stl) (first_stl (record { text = text_tree text; blocks = blocks } ∷ []))
     → HasOneMore told m (source_data source) old new
-put_behind told n m source text blocks old new count named held reads texts added noted =
+put_behind told n m source text blocks old new count named held reads texts added =
     let same : source_named text source.language ≡ source_data source =
     ap (λ (file : List ℕ). record { file = file; language = source.language }) named in
     record {
@@ -203,5 +187,4 @@ put_behind told n m source text blocks old new count named held reads texts adde
       };
       texts = texts;
       blocks = added;
-      stl = noted;
     }

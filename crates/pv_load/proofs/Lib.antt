@@ -2,7 +2,6 @@ mod Examples
 pub mod Exits
 mod Lines
 pub mod CaseTexts
-pub mod PlainSources
 pub mod EntryLaws
 mod ProjectLaws
 mod TableLaws
@@ -10,7 +9,6 @@ mod FitLaws
 pub mod SubjectLaws
 mod AsciiLaws
 mod SourceLaws
-mod Noting
 mod Gathering
 mod CaseLaws
 pub mod OneCase

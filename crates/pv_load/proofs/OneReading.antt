@@ -82,7 +82,7 @@ module _ (laws : Laws) (files : FileMap) (file : List ℕ) where
       (subst (λ z. AtOne (IsRefused (Some files) b) (Some files) 0 z.sources) (one_case laws.case files file s.0 a.case s.1 r.case_held) s.2)
 
   pub project_read : (a : Given) (b : ProjectRefusal) → ReadsProject (Some files) file a → Refuses (Some files) file (of_project b) → ⊥
-  project_read a b r s = breach_apart laws.rules a r.keeps r.no_stl b (moved (λ z. RefusesProject z b) s.0 a s.1 r.sources s.2)
+  project_read a b r s = breach_apart laws.rules a r.keeps b (moved (λ z. RefusesProject z b) s.0 a s.1 r.sources s.2)
 
   pub table_read : (a : Given) (e : Entered) (b : TableRefusal) → ReadsTable (Some files) file a e → Refuses (Some files) file (of_table b) → ⊥
   table_read a e b r s = table_apart laws.texts a e b r.table (moved (λ z. RefusesTable z b) s.0 a s.1.sources r.project.sources s.2)

@@ -18,8 +18,8 @@ use Rattle.pv_pattern_read.specs.Kinds.{IsReadPattern}
 use Rattle.pv_fit.specs.Entries.{IsNameText, number_of_entry, IsEntry}
 use Rattle.pv_fit.specs.Inputs.{first_stray, listed, first_misfit, IsStray, IsMisfit}
 use Rattle.pv_load.specs.Spots.{place_text}
-use Rattle.pv_load.specs.Refusals.{ProjectRefusal, rule, not_of_form, TableRefusal, no_entry, too_many_cells, FitRefusal, not_an_input, bound_range, pattern_text, pattern_rule, brief_cell, not_bool}
-use Rattle.pv_load.specs.Subjects.{Given, texts_of, blocks_of, project_of, HasNoStl, RefusesProject, Entered, IsEntered, cells_of, HasTable, RefusesTable, scope_of, HasView, HasPattern, HasPatternFault, RefusesFit}
+use Rattle.pv_load.specs.Refusals.{ProjectRefusal, rule, TableRefusal, no_entry, too_many_cells, FitRefusal, not_an_input, bound_range, pattern_text, pattern_rule, brief_cell, not_bool}
+use Rattle.pv_load.specs.Subjects.{Given, texts_of, blocks_of, project_of, RefusesProject, Entered, IsEntered, cells_of, HasTable, RefusesTable, scope_of, HasView, HasPattern, HasPatternFault, RefusesFit}
 
 -- ---- the rules
 
@@ -34,13 +34,9 @@ module _ (laws : RuleLaws) (given : Given) where
   one_breach (rule r at) (rule q there) x y =
       let same = laws.one (project_of given) r q x.place y.place x.least y.least in
       ap (λ z. rule z at) same.0 ∙ ap (λ z. rule q z) (x.is_there ∙ ap (place_text (texts_of given)) same.1 ∙ sym y.is_there)
-  one_breach (rule r at) (not_of_form file) x y = absurd ((laws.none (project_of given)).1 y.0 r x.place x.least)
-  one_breach (not_of_form file) (rule r at) x y = absurd ((laws.none (project_of given)).1 x.0 r y.place y.least)
-  one_breach (not_of_form file) (not_of_form name) x y = ap not_of_form (same_Some file name (sym x.1 ∙ y.1))
 
-  pub breach_apart : KeepsRules (project_of given) → HasNoStl given → (b : ProjectRefusal) → RefusesProject given b → ⊥
-  breach_apart keeps none (rule r at) y = (laws.none (project_of given)).1 keeps r y.place y.least
-  breach_apart keeps none (not_of_form file) y = let no : ◌≡◌ {A = Option (List ℕ)} None (Some file) = sym none ∙ y.1 in absurd cc
+  pub breach_apart : KeepsRules (project_of given) → (b : ProjectRefusal) → RefusesProject given b → ⊥
+  breach_apart keeps (rule r at) y = (laws.none (project_of given)).1 keeps r y.place y.least
 
 -- ---- the entry and the addresses
 

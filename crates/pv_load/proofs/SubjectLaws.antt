@@ -29,7 +29,7 @@ use Rattle.pv_load.specs.declared.fit.FitStop.TheVariants as fit_stop
 use Rattle.pv_load.specs.Held.{Counts}
 use Rattle.pv_load.specs.Gathered.{HasSources}
 use Rattle.pv_load.specs.Sources.{ReadSource, HoldSources}
-use Rattle.pv_load.specs.Subjects.{Given, texts_of, blocks_of, HasNoStl, Entered, SubjectData}
+use Rattle.pv_load.specs.Subjects.{Given, texts_of, blocks_of, Entered, SubjectData}
 use Rattle.pv_load.specs.Reads.{HoldsCase, ReadsSources, ReadsProject, ReadsTable, Reads}
 use Rattle.pv_load.specs.Stops.{text_tree, StopsSource, StopsSubject, subject_status}
 use Rattle.pv_load.specs.Made.{IsCase, AreGiven, IsProjectOf, IsTableOf, IsFit, IsSubject, view_tree}
@@ -73,8 +73,8 @@ reads_sources told file case all held sources = record { case_held = held; sourc
 -- ---- the stages after that
 
 pub reads_project : (told : Option FileMap) (file : List ℕ) (given : Given) (project : Project) → ReadsSources told file given
-    → IsProjectOf given project → HasNoStl given → ReadsProject told file given
-reads_project told file given project reads is none = record { sources = reads; keeps = is.keeps; no_stl = none }
+    → IsProjectOf given project → ReadsProject told file given
+reads_project told file given project reads is = record { sources = reads; keeps = is.keeps }
 
 pub reads_table : (told : Option FileMap) (file : List ℕ) (given : Given) (entered : Entered) (entry : ℕ) (table : Table)
     → ReadsProject told file given → IsTableOf given entered entry table → ReadsTable told file given entered
@@ -126,7 +126,6 @@ reads_kept told now file case kept same held has =
 -- no stop of a later stage is one at a file
 no_file_project : (stop : ProjectStop) → subject_status (stop_at.Project stop) ≡ 6 → ⊥
 no_file_project (project_stop.Broken rule at) e = omega (arith, e)
-no_file_project (project_stop.NotOfForm file) e = omega (arith, e)
 no_file_project project_stop.NoMemory e = omega (arith, e)
 
 no_file_table : (stop : TableStop) → subject_status (stop_at.Table stop) ≡ 6 → ⊥

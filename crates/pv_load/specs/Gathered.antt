@@ -1,14 +1,11 @@
--- The sources that were read, as the code keeps them: the text of each, the blocks of all, and the first one with a body of STL.
-use Rattle.std.specs.Prelude.{◌≡◌, ℕ, List, [], ◌∷◌, ◌++◌, map, flat_map, Option, option_map, string_bytes}
-use Rattle.std.specs.Option.{option_or}
+-- The sources that were read, as the code keeps them: the text of each, and the blocks of all.
+use Rattle.std.specs.Prelude.{◌≡◌, ℕ, List, [], ◌∷◌, ◌++◌, map, flat_map, Option}
 use Rattle.pv_edge.specs.Files.{FileMap}
-use Rattle.pv_tree.specs.declared.block.Blocks.{Blocks}
 use Rattle.pv_tree.specs.View.{block_trees}
 use Rattle.pv_case.specs.Cases.{SourceData}
 use Rattle.pv_load.specs.declared.sources.Sources.{Sources}
-use Rattle.pv_load.specs.declared.spot.SourceText.{SourceText}
 use Rattle.pv_load.specs.declared.source.SourceStop.{SourceStop}
-use Rattle.pv_load.specs.Sources.{ReadSource, first_stl, HoldsSource, HoldSources, IsAsked, IsRefused}
+use Rattle.pv_load.specs.Sources.{ReadSource, HoldsSource, HoldSources, IsAsked, IsRefused}
 use Rattle.pv_load.specs.Stopped.{StopsAt}
 use Rattle.pv_load.specs.Stops.{text_tree, source_stopped}
 
@@ -18,13 +15,8 @@ pub record HasSources (told : Option FileMap) (sources : List SourceData) (kept 
   pub held : HoldSources told 0 sources read
   pub texts : map text_tree kept.texts.items ≡ map (λ s. s.text) read
   pub blocks : block_trees kept.blocks.list.items ≡ flat_map (λ s. s.blocks) read
-  pub stl : option_map string_bytes kept.stl ≡ first_stl read
 
 -- ---- what private contracts cite
-
--- a source by what the code has of it
-abbrev pub read_as : SourceText → Blocks → ReadSource
-read_as text blocks = record { text = text_tree text; blocks = block_trees blocks.list.items }
 
 -- the source of this number is put behind those that are kept
 pub record HasOneMore (told : Option FileMap) (number : ℕ) (source : SourceData) (old new : Sources) : Type 0 where
@@ -32,7 +24,6 @@ pub record HasOneMore (told : Option FileMap) (number : ℕ) (source : SourceDat
   pub held : HoldsSource told number source read
   pub texts : map text_tree new.texts.items ≡ map text_tree old.texts.items ++ read.text ∷ []
   pub blocks : block_trees new.blocks.list.items ≡ block_trees old.blocks.list.items ++ read.blocks
-  pub stl : option_map string_bytes new.stl ≡ option_or (option_map string_bytes old.stl) (first_stl (read ∷ []))
 
 -- the file of the source of this number can't be read, or holds what is refused
 abbrev pub StopsAtOne : Option FileMap → ℕ → SourceData → SourceStop → Type 0

@@ -1,5 +1,5 @@
 -- What the files hold for a command, and why that is refused, in the order of work: the case; its sources, one by one; the rules over
--- all of them, and then bodies that aren't run; the entered block and the count of its cells; the inputs and then the requirement.
+-- all of them; the entered block and the count of its cells; the inputs and then the requirement.
 use Rattle.std.specs.Prelude.{ℕ, List, Option}
 use Rattle.pv_edge.specs.Files.{FileMap}
 use Rattle.pv_tree.specs.Rules.{KeepsRules}
@@ -7,7 +7,7 @@ use Rattle.pv_case.specs.Cases.{CaseData, IsCaseText, BreaksFirst, IsNoObject}
 use Rattle.pv_load.specs.Held.{HoldsBytes}
 use Rattle.pv_load.specs.Refusals.{CaseRefusal, not_json, broken, Refusal, of_case, of_source, of_project, of_table, of_fit}
 use Rattle.pv_load.specs.Sources.{HoldSources, AtOne, IsRefused}
-use Rattle.pv_load.specs.Subjects.{Given, project_of, HasNoStl, RefusesProject, Entered, HasTable, RefusesTable, RefusesFit, SubjectData, IsFitted}
+use Rattle.pv_load.specs.Subjects.{Given, project_of, RefusesProject, Entered, HasTable, RefusesTable, RefusesFit, SubjectData, IsFitted}
 
 -- ---- what is read
 
@@ -20,11 +20,10 @@ pub record ReadsSources (told : Option FileMap) (file : List ℕ) (given : Given
   pub case_held : HoldsCase told file given.case
   pub sources_held : HoldSources told 0 given.case.sources given.sources
 
--- which keep the rules of the language, without a body that isn't run
+-- which keep the rules of the language
 pub record ReadsProject (told : Option FileMap) (file : List ℕ) (given : Given) : Type 0 where
   pub sources : ReadsSources told file given
   pub keeps : KeepsRules (project_of given)
-  pub no_stl : HasNoStl given
 
 -- and have a block that is entered, with no more cells than there may be
 pub record ReadsTable (told : Option FileMap) (file : List ℕ) (given : Given) (entered : Entered) : Type 0 where

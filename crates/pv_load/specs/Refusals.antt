@@ -24,10 +24,9 @@ pub data SourceRefusal : Type 0 where
   syntax : List ℕ → SourceRefusal
   deep : List ℕ → SourceRefusal
 
--- of all sources together: this rule is broken there; or a body isn't of the form that is run, in the file of this name
+-- of all sources together: this rule is broken there
 pub data ProjectRefusal : Type 0 where
   rule : Rule → List ℕ → ProjectRefusal
-  not_of_form : List ℕ → ProjectRefusal
 
 -- of the entry, and of the cells: there are too many
 pub data TableRefusal : Type 0 where
@@ -98,7 +97,6 @@ source_line (deep at) = place_line at (codes "Deep")
 
 abbrev pub project_line : ProjectRefusal → List ℕ
 project_line (rule r at) = place_line at (codes "Rule " ++ decimal (number_of r))
-project_line (not_of_form file) = form_line file
 
 abbrev pub table_line : TableRefusal → List ℕ
 table_line no_entry = case_line (codes "NoEntry") (codes "entry")

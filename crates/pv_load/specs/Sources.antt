@@ -1,7 +1,6 @@
 -- The sources of a case, in their order: what each one's bytes read as, and why one is refused. A source is read whole before the
 -- next one's file is.
-use Rattle.std.specs.Prelude.{◌≡◌, ◌⊎◌, ◌<◌, ◌≤◌, ℕ, ◌+◌, Bool, List, [], ◌∷◌, length, Option, option_map}
-use Rattle.std.specs.List.{find, list_any}
+use Rattle.std.specs.Prelude.{◌≡◌, ◌⊎◌, ◌<◌, ◌≤◌, ℕ, ◌+◌, List, [], ◌∷◌, length, Option}
 use Rattle.pv_machine.specs.declared.place.Place.{Place}
 use Rattle.pv_edge.specs.Files.{FileMap}
 use Rattle.pv_lex.specs.declared.fault.FaultKind.{FaultKind}
@@ -9,7 +8,6 @@ use Rattle.pv_lex.specs.declared.token.Token.{Token}
 use Rattle.pv_lex.specs.declared.lex.TheConstants.{MAX_SOURCE}
 use Rattle.pv_lex.specs.Tokens.{AreTokens, IsFault}
 use Rattle.pv_tree.specs.Tree.{BlockTree}
-use Rattle.pv_tree.specs.Scopes.{is_stl}
 use Rattle.pv_tree.specs.Lexemes.{Lexeme, lexemes_of}
 use Rattle.pv_tree.specs.Outside.{IsFirstOutside}
 use Rattle.pv_tree.specs.Reading.{ReadAsBlocks, IsRead, IsTooDeep, IsSyntaxFaultAt}
@@ -82,14 +80,6 @@ RefusesSource number source bytes (deep at) = IsNestedTooDeep number source byte
 pub record ReadSource : Type 0 where
   pub text : FileText
   pub blocks : List BlockTree
-
--- a block of it has a body of STL, be it empty
-abbrev pub has_stl : ReadSource → Bool
-has_stl source = list_any (λ b. is_stl b.body) source.blocks
-
--- the file's name of the first of these sources of which that is so
-abbrev pub first_stl : List ReadSource → Option (List ℕ)
-first_stl sources = option_map (λ s. s.text.file) (find has_stl sources)
 
 -- the file of the source of this number holds it so
 pub record HoldsSource (told : Option FileMap) (number : ℕ) (source : SourceData) (read : ReadSource) : Type 0 where

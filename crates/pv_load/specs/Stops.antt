@@ -57,7 +57,6 @@ source_stopped source_stop.NoMemory = no_memory
 
 abbrev pub project_stopped : ProjectStop → Stopped ProjectRefusal
 project_stopped (project_stop.Broken rule at) = refused (r.rule (rule_of rule) (at_text at))
-project_stopped (project_stop.NotOfForm file) = refused (r.not_of_form (string_bytes file))
 project_stopped project_stop.NoMemory = no_memory
 
 abbrev pub table_stopped : TableStop → Stopped TableRefusal

@@ -1,11 +1,11 @@
 -- What a case and its sources say together: the project, the block that is entered, the cells, the parameters, and the requirement;
 -- and why they are refused. All of it hangs on the case and the sources' texts alone.
-use Rattle.std.specs.Prelude.{◌≡◌, ◌<◌, ◌≤◌, ℕ, List, length, map, flat_map, slice_get, Some, None}
+use Rattle.std.specs.Prelude.{◌≡◌, ◌<◌, ◌≤◌, ℕ, List, length, map, flat_map, slice_get, Some}
 use Rattle.pv_machine.specs.declared.place.Place.{Place}
 use Rattle.pv_types.specs.declared.layout.TheConstants.{MAX_LEAVES}
 use Rattle.pv_tree.specs.Tree.{OperandTree, BlockTree}
 use Rattle.pv_tree.specs.Scopes.{SymbolTree, ProjectTree, Scope}
-use Rattle.pv_tree.specs.Rules.{Rule, KeepsRules}
+use Rattle.pv_tree.specs.Rules.{Rule}
 use Rattle.pv_tree.specs.Least.{IsLeastFault}
 use Rattle.pv_mean.specs.declared.cell.Cell.{Cell}
 use Rattle.pv_mean.specs.AreaBytes.{bytes_of}
@@ -19,8 +19,8 @@ use Rattle.pv_case.specs.Cases.{CaseData, SymbolData}
 use Rattle.pv_fit.specs.Entries.{IsEntry}
 use Rattle.pv_fit.specs.Inputs.{Views, IsStray, IsMisfit}
 use Rattle.pv_load.specs.Spots.{FileText, place_text}
-use Rattle.pv_load.specs.Refusals.{ProjectRefusal, rule, not_of_form, TableRefusal, no_entry, too_many_cells, FitRefusal, not_an_input, bound_range, pattern_text, pattern_rule, brief_cell, not_bool}
-use Rattle.pv_load.specs.Sources.{ReadSource, first_stl}
+use Rattle.pv_load.specs.Refusals.{ProjectRefusal, rule, TableRefusal, no_entry, too_many_cells, FitRefusal, not_an_input, bound_range, pattern_text, pattern_rule, brief_cell, not_bool}
+use Rattle.pv_load.specs.Sources.{ReadSource}
 
 -- ---- the project
 
@@ -48,15 +48,8 @@ pub record IsFirstBreach (given : Given) (rule : Rule) (at : List ℕ) : Type 0 
   pub least : IsLeastFault (project_of given) rule place
   pub is_there : at ≡ place_text (texts_of given) place
 
--- no block has a body of STL, which isn't run yet
-abbrev pub HasNoStl : Given → Type 0
-HasNoStl given = first_stl given.sources ≡ None
-
--- what keeps the rules is refused too where a block has one: by the first source that has such a block
 abbrev pub RefusesProject : Given → ProjectRefusal → Type 0
 RefusesProject given (rule r at) = IsFirstBreach given r at
-RefusesProject given (not_of_form file) =
-    KeepsRules (project_of given) × (first_stl given.sources ≡ Some file)
 
 -- ---- the entered block and the cells
 

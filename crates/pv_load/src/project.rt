@@ -1,18 +1,16 @@
-//! The third stage of a command: the rules of the language, over all sources, and bodies that aren't run.
-ghost use Rattle.std.specs.Prelude.{◌≡◌, map, Some, option_map, OnOk, IfOk, IfErr, string_bytes};
-ghost use Rattle.pv_tree.specs.Rules.{KeepsRules};
+//! The third stage of a command: the rules of the language, over all sources.
+ghost use Rattle.std.specs.Prelude.{◌≡◌, map, Some, IfOk, IfErr, string_bytes};
 ghost use Rattle.pv_rules.specs.Names.{rule_of};
 ghost use Rattle.pv_load.specs.Refusals as refusals;
 ghost use Rattle.pv_load.specs.Refusals.{project_line};
 ghost use Rattle.pv_load.specs.Spots.{place_text};
-ghost use Rattle.pv_load.specs.Sources.{first_stl};
-ghost use Rattle.pv_load.specs.Subjects.{Given, project_of as tree_of, HasNoStl};
+ghost use Rattle.pv_load.specs.Subjects.{Given};
 ghost use Rattle.pv_load.specs.Stopped.{refused, stopped_status, stopped_text};
 ghost use Rattle.pv_load.specs.Stops.{text_tree, at_text, project_stopped, StopsProject};
 ghost use Rattle.pv_load.specs.Made.{AreGiven, IsProjectOf, in_project};
 ghost use Rattle.pv_load.specs.declared.project.ProjectStop.TheVariants.{NoMemory};
 
-use crate::source::{form_line, place_line};
+use crate::source::place_line;
 use crate::spot::{SourceText, Spot};
 use crate::status::{NO_MEMORY, SOURCE_REFUSED, Status};
 use pv_case::Symbol;
@@ -24,15 +22,12 @@ use pv_word::Ty;
 use std::alloc::{AllocError, Global};
 use thiserror::Error;
 
-/// Why a command stops at the rules, or behind them at a body that isn't run.
+/// Why a command stops at the rules.
 #[derive(Debug, Drop, Error)]
 pub enum ProjectStop {
     /// The first breach, with its place.
     #[error("a rule is broken")]
     Broken { rule: Rule, at: Spot },
-    /// A block in this file has a body of STL, which isn't run yet.
-    #[error("{file} has a body that isn't run yet")]
-    NotOfForm { file: String },
     #[error("out of memory")]
     NoMemory,
 }
@@ -60,7 +55,6 @@ impl ProjectStop {
     {
         match self {
             ProjectStop::Broken { .. } => SOURCE_REFUSED,
-            ProjectStop::NotOfForm { .. } => SOURCE_REFUSED,
             ProjectStop::NoMemory => NO_MEMORY,
         }
     }
@@ -71,7 +65,6 @@ impl ProjectStop {
     {
         match self {
             ProjectStop::Broken { rule, at } => rule_line(alloc, *rule, at),
-            ProjectStop::NotOfForm { file } => form_line(alloc, file),
             ProjectStop::NoMemory => Err(AllocError),
         }
     }
@@ -116,18 +109,5 @@ pub fn project_of(
         Ok(project) => Ok(project),
         Err(RuleFault::Broken(breach)) => Err(broken(alloc, sources, breach)?),
         Err(RuleFault::NoMemory) => Err(ProjectStop::NoMemory),
-    }
-}
-
-/// Refuses a project that keeps the rules for the first source with a body of STL, by that source's name, if there is one.
-pub(crate) fn without_stl(stl: Option<String>) -> Result<(), ProjectStop>
-    ensures found { (given : Given) → option_map string_bytes stl ≡ first_stl given.sources
-        → OnOk result (HasNoStl given) }
-    ensures stopped { (given : Given) → option_map string_bytes stl ≡ first_stl given.sources
-        → KeepsRules (tree_of given) → IfErr result (StopsProject given) }
-{
-    match stl {
-        Some(file) => Err(ProjectStop::NotOfForm { file }),
-        None => Ok(()),
     }
 }

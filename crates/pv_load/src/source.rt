@@ -7,7 +7,7 @@ ghost use Rattle.pv_lex.specs.Tokens.{AreTokens};
 ghost use Rattle.pv_parse.specs.declared.fault.ParseFault.TheVariants.{Outside as Is_outside};
 ghost use Rattle.pv_tree.specs.View.{block_trees};
 ghost use Rattle.pv_load.specs.Words.{lex_word};
-ghost use Rattle.pv_load.specs.Refusals.{form_line, place_line, limit_line, source_line};
+ghost use Rattle.pv_load.specs.Refusals.{place_line, limit_line, source_line};
 ghost use Rattle.pv_load.specs.Sources.{ReadsAs};
 ghost use Rattle.pv_load.specs.Stopped.{stopped_text};
 ghost use Rattle.pv_load.specs.Stops.{text_tree, at_text, source_stopped, source_status, StopsAtSource};
@@ -104,13 +104,6 @@ fn outside_line(alloc: Global, at: &Spot, word: &String) -> Result<String, Alloc
 {
     let at = at.text(alloc)?;
     format!(in alloc; "plcv: {at}: Outside {word}\n")
-}
-
-/// The fault line of a file that isn't of the form.
-pub(crate) fn form_line(alloc: Global, file: &String) -> Result<String, AllocError>
-    ensures { IfOk result (λ text. string_bytes text ≡ form_line (string_bytes file.now)) }
-{
-    format!(in alloc; "plcv: form {file}\n")
 }
 
 /// The fault line of a count that passes its limit.

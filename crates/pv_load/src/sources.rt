@@ -1,22 +1,18 @@
 //! The second stage of a command: the sources that its case names, each read whole before the next one's file is.
-ghost use Rattle.std.specs.Prelude.{◌≡◌, ◌<◌, ◌≤◌, ◌++◌, ℕ, ◌∷◌, [], length, map, option_map, string_bytes, OnOk, IfOk, IfErr, MatchResult};
-ghost use Rattle.std.specs.List.{list_any};
-ghost use Rattle.std.specs.Option.{option_or};
+ghost use Rattle.std.specs.Prelude.{◌≡◌, ◌<◌, ◌≤◌, ◌++◌, ℕ, ◌∷◌, [], length, map, string_bytes, OnOk, IfOk, IfErr, MatchResult};
 ghost use Rattle.pv_case.specs.declared.case.TheConstants.{MAX_SOURCES};
 ghost use Rattle.pv_case.specs.Cases.{source_data, data_of};
-ghost use Rattle.pv_tree.specs.Scopes as scopes;
-ghost use Rattle.pv_tree.specs.View.{body_tree, block_trees};
+ghost use Rattle.pv_tree.specs.View.{block_trees};
 ghost use Rattle.pv_load.specs.Held.{Holds, Counts};
 ghost use Rattle.pv_load.specs.Stops.{text_tree, source_status, StopsSource};
-ghost use Rattle.pv_load.specs.Sources.{first_stl};
-ghost use Rattle.pv_load.specs.Gathered.{HasSources, HasOneMore, StopsAtOne, read_as};
+ghost use Rattle.pv_load.specs.Gathered.{HasSources, HasOneMore, StopsAtOne};
 
 use crate::reading::read;
 use crate::source::{SourceStop, blocks_of};
 use crate::spot::SourceText;
 use pv_case::{Case, Source};
 use pv_edge::Files;
-use pv_tree::{Blocks, Body};
+use pv_tree::Blocks;
 use std::alloc::{AllocError, Global};
 
 /// The sources of a case, and the blocks of all of them in their order. The number of a source is that of its places' file.
@@ -24,8 +20,6 @@ use std::alloc::{AllocError, Global};
 pub struct Sources {
     pub texts: Vec<SourceText>,
     pub blocks: Blocks,
-    /// The file's name of the first source that has a block with a body of STL, be it empty.
-    pub stl: Option<String>,
 }
 
 /// Puts blocks behind others.
@@ -41,43 +35,6 @@ fn keep(texts: &mut Vec<SourceText>, text: SourceText) -> Result<(), AllocError>
     ensures { OnOk result (map text_tree texts.new.items ≡ map text_tree texts.old.items ++ text_tree text ∷ []) }
 {
     texts.push(text)?;
-    Ok(())
-}
-
-fn is_stl(body: &Body) -> bool
-    ensures { result ≡ scopes.is_stl (body_tree body.now) }
-{
-    match body {
-        Body::Stl(_) => true,
-        Body::Scl(_) | Body::Starts(_) => false,
-    }
-}
-
-/// Whether one of the blocks has a body of STL.
-fn has_stl(blocks: &Blocks) -> bool
-    ensures { result ≡ list_any (λ b. scopes.is_stl (body_tree b.body)) blocks.now.list.items }
-{
-    blocks.list.iter().any(|block| is_stl(&block.body))
-}
-
-/// Keeps the source's name if it is the first that has a body of STL.
-fn note_stl(
-    alloc: Global,
-    first: &mut Option<String>,
-    text: &SourceText,
-    blocks: &Blocks,
-) -> Result<(), AllocError>
-    ensures { OnOk result (option_map string_bytes first.new
-        ≡ option_or (option_map string_bytes first.old) (first_stl (read_as text.now blocks.now ∷ []))) }
-{
-    if first.is_some() {
-        return Ok(());
-    }
-    if !has_stl(blocks) {
-        return Ok(());
-    }
-    let file = String::from_str(alloc, text.file.as_str())?;
-    *first = Some(file);
     Ok(())
 }
 
@@ -129,7 +86,6 @@ fn add_source<F: Files>(
     let text = text_in(alloc, files, source)?;
     let number = next_number(&sources.texts);
     let blocks = blocks_of(alloc, number, source.language, &text)?;
-    note_stl(alloc, &mut sources.stl, &text, &blocks)?;
     append(&mut sources.blocks, blocks)?;
     keep(&mut sources.texts, text)?;
     Ok(())
@@ -155,7 +111,6 @@ pub fn sources_in<F: Files>(
         blocks: Blocks {
             list: Vec::new(alloc),
         },
-        stl: None,
     };
     let list = case.sources.as_slice();
     for source in list {

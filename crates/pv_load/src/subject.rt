@@ -10,7 +10,7 @@ ghost use Rattle.pv_load.specs.declared.subject.SubjectStop.TheVariants.{Case as
 
 use crate::case::{CaseStop, case_in};
 use crate::fit::{FitStop, fitted};
-use crate::project::{ProjectStop, project_of, without_stl};
+use crate::project::{ProjectStop, project_of};
 use crate::source::SourceStop;
 use crate::sources::sources_in;
 use crate::spot::SourceText;
@@ -131,7 +131,7 @@ fn take_symbols(alloc: Global, case: &mut Case) -> Vec<Symbol>
 }
 
 /// What the case that the file holds is about: the case is read and refused first, then the sources one after the other, then what breaks
-/// a rule in them, then bodies that aren't run, the entry, the count of the cells, and what the case says of the cells.
+/// a rule in them, then the entry, the count of the cells, and what the case says of the cells.
 pub fn subject_in<F: Files>(
     alloc: Global,
     files: &mut F,
@@ -150,7 +150,6 @@ pub fn subject_in<F: Files>(
     let texts = sources.texts;
     let symbols = take_symbols(alloc, &mut case);
     let project = project_of(alloc, texts.as_slice(), sources.blocks, symbols)?;
-    without_stl(sources.stl)?;
     let (entry, mut table) = table_of(alloc, &case, &project)?;
     let (view, pattern) = fitted(alloc, &case, &project, entry, &mut table)?;
     Ok(Subject {

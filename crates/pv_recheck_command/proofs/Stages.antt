@@ -41,7 +41,6 @@ use Rattle.pv_recheck_command.proofs.Subjects.{OneReading, only_entered, of_form
 
 pub project_unread : (stop : ProjectStop) → subject_status (At_project stop) ≢ 6
 project_unread (project_stop.Broken rule at) = λ e. absurd cc
-project_unread (project_stop.NotOfForm file) = λ e. absurd cc
 project_unread project_stop.NoMemory = λ e. absurd cc
 
 pub table_unread : (stop : TableStop) → subject_status (At_table stop) ≢ 6

@@ -24,12 +24,10 @@ use Rattle.pv_load.specs.declared.source.SourceStop.{SourceStop}
 use Rattle.pv_load.specs.declared.fit.FitStop.{FitStop}
 use Rattle.pv_load.specs.declared.subject.SubjectStop.TheVariants.{Source as At_source}
 use Rattle.pv_load.specs.Held.{Counts}
-use Rattle.pv_load.specs.Sources.{ReadSource, HoldSources}
-use Rattle.pv_load.specs.Subjects.{Given, Entered, blocks_of, project_of, HasNoStl, scope_of, HasPattern}
+use Rattle.pv_load.specs.Subjects.{Given, Entered, blocks_of, project_of, scope_of, HasPattern}
 use Rattle.pv_load.specs.Reads.{HoldsCase}
 use Rattle.pv_load.specs.Stops.{StopsSource, StopsFit}
 use Rattle.pv_load.specs.Made.{IsCase, IsProjectOf}
-use Rattle.pv_load.proofs.ForCallers.{AreScl, no_stl_in, given_by}
 use Rattle.pv_recheck_command.specs.declared.recheck.RecheckStop.{RecheckStop}
 use Rattle.pv_recheck_command.specs.Forms.{IsFirstCase, IsFirstAlone, AreFirst}
 use Rattle.pv_recheck_command.specs.Refusals.{StopsAsAny}
@@ -71,12 +69,6 @@ pub few_sources : (case : Case) → IsFirstCase (data_of case) → length case.s
 few_sources case is =
     let count = sym (length-map case.sources.items source_data) ∙ ap length is.source.only in
     omega (arith, count)
-
--- its source has no body of STL
-pub no_stl : (told : Option FileMap) (case : CaseData) (all : List ReadSource) → IsFirstCase case → HoldSources told 0 case.sources all
-    → HasNoStl (given_by case all)
-no_stl told case all is held =
-    no_stl_in told 0 case.sources all (subst AreScl (sym is.source.only) (is.source.language, tt)) held
 
 pub are_first : (given : Given) → IsFirstCase given.case → IsFirstAlone (blocks_of given) → AreFirst given
 are_first given case project = record { case = case; project = project }

@@ -4,7 +4,7 @@ ghost use Rattle.pv_edge.specs.Files.{FileMap};
 ghost use Rattle.pv_lex.specs.declared.lex.TheConstants.{MAX_SOURCE};
 ghost use Rattle.pv_case.specs.Cases.{SourceData, data_of};
 ghost use Rattle.pv_load.specs.Held.{Counts};
-ghost use Rattle.pv_load.specs.Subjects.{Given, blocks_of, HasNoStl};
+ghost use Rattle.pv_load.specs.Subjects.{Given, blocks_of};
 ghost use Rattle.pv_load.specs.Reads.{HoldsCase, ReadsSources, ReadsProject};
 ghost use Rattle.pv_load.specs.Made.{IsCase, AreGiven, IsProjectOf};
 ghost use Rattle.pv_recheck_command.specs.Forms.{IsFirstCase, IsFirstAlone, AreFirst};
@@ -64,7 +64,7 @@ fn source_file(case: &Case) -> Option<&String>
     }
 }
 
-/// The project of the case's source, which is one block of the first form. Sources of SCL have no body of STL.
+/// The project of the case's source, which is one block of the first form.
 fn first_project(alloc: Global, case: &Case, sources: Sources) -> Result<Project, RecheckStop>
     ensures found { (given : Given) → data_of case.now ≡ given.case → IsFirstCase given.case
         → AreGiven sources.texts.items sources.blocks.list.items [] given
@@ -72,10 +72,10 @@ fn first_project(alloc: Global, case: &Case, sources: Sources) -> Result<Project
     ensures stopped { (told : Option FileMap) (case_file file : List ℕ) (given : Given)
         → data_of case.now ≡ given.case → IsFirstCase given.case
         → AreGiven sources.texts.items sources.blocks.list.items [] given → ReadsSources told case_file given
-        → HasNoStl given → IfErr result (StopsRecheck told case_file file) }
+        → IfErr result (StopsRecheck told case_file file) }
     ensures unread { IfErr result (λ stop. recheck_stop_status stop ≢ 6) }
 {
-    let Sources { texts, blocks, .. } = sources;
+    let Sources { texts, blocks } = sources;
     let project = project_of(alloc, texts.as_slice(), blocks, Vec::new(alloc))?;
     if is_first_project(alloc, &project)? {
         return Ok(project);

@@ -17,7 +17,7 @@ pub(crate) fn case_with(alloc: Global, members: &str) -> Result<String, AllocErr
 }
 
 /// A text with a line feed for each `/`, and one at its end.
-fn lines(alloc: Global, text: &str) -> Result<String, AllocError> {
+pub(crate) fn lines(alloc: Global, text: &str) -> Result<String, AllocError> {
     let mut out = String::new(alloc);
     for line in text.split('/') {
         out.push_str(line)?;

@@ -22,20 +22,6 @@ returns-in_err-project-clause-stopped g c =
     passed (StopsSubject told file) c.from_residual-in_err-project.result (stop_at.Project c.in_err-project.field-0.0)
     c.from_residual-in_err-project.ensures.1 (given, reads, c.in_err-project.ensures.stopped given are)
 
-pub returns-in_err-without_stl-clause-stopped : goal.returns-in_err-without_stl-clause-stopped
-returns-in_err-without_stl-clause-stopped g c =
-    let told = g.F.Files.told c.args.files.now in
-    let file = c.args.case_file.now in
-    let case = c.in_ok-case.case in
-    let has = c.in_ok-sources.ensures.found in
-    let given = given_by (data_of case) has.read in
-    let are = are_given _ case c.in_ok-sources.sources c.as_slice.result.now c.take_symbols-symbols.result.items c.as_slice.ensures.value
-    c.take_symbols-symbols.ensures.symbols has in
-    let reads = reads_kept told _ file (data_of case) c.in_ok-sources.sources c.in_ok-case.ensures.files c.in_ok-case.ensures.found has in
-    let project = c.in_ok-project.ensures.found given are in
-    passed (StopsSubject told file) c.from_residual-in_err-without_stl.result (stop_at.Project c.in_err-without_stl.field-0.0)
-    c.from_residual-in_err-without_stl.ensures.1 (given, reads, c.in_err-without_stl.ensures.stopped given has.stl project.keeps)
-
 pub table_of-requires : goal.table_of-requires
 table_of-requires g c =
     let case = c.in_ok-case.case in
@@ -54,7 +40,7 @@ returns-in_err-entry-clause-stopped g c =
     c.take_symbols-symbols.ensures.symbols has in
     let reads = reads_kept told _ file (data_of case) c.in_ok-sources.sources c.in_ok-case.ensures.files c.in_ok-case.ensures.found has in
     let project = c.in_ok-project.ensures.found given are in
-    let kept = reads_project told file given c.in_ok-project.project reads project (c.in_ok-without_stl.ensures.found given has.stl) in
+    let kept = reads_project told file given c.in_ok-project.project reads project in
     passed (StopsSubject told file) c.from_residual-in_err-entry.result (stop_at.Table c.in_err-entry.field-0.0)
     c.from_residual-in_err-entry.ensures.1 (given, kept, c.in_err-entry.ensures.stopped given is project)
 
@@ -106,7 +92,7 @@ returns-in_err-view-clause-stopped g c =
     c.take_symbols-symbols.ensures.symbols has in
     let reads = reads_kept told _ file (data_of case) c.in_ok-sources.sources c.in_ok-case.ensures.files c.in_ok-case.ensures.found has in
     let project = c.in_ok-project.ensures.found given are in
-    let kept = reads_project told file given c.in_ok-project.project reads project (c.in_ok-without_stl.ensures.found given has.stl) in
+    let kept = reads_project told file given c.in_ok-project.project reads project in
     let made = c.in_ok-entry.ensures.found given is project in
     let filled = reads_table told file given made.0 c.in_ok-entry.entry c.in_ok-entry.table kept made.1 in
     passed (StopsSubject told file) c.from_residual-in_err-view.result (stop_at.Fit c.in_err-view.field-0.0)
@@ -124,7 +110,7 @@ returns-clause-found g c =
     c.take_symbols-symbols.ensures.symbols has in
     let reads = reads_kept told _ file (data_of case) c.in_ok-sources.sources c.in_ok-case.ensures.files c.in_ok-case.ensures.found has in
     let project = c.in_ok-project.ensures.found given are in
-    let kept = reads_project told file given c.in_ok-project.project reads project (c.in_ok-without_stl.ensures.found given has.stl) in
+    let kept = reads_project told file given c.in_ok-project.project reads project in
     let made = c.in_ok-entry.ensures.found given is project in
     let filled = reads_table told file given made.0 c.in_ok-entry.entry c.in_ok-entry.table kept made.1 in
     let fit = c.in_ok-view.ensures.found given made.0 is project made.1 in (

@@ -5,7 +5,7 @@ use Rattle.pv_load.proofs.ForCallers.{passed, code_short, is_case, held_texts, g
 use Rattle.pv_recheck_command.specs.declared.recheck.RecheckStop.TheVariants.{Subject as At_subject}
 use Rattle.pv_recheck_command.specs.Forms.{AreFirst}
 use Rattle.pv_recheck_command.specs.Rechecks.{recheck_stop_status, StopsRecheck}
-use Rattle.pv_recheck_command.proofs.Working.{no_symbols, no_stl, few_sources, stays, passed_counts, stops_source, are_first}
+use Rattle.pv_recheck_command.proofs.Working.{no_symbols, few_sources, stays, passed_counts, stops_source, are_first}
 use Rattle.pv_recheck_command.proofs.subject.first_subject_in.Goals as goal
 
 pub returns-in_err-case-clause-stopped : goal.returns-in_err-case-clause-stopped
@@ -38,7 +38,7 @@ returns-in_err-project-clause-stopped g c = λ file.
     let are = are_given _ case sources sources.texts.items [] refl (no_symbols case found.1) has in
     let reads = reads_kept told _ case_file (data_of case) sources c.in_ok-case.ensures.files found.0 has in
     passed (StopsRecheck told case_file file) c.from_residual-in_err-project.result c.in_err-project.field-0.0
-    c.from_residual-in_err-project.ensures.1 (c.in_err-project.ensures.stopped told case_file file given refl found.1 are reads (no_stl _ (data_of case) has.read found.1 has.held))
+    c.from_residual-in_err-project.ensures.1 (c.in_err-project.ensures.stopped told case_file file given refl found.1 are reads)
 
 pub returns-in_err-project-clause-counted : goal.returns-in_err-project-clause-counted
 returns-in_err-project-clause-counted g c =
@@ -62,8 +62,7 @@ returns-in_err-program-clause-stopped g c = λ file.
     let are = are_given _ case sources sources.texts.items [] refl (no_symbols case found.1) has in
     let reads = reads_kept told _ case_file (data_of case) sources c.in_ok-case.ensures.files found.0 has in
     let made = c.in_ok-project.ensures.found given refl found.1 are in
-    let none = no_stl _ (data_of case) has.read found.1 has.held in
-    let kept = reads_project told case_file given c.in_ok-project.project reads made.0 none in
+    let kept = reads_project told case_file given c.in_ok-project.project reads made.0 in
     passed (StopsRecheck told case_file file) c.from_residual-in_err-program.result c.in_err-program.field-0.0
     c.from_residual-in_err-program.ensures.1
     (c.in_err-program.ensures.stopped told file given (is_case case) (are_first given found.1 made.1) kept made.0)
@@ -86,8 +85,7 @@ returns-clause-found g c =
     let are = are_given _ case sources sources.texts.items [] refl (no_symbols case found.1) has in
     let reads = reads_kept told _ case_file (data_of case) sources c.in_ok-case.ensures.files found.0 has in
     let made = c.in_ok-project.ensures.found given refl found.1 are in
-    let none = no_stl _ (data_of case) has.read found.1 has.held in
-    let kept = reads_project told case_file given c.in_ok-project.project reads made.0 none in
+    let kept = reads_project told case_file given c.in_ok-project.project reads made.0 in
     record {
       given = given;
       name = refl;
