@@ -143,7 +143,11 @@ no_file_fit (fit_stop.NotBool n) e = omega (arith, e)
 no_file_fit fit_stop.NoMemory e = omega (arith, e)
 
 stays_same : (status before after : ℕ) → (status ≡ 6 → ⊥) → after ≡ before → Counts status before after
-stays_same status before after never same = record { rises = λ e. absurd (never e); stays = λ a b. same }
+stays_same status before after never same = record {
+  rises = λ e. absurd (never e);
+  stays = λ a b. same;
+  never_falls = omega (arith, same);
+}
 
 pub counts_project : (stop : ProjectStop) (before after : ℕ) → after ≡ before → Counts (subject_status (stop_at.Project stop)) before after
 counts_project stop before after same = stays_same _ before after (no_file_project stop) same

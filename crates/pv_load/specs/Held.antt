@@ -1,5 +1,5 @@
 -- What files are told to hold. Where they tell nothing, each of these says only that there are such bytes.
-use Rattle.std.specs.Prelude.{◌≡◌, ◌≢◌, ℕ, List, Option, Some, IfSome}
+use Rattle.std.specs.Prelude.{◌≡◌, ◌≢◌, ◌≤◌, ℕ, List, Option, Some, IfSome}
 use Rattle.pv_edge.specs.Faults.{HasRisen}
 use Rattle.pv_edge.specs.Files.{FileMap}
 
@@ -14,7 +14,8 @@ pub record HoldsBytes (told : Option FileMap) (name : List ℕ) (Are : List ℕ 
   pub are : Are bytes
 
 -- what the count of failed reads does in a call that ends with this status: it rises where a file can't be read, and stays but
--- there and where memory ends
+-- there and where memory ends; it never falls, also where memory ends behind a failed read
 pub record Counts (status before after : ℕ) : Type 0 where
   pub rises : status ≡ 6 → HasRisen before after
   pub stays : status ≢ 6 → status ≢ 9 → after ≡ before
+  pub never_falls : before ≤ after

@@ -76,7 +76,11 @@ are_first given case project = record { case = case; project = project }
 -- ---- counts
 
 pub stays : (status before after : ℕ) → status ≢ 6 → after ≡ before → Counts status before after
-stays status before after other same = record { rises = λ e. absurd (other e); stays = λ a b. same }
+stays status before after other same = record {
+  rises = λ e. absurd (other e);
+  stays = λ a b. same;
+  never_falls = omega (arith, same);
+}
 
 -- ---- the sources
 

@@ -1,5 +1,5 @@
 -- What a replay came to, by what its stages say.
-use Rattle.std.proofs.Common.{◌≡◌, ℕ, List, map, Option, Result, Ok, Err, refl, sym, ap, subst, ◌∙◌, arith, string_bytes}
+use Rattle.std.proofs.Common.{◌≡◌, ℕ, List, map, Option, Result, Ok, Err, sym, ap, subst, ◌∙◌, arith, string_bytes}
 use Rattle.std.specs.Result.{IsErrAnd}
 use Rattle.pv_edge.specs.Files.{FileMap}
 use Rattle.pv_mean.specs.Runs.{run}
@@ -60,6 +60,6 @@ err_counted (Err e) stop before between after is same counts =
     subst (λ x. Counts (replay_status (Err x)) before after) (sym is)
     (subst (λ n. Counts (replay_status (Err stop)) n after) same counts)
 
--- of want of memory nothing is said
-pub unsaid : (before after : ℕ) → Counts 9 before after
-unsaid before after = record { rises = λ e. absurd (omega (arith, e)); stays = λ a b. absurd (b refl) }
+-- memory ends behind the reads
+pub all_read : (before after : ℕ) → after ≡ before → Counts 9 before after
+all_read before after same = record { rises = λ e. absurd (omega (arith, e)); stays = λ a b. same; never_falls = omega (arith, same) }

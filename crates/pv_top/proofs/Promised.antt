@@ -276,6 +276,7 @@ promised laws call outcome says counted delivers unwritten written writes = reco
       (sym (code_is call outcome says counted delivers (zero_settled call.status e)) ∙ e);
   unread = unread_is call outcome says counted delivers;
   all_read = all_read call outcome says counted delivers;
+  never_falls = counted.never_falls;
   unwritten = unwritten;
   all_written = written;
   no_writes = writes;

@@ -1,5 +1,5 @@
 -- What a run of the program promises: each field of `Promises` is one.
-use Rattle.std.specs.Prelude.{◌≡◌, ◌≢◌, ◌⊎◌, ◌↔◌, ℕ, List, [], ◌∷◌, Option, Some, codes}
+use Rattle.std.specs.Prelude.{◌≡◌, ◌≢◌, ◌≤◌, ◌⊎◌, ◌↔◌, ℕ, List, [], ◌∷◌, Option, Some, codes}
 use Rattle.pv_edge.specs.Faults.{HasRisen}
 use Rattle.pv_edge.specs.Files.{FileMap}
 use Rattle.pv_edge.specs.Sink.{Takes, TakesLess}
@@ -66,7 +66,7 @@ pub data Delivers (outcome : Outcome) (status : ℕ) (taken taken_after : Option
   silent : status ≡ 9 → taken_after ≡ taken → Delivers outcome status taken taken_after
 
 -- the words came to an outcome that is so, whose text is delivered. Whatever the status is then, the count of failed reads rises where
--- the outcome is that a file can't be read, and stays but there and where memory ends
+-- the outcome is that a file can't be read, stays but there and where memory ends, and never falls
 pub record Answers (call : Call) : Type 0 where
   pub outcome : Outcome
   pub says : Says call.told call.words outcome
@@ -100,9 +100,10 @@ pub record Promises (call : Call) : Type 0 where
   pub satisfied : (case_file certificate_file : List ℕ) → IsRecheck call.words case_file certificate_file → call.status ≡ 0
       → HoldsSatisfied call.told case_file
   -- a read fault and a write fault are told only where their count rose. After a settled status that of reads is as before, and after
-  -- each but a write fault that of the sink
+  -- each but a write fault that of the sink. Whatever the status is, that of reads is no less than before
   pub unread : call.status ≡ 6 → HasRisen call.reads call.reads_after
   pub all_read : IsSettled call.status → call.reads_after ≡ call.reads
+  pub never_falls : call.reads ≤ call.reads_after
   pub unwritten : call.status ≡ 7 → HasRisen call.sink call.sink_after
   pub all_written : call.status ≢ 7 → call.sink_after ≡ call.sink
   -- no command of today writes a file

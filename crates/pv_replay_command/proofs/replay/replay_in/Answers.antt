@@ -3,7 +3,7 @@ use Rattle.pv_load.specs.Subjects.{source_in}
 use Rattle.pv_mean.specs.Runs.{run}
 use Rattle.pv_replay_command.specs.Ends.{IsEnd}
 use Rattle.pv_replay_command.proofs.Starts.{subject_starts}
-use Rattle.pv_replay_command.proofs.Saying.{says_replayed, says_stopped, err_said, err_counted, unsaid}
+use Rattle.pv_replay_command.proofs.Saying.{says_replayed, says_stopped, err_said, err_counted, all_read}
 use Rattle.pv_replay_command.specs.declared.replay.ReplayStop.TheVariants.{Trace as AtTrace, NoMemory}
 use Rattle.pv_replay_command.proofs.replay.replay_in.Goals as goal
 
@@ -33,4 +33,5 @@ returns-in_err-trace-clause-counted g c =
 
 pub returns-in_err-end-clause-counted : goal.returns-in_err-end-clause-counted
 returns-in_err-end-clause-counted g c =
-    err_counted c.from_residual-in_err-end.result NoMemory _ _ _ c.from_residual-in_err-end.ensures.1 refl (unsaid _ _)
+    err_counted c.from_residual-in_err-end.result NoMemory _ _ _ c.from_residual-in_err-end.ensures.1 refl
+    (all_read _ _ (c.in_ok-trace.ensures.counted ∙ c.in_ok-subject.ensures.counted))
