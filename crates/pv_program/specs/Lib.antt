@@ -7,3 +7,4 @@ pub mod Reached
 pub mod Rows
 pub mod Labels
 pub mod Bodies
+pub mod Faults

@@ -1,6 +1,8 @@
 -- Words of STL by the rows of the table that they have.
 use Rattle.std.specs.Prelude.{◌≡◌, ℕ, List, Option, Some, None}
 use Rattle.pv_tree.specs.declared.instr.Op.{Op}
+use Rattle.pv_tree.specs.declared.instr.Op.TheVariants.{Assign, S, R, Fp, Fn}
+use Rattle.pv_tree.specs.InstructionGroups.{Group, bit_read, opening, closing, alone, no_operation, display, word_logic, double_logic, word_shift, double_shift, block_end}
 use Rattle.pv_tree.specs.Tree.{OperandTree, InstrTree, BlockTree}
 use Rattle.pv_mean.specs.Sources.{Source}
 use Rattle.pv_mean.specs.Activations.{Activation}
@@ -20,7 +22,45 @@ use Rattle.pv_stl_run.specs.declared.instr.Deed.{Deed}
 use Rattle.pv_stl_run.specs.Views.{junction_of}
 use Rattle.pv_stl_run.specs.Rows.{row_of}
 use Rattle.pv_stl_run.specs.Code.{HasRow, jump_row, written_of, IsDeed}
-use Rattle.std.specs.Prelude.{Bool as Truth}
+use Rattle.std.specs.Prelude.{Bool as Truth, true, false}
+
+-- which words have a row of each kind
+abbrev pub is_joined : Group → Truth
+is_joined bit_read = true
+is_joined group = false
+
+abbrev pub is_taken : Op → Truth
+is_taken Assign = true
+is_taken S = true
+is_taken R = true
+is_taken op = false
+
+abbrev pub is_edge : Op → Truth
+is_edge Fp = true
+is_edge Fn = true
+is_edge op = false
+
+abbrev pub is_end : Group → Truth
+is_end block_end = true
+is_end group = false
+
+abbrev pub is_change : Group → Truth
+is_change opening = true
+is_change closing = true
+is_change no_operation = true
+is_change display = true
+is_change alone = true
+is_change group = false
+
+abbrev pub is_combined : Group → Truth
+is_combined word_logic = true
+is_combined double_logic = true
+is_combined group = false
+
+abbrev pub is_shift : Group → Truth
+is_shift word_shift = true
+is_shift double_shift = true
+is_shift group = false
 
 -- a row, whatever the instruction works on
 abbrev pub WordHas : Op → (Source → Activation → InstrTree → Effect) → Type 0

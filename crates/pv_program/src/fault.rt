@@ -1,6 +1,7 @@
 //! Why a project has no program.
 ghost use Rattle.std.specs.Prelude.{◌≡◌};
 ghost use Rattle.pv_program.specs.declared.fault.ProgramFault.TheVariants.{NoMemory};
+ghost use Rattle.pv_program.specs.Faults.{fault_of};
 
 use pv_resolve::ResolveFault;
 use std::alloc::{AllocError, AllocFailed};
@@ -9,8 +10,8 @@ use thiserror::Error;
 /// Why a project has no program.
 #[derive(Clone, Copy, PartialEq, Eq, Debug, Drop, Error)]
 pub enum ProgramFault {
-    /// There are more cells than a table may have, a number is greater than 64 bits hold, there is no block of a number, or an
-    /// instruction breaks a rule.
+    /// More cells than a table may have, a number greater than 64 bits hold, a cell of an instance from 2^16 on, no block of a
+    /// number, or a block that breaks a rule. No project that keeps the rules should meet it; no clause says so yet.
     #[error("a number is too large")]
     TooLarge,
     #[error("out of memory")]
@@ -18,6 +19,8 @@ pub enum ProgramFault {
 }
 
 impl From<ResolveFault> for ProgramFault {
+    ghost from_gives = { λ fault gives. gives ≡ fault_of fault };
+
     fn from(fault: ResolveFault) -> ProgramFault {
         match fault {
             ResolveFault::TooLarge => ProgramFault::TooLarge,

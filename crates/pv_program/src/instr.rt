@@ -1,7 +1,8 @@
 //! Instructions of a body of STL, put behind those of the program.
 //!
-//! What breaks a rule of instructions has no code: a label that is doubled, more than seven open nestings, a jump within one, and a word
-//! without what belongs to it.
+//! What breaks these rules of instructions has no code: a label that is doubled, more than seven open nestings, a jump within one, and a
+//! word without what belongs to it. What breaks others has some: a jump to a label that isn't there, a nesting that is closed and wasn't
+//! opened, an operand of another type.
 ghost use Rattle.std.specs.Prelude.{◌≡◌, ◌+◌, ◌<◌, ◌^◌, List, IfOk, OnOk, Some, length, map, slice_get};
 ghost use Rattle.pv_tree.specs.Tree.{InstrTree};
 ghost use Rattle.pv_tree.specs.View.{instr_tree};

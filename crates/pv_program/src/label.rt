@@ -124,7 +124,7 @@ pub(crate) struct Labels {
     pub(crate) last: Firsts,
 }
 
-/// The labels of a body. One that is doubled breaks a rule.
+/// The labels of a body. One that is doubled breaks a rule, and is refused as too large.
 pub(crate) fn labels_of(alloc: Global, instrs: &[Instr]) -> Result<Labels, ResolveFault>
     ensures at { IfOk result (λ l. FindsLabels l.at (map instr_tree instrs.now)) }
     ensures last { IfOk result (λ l. FindsJumps l.last (map instr_tree instrs.now) 0) }
@@ -134,7 +134,7 @@ pub(crate) fn labels_of(alloc: Global, instrs: &[Instr]) -> Result<Labels, Resol
     Ok(Labels { at, last })
 }
 
-/// Where a jump at a position leads.
+/// Where a jump at a position leads. Without the label it leads to no instruction, which ends the body.
 pub(crate) fn goal_of(labels: &Labels, k: usize, name: &Name) -> Result<Goal, ResolveFault>
     ensures { (all : List InstrTree) → FindsLabels labels.now.at all → length all < 2 ^ 32
         → IfOk result (λ goal. LeadsTo all k name.now.key goal) }

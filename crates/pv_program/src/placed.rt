@@ -1,5 +1,5 @@
 //! Calls as STL makes them: whatever traps in an argument traps at the call's word, so a copy of the call has that place in all
-//! parts of its arguments.
+//! parts of its arguments at which something may trap. Words that can't keep their own.
 //!
 //! The copy goes as deep as expressions stand inside each other.
 ghost use Rattle.std.specs.Prelude.{◌≡◌, map, IfOk};

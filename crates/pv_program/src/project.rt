@@ -142,12 +142,14 @@ fn program_in<'p>(
     Ok(with_blocks(program, blocks))
 }
 
-/// The program of a project that is entered at the block of this number, where these bytes of areas have cells, with this table of
-/// cells and the most turns that one entry into a loop takes. It has code of the block that is entered and of those that calls in
-/// the text lead to from there.
+/// The program of a project that is entered at the block of this number, from 0 on, where these bytes of areas have cells, with this
+/// table of cells and the most turns that one entry into a loop takes, or as often a body comes to a label again. It has code of the
+/// block that is entered and of those that calls in the text lead to from there.
 ///
-/// It is too large where a number of a cell lies beyond what a table may have, where a number of the text doesn't fit 64 bits, or
-/// where there is no such block.
+/// It is too large where a number of a cell lies beyond what a table may have, or an instance begins at 2^16 cells or more; where a
+/// number of the text doesn't fit 64 bits; where there is no such block; where an address has no cell, or a parameter the name of a
+/// constant; and where a body of STL breaks a rule, as `add_instrs` says. No project that keeps the rules, with its own table, should
+/// be refused so; no clause says it yet. Want of memory is also told of 2^31 statements of a body, and of 2^32 elements of an array.
 pub fn program_of(
     alloc: Global,
     project: &Project,

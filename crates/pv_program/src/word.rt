@@ -1,9 +1,10 @@
-//! What words of STL do, each by its row of the table.
+//! What words of STL do, each by its row of the table. The words are those of the reference manual Statement List (STL) for
+//! S7-300/S7-400; which of them have a row here is what the groups of `pv_tree` say.
 ghost use Rattle.std.specs.Prelude.{◌≡◌, ℕ, List, IfSome, is_some};
 ghost use Rattle.pv_tree.specs.Tree.{InstrTree};
 ghost use Rattle.pv_program.specs.Bodies.{LeadsSo};
 ghost use Rattle.pv_tree.specs.InstructionGroups.{group_of, is_jump};
-ghost use Rattle.pv_program.specs.Rows.{WordChanges, WordCombines, WordShifts, WordJumps, WordJoins, WordWrites, WordFindsEdge, WordDoes};
+ghost use Rattle.pv_program.specs.Rows.{is_joined, is_taken, is_edge, is_end, is_change, is_combined, is_shift, WordChanges, WordCombines, WordShifts, WordJumps, WordJoins, WordWrites, WordFindsEdge, WordDoes};
 
 use pv_stl_run::{
     Change, Combining, Deed, Joining, Junction, Math, Part, Relation, Shifting, Test, When, Written,
@@ -13,7 +14,7 @@ use pv_tree::Op;
 /// When a jump is made.
 pub(crate) fn when(op: Op) -> Option<When>
     ensures row { IfSome result (λ test. WordJumps op test) }
-    ensures jumps { is_some result ≡ is_jump (group_of op) }
+    ensures each { is_some result ≡ is_jump (group_of op) }
 {
     match op {
         Op::Ju => Some(When::Always),
@@ -42,7 +43,8 @@ fn with(joining: Joining, negates: bool) -> Junction
 
 /// How an operand's bit is joined.
 pub(crate) fn joined(op: Op) -> Option<Junction>
-    ensures { IfSome result (λ j. WordJoins op j) }
+    ensures row { IfSome result (λ j. WordJoins op j) }
+    ensures each { is_some result ≡ is_joined (group_of op) }
 {
     match op {
         Op::A => Some(with(Joining::And, false)),
@@ -57,7 +59,8 @@ pub(crate) fn joined(op: Op) -> Option<Junction>
 
 /// What an operand takes of the result.
 pub(crate) fn written(op: Op) -> Option<Written>
-    ensures { IfSome result (λ w. WordWrites op w) }
+    ensures row { IfSome result (λ w. WordWrites op w) }
+    ensures each { is_some result ≡ is_taken op }
 {
     match op {
         Op::Assign => Some(Written::Result),
@@ -69,7 +72,8 @@ pub(crate) fn written(op: Op) -> Option<Written>
 
 /// Which edge is found: a rising one, or a falling one.
 pub(crate) fn edge(op: Op) -> Option<bool>
-    ensures { IfSome result (λ rising. WordFindsEdge op rising) }
+    ensures row { IfSome result (λ rising. WordFindsEdge op rising) }
+    ensures each { is_some result ≡ is_edge op }
 {
     match op {
         Op::Fp => Some(true),
@@ -81,6 +85,7 @@ pub(crate) fn edge(op: Op) -> Option<bool>
 /// What ends the block.
 pub(crate) fn end(op: Op) -> Option<Deed>
     ensures row { IfSome result (λ d. WordDoes op d) }
+    ensures each { is_some result ≡ is_end (group_of op) }
     ensures leads { (all : List InstrTree) (k : ℕ) (i : InstrTree)
         → IfSome result (λ d. LeadsSo all k i d) }
 {
@@ -92,8 +97,10 @@ pub(crate) fn end(op: Op) -> Option<Deed>
     }
 }
 
-fn comparison(op: Op) -> Option<Change>
-    ensures { IfSome result (λ c. WordChanges op c) }
+/// What changes the registers alone, whatever the instruction works on.
+pub(crate) fn changing(op: Op) -> Option<Change>
+    ensures row { IfSome result (λ c. WordChanges op c) }
+    ensures each { is_some result ≡ is_change (group_of op) }
 {
     match op {
         Op::EqI => Some(Change::Compare(Relation::Equal, Part::Low)),
@@ -108,14 +115,6 @@ fn comparison(op: Op) -> Option<Change>
         Op::LtD => Some(Change::Compare(Relation::Less, Part::Whole)),
         Op::GeD => Some(Change::Compare(Relation::GreaterEqual, Part::Whole)),
         Op::LeD => Some(Change::Compare(Relation::LessEqual, Part::Whole)),
-        _ => None,
-    }
-}
-
-fn math(op: Op) -> Option<Change>
-    ensures { IfSome result (λ c. WordChanges op c) }
-{
-    match op {
         Op::AddI => Some(Change::Calculate(Math::Sum(Part::Low))),
         Op::SubI => Some(Change::Calculate(Math::Difference(Part::Low))),
         Op::MulI => Some(Change::Calculate(Math::ProductOfWords)),
@@ -125,29 +124,12 @@ fn math(op: Op) -> Option<Change>
         Op::MulD => Some(Change::Calculate(Math::Product)),
         Op::DivD => Some(Change::Calculate(Math::QuotientOfWholes)),
         Op::Mod => Some(Change::Calculate(Math::RemainderOfWholes)),
-        _ => None,
-    }
-}
-
-fn opening(op: Op) -> Option<Change>
-    ensures { IfSome result (λ c. WordChanges op c) }
-{
-    match op {
         Op::AOpen => Some(Change::Open(with(Joining::And, false))),
         Op::AnOpen => Some(Change::Open(with(Joining::And, true))),
         Op::OOpen => Some(Change::Open(with(Joining::Or, false))),
         Op::OnOpen => Some(Change::Open(with(Joining::Or, true))),
         Op::XOpen => Some(Change::Open(with(Joining::Xor, false))),
         Op::XnOpen => Some(Change::Open(with(Joining::Xor, true))),
-        _ => None,
-    }
-}
-
-/// What stands alone.
-fn plain(op: Op) -> Option<Change>
-    ensures { IfSome result (λ c. WordChanges op c) }
-{
-    match op {
         Op::Close => Some(Change::Close),
         Op::Not => Some(Change::Negate),
         Op::Set => Some(Change::Put(true)),
@@ -163,25 +145,10 @@ fn plain(op: Op) -> Option<Change>
     }
 }
 
-/// What changes the registers alone, whatever the instruction works on.
-pub(crate) fn changing(op: Op) -> Option<Change>
-    ensures { IfSome result (λ c. WordChanges op c) }
-{
-    if let Some(change) = comparison(op) {
-        return Some(change);
-    }
-    if let Some(change) = math(op) {
-        return Some(change);
-    }
-    if let Some(change) = opening(op) {
-        return Some(change);
-    }
-    plain(op)
-}
-
 /// How words are joined bit by bit.
 pub(crate) fn combining(op: Op) -> Option<(Combining, Part)>
-    ensures { IfSome result (λ h. WordCombines op h.0 h.1) }
+    ensures row { IfSome result (λ h. WordCombines op h.0 h.1) }
+    ensures each { is_some result ≡ is_combined (group_of op) }
 {
     match op {
         Op::Aw => Some((Combining::And, Part::Low)),
@@ -196,7 +163,8 @@ pub(crate) fn combining(op: Op) -> Option<(Combining, Part)>
 
 /// Where a shift goes.
 pub(crate) fn shifting(op: Op) -> Option<(Shifting, Part)>
-    ensures { IfSome result (λ h. WordShifts op h.0 h.1) }
+    ensures row { IfSome result (λ h. WordShifts op h.0 h.1) }
+    ensures each { is_some result ≡ is_shift (group_of op) }
 {
     match op {
         Op::Slw => Some((Shifting::Left, Part::Low)),
