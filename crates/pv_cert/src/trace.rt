@@ -1,6 +1,7 @@
 //! Traces: the values that determine a stretch of scans, and how a failing scan ends.
 ghost use Rattle.std.specs.Prelude.{◌≡◌, List, ℤ, [], ◌∷◌, ◌++◌, OnOk, OnErr};
 
+use pv_machine::{Place, TrapKind};
 use std::alloc::{AllocError, Global};
 use std::marker::Model;
 
@@ -96,10 +97,13 @@ pub struct Trace {
     pub inputs: ScanInputs,
 }
 
-/// How a failing scan ends. (That it stops with an error, or passes the bound on a loop's rounds, comes with the
-/// kinds of errors and the places of loops.)
+/// How a failing scan ends.
 #[derive(Clone, Copy, Debug, PartialEq, Eq)]
 pub enum Ending {
     /// The scan is done, and the pattern fails at its end.
     Pattern,
+    /// An operation at this place has no value.
+    Trap(TrapKind, Place),
+    /// The loop at this place would take more turns than it may.
+    Over(Place),
 }

@@ -118,16 +118,17 @@ fn failing_reads_and_writes(rt: HostRuntime) -> Result<(), Fail> {
     Ok(())
 }
 
-// The byte 200 isn't part of UTF-8 where it stands: in a case that is no JSON, in a trace no line of one, and in a source it may stand in a
+// A case without members lacks its version. The byte 200 isn't part of UTF-8 where it stands: in a case that is no JSON, in a trace no line of one, and in a source it may stand in a
 // comment alone. A source of 4,194,305 bytes is refused before its tokens.
 #[test]
-fn bytes_that_are_no_text(rt: HostRuntime) -> Result<(), Fail> {
+fn whole_files(rt: HostRuntime) -> Result<(), Fail> {
     let alloc = rt.alloc();
     let case = case_with(alloc, REQUIREMENT)?;
     let case = case.as_bytes();
     let (source, trace) = (SOURCE.as_bytes(), TRACE.as_bytes());
     let rows = [
         (b"\xc8".as_slice(), source, trace, "4 plcv: case: NotJson\n"),
+        (b"{}", source, trace, "4 plcv: case: MissingField version\n"),
         (case, b"\xc8", trace, "3 plcv: a.scl:1:1: Lex BadByte\n"),
         (case, b"(*\xc8*)", trace, "4 plcv: case: NoEntry entry\n"),
         (

@@ -19,6 +19,10 @@ fn traces_are_read_and_written(rt: HostRuntime) -> Result<(), Fail> {
         let written = write_trace(rt.alloc(), &trace)?;
         assert!(rt; written.as_slice() == text.as_bytes(), "{text:?}");
     }
+    let bits = "PLCVTRACE 1\nparams\nscan 1\nscan 0\nend\n";
+    let trace = read_trace(rt.alloc(), bits.as_bytes(), &[], &[(0, 1)])?;
+    let written = write_trace(rt.alloc(), &trace)?;
+    assert!(rt; written.as_slice() == bits.as_bytes());
     let none = "PLCVTRACE 1\nparams\nscan\nscan\nend\n";
     let trace = read_trace(rt.alloc(), none.as_bytes(), &[], &[])?;
     assert_eq!(rt; trace.inputs.as_slice().len(), 2);
