@@ -1,8 +1,11 @@
 #!/usr/bin/env python3
-"""Times `plcv replay` on blocks and traces of a size and of twice that size.
+"""Times `plcv replay` on blocks and traces of a size and of twice that size, and beside C.
 
 Usage: run.py [n [scans]]: blocks of n and 2n variables (10,000) and traces of so many and twice so many scans (100,000). A block
-has at most 20,000 cells, so n is at most 10,000. The script `plcv` at the top builds the program where it is missing."""
+has at most 20,000 cells, so n is at most 10,000. The script `plcv` at the top builds the program where it is missing.
+The last rows are the blocks of bench/scans, in SCL and STL, by the whole command and beside the same blocks in C (gcc -O1): reading the
+trace counts with the scans."""
+import importlib.util
 import json
 import pathlib
 import subprocess
@@ -43,6 +46,20 @@ def mixed(n):
     return block(inputs, outputs, body), len(inputs)
 
 
+def full(n, size):
+    """A source of about so many bytes, whose block has n cells: each is declared, and what is left goes to assignments."""
+    inputs, outputs = variables(n)
+    names = inputs + outputs
+    room, lines = size - len(block(inputs, outputs, "")), []
+    for k in range(size):
+        line = f"  {outputs[k % len(outputs)]} := {names[k * 7919 % n]} AND NOT ({names[k * 104729 % n]} OR {names[k * 31 % n]});\n"
+        room -= len(line)
+        if room < 0:
+            break
+        lines.append(line)
+    return block(inputs, outputs, "".join(lines)), len(inputs)
+
+
 def chain(size):
     """A source of about so many bytes whose assignments each read what the one before assigned."""
     outputs = [f"v{k}" for k in range(1000)]
@@ -65,15 +82,15 @@ def parentheses(size):
     return block(["b"], ["a"], "a:=" + "(" * room + ";"), 1
 
 
-def case_of(source):
+def case_of(source, language="scl", bound=1):
     """The case of a source's block with an invariant that always holds."""
     return {
         "version": 1,
         "name": "bench",
-        "sources": [{"file": str(source), "language": "scl"}],
+        "sources": [{"file": str(source), "language": language}],
         "entry": "Bench",
         "pattern": {"kind": "invariant", "a": "TRUE"},
-        "loopBound": 1,
+        "loopBound": bound,
         "depth": 0,
         "lemmas": 100000,
         "regionWords": 1000000,
@@ -114,6 +131,34 @@ def pair(place, name, made, scans):
     compare(name, *rows)
 
 
+def beside_c(place, scans, scans_of_c, case, count):
+    """Prints the assignments a second of a block of bench/scans by the whole command, and how many times the C program's time."""
+    name, block_made = case.__name__, case()
+    source = place / f"{name}.{block_made.language}"
+    source.write_text(block_made.text)
+    (place / "case.json").write_text(json.dumps(case_of(source, block_made.language, scans.SIZE)))
+    found = []
+    for number in (2, count, 2 * count):
+        (place / "trace.txt").write_text(trace_of(scans.INPUTS, number))
+        found.append(measured([PROGRAM, "replay", place / "case.json", place / "trace.txt"]))
+        if found[-1][2] != f"PLCV 1\ncase bench\npattern invariant\nreplay kept\nscans {number}\n":
+            sys.exit(found[-1][2])
+    plain = scans.compiled(place, name, block_made.c)
+    c_none, c_many = (measured([plain, number]) for number in (0, scans_of_c))
+    took, c_took = found[1][0] - found[0][0], (c_many[0] - c_none[0]) * count / scans_of_c
+    rates = (block_made.assignments * count / t / 1e6 for t in (took, c_took))
+    print("{}: {:.1f} and {:.0f} million assignments a second, {:.1f} times the C program's time".format(name, *rates, took / c_took), flush=True)
+    compare(name, (f"{count} scans", found[1]), (f"{2 * count} scans", found[2]))
+
+
+def scans_module():
+    """The script bench/scans/run.py."""
+    spec = importlib.util.spec_from_file_location("scans", ROOT / "bench" / "scans" / "run.py")
+    module = importlib.util.module_from_spec(spec)
+    spec.loader.exec_module(module)
+    return module
+
+
 def main():
     n = int(sys.argv[1]) if len(sys.argv) > 1 else 10000
     scans = int(sys.argv[2]) if len(sys.argv) > 2 else 100000
@@ -125,7 +170,11 @@ def main():
         pair(place, f"{n} and {2 * n} variables and assignments", [mixed(n), mixed(2 * n)], [10, 10])
         for make in chain, dense, parentheses:
             pair(place, make.__name__, [make(2 * MIB), make(4 * MIB)], [2, 2])
+        pair(place, f"{n} and {2 * n} cells in 2 and 4 MiB", [full(n, 2 * MIB), full(2 * n, 4 * MIB)], [1, 1])
         pair(place, "30 variables and assignments", [mixed(30)] * 2, [scans, 2 * scans])
+        blocks = scans_module()
+        for case in blocks.CASES:
+            beside_c(place, blocks, 20 * scans, case, scans // 5)
 
 
 main()
