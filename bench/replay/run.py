@@ -46,13 +46,14 @@ def mixed(n):
     return block(inputs, outputs, body), len(inputs)
 
 
-def full(n, size):
-    """A source of about so many bytes, whose block has n cells: each is declared, and what is left goes to assignments."""
+def full(n, size, reads):
+    """A source of about so many bytes, whose block has n cells: each is declared, and what is left goes to assignments that read three."""
     inputs, outputs = variables(n)
     names = inputs + outputs
     room, lines = size - len(block(inputs, outputs, "")), []
     for k in range(size):
-        line = f"  {outputs[k % len(outputs)]} := {names[k * 7919 % n]} AND NOT ({names[k * 104729 % n]} OR {names[k * 31 % n]});\n"
+        a, b, c = (names[at % n] for at in reads(k))
+        line = f"  {outputs[k % len(outputs)]} := {a} AND NOT ({b} OR {c});\n"
         room -= len(line)
         if room < 0:
             break
@@ -170,7 +171,9 @@ def main():
         pair(place, f"{n} and {2 * n} variables and assignments", [mixed(n), mixed(2 * n)], [10, 10])
         for make in chain, dense, parentheses:
             pair(place, make.__name__, [make(2 * MIB), make(4 * MIB)], [2, 2])
-        pair(place, f"{n} and {2 * n} cells in 2 and 4 MiB", [full(n, 2 * MIB), full(2 * n, 4 * MIB)], [1, 1])
+        for name, reads in ("near", lambda k: (k, k + 1, k + 2)), ("far", lambda k: (k * 7919, k * 104729, k * 31)):
+            made = [full(n, 2 * MIB, reads), full(2 * n, 4 * MIB, reads)]
+            pair(place, f"{n} and {2 * n} cells in 2 and 4 MiB, {name} ones read", made, [1, 1])
         pair(place, "30 variables and assignments", [mixed(30)] * 2, [scans, 2 * scans])
         blocks = scans_module()
         for case in blocks.CASES:
