@@ -3,6 +3,7 @@ pub mod OperatorLaws
 pub mod RunLaws
 pub mod Makings
 pub mod Writing
-pub mod Looping
+pub mod Numbers
+pub mod Lowering
 pub mod Bytes
 pub mod Meanings

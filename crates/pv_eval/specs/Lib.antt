@@ -8,3 +8,6 @@ pub mod Order
 pub mod OneProof
 pub mod Means
 pub mod Writes
+pub mod Ops
+pub mod Lowered
+pub mod Ready

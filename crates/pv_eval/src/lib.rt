@@ -5,7 +5,9 @@
 #![tactic(auto)]
 
 mod expression;
+mod lower;
 mod node;
+mod op;
 mod operator;
 mod room;
 mod spot;
@@ -18,7 +20,7 @@ pub use expression::Expression;
 pub use node::{Node, OneOp, Operand, Part, Spot, ThreeOp, TwoOp};
 pub use operator::{one, pattern, three, two};
 pub use room::Room;
-pub use spot::{read, spot_at};
+pub use spot::read;
 pub use target::Target;
 pub use trap::Trap;
 pub use write::write_spot;

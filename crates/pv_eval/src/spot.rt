@@ -6,16 +6,16 @@ ghost use Rattle.pv_mean.specs.Spots.{read_spot, told, number_of_bytes};
 ghost use Rattle.pv_mean.specs.Frames.{visible_value, brief_value};
 ghost use Rattle.pv_eval.specs.Rooms.{frame_of};
 ghost use Rattle.pv_eval.specs.Traps.{tried};
-ghost use Rattle.pv_eval.specs.Operands.{spot_of, spot_in, spot_at, IsSpot, IsOperand};
+ghost use Rattle.pv_eval.specs.Operands.{spot_of, spot_in, IsSpot};
 
-use crate::node::{Operand, Part, Spot};
+use crate::node::{Part, Spot};
 use crate::operator::{packed, pattern};
 use crate::room::Room;
 use crate::trap::Trap;
 use pv_machine::{Place, TrapKind};
 use pv_word::Ty;
 
-fn visible_value(room: &Room, n: usize) -> i64
+pub(crate) fn visible_value(room: &Room, n: usize) -> i64
     ensures { result ≡ visible_value (frame_of room.now) n }
 {
     match room.visible.get(n) {
@@ -72,7 +72,7 @@ pub fn read(room: &Room, spot: Spot, place: Place) -> Result<i64, Trap>
 }
 
 /// The cell of this number.
-fn spot_in(part: Part, first: u32, n: u64) -> Spot
+pub(crate) fn spot_in(part: Part, first: u32, n: u64) -> Spot
     requires few { n < 2 ^ 63 + 2 ^ 33 }
     ensures value { spot_of result ≡ spot_in part first n }
     ensures is { IsSpot result }
@@ -82,24 +82,5 @@ fn spot_in(part: Part, first: u32, n: u64) -> Spot
         Part::Visible => Spot::Visible(n as usize),
         Part::Brief(ty) => Spot::Brief(ty, n as usize),
         Part::Nowhere => Spot::Nowhere,
-    }
-}
-
-/// The spot that an operand names, by the values of the nodes so far.
-pub fn spot_at(operand: Operand, first: u32, values: &[i64]) -> Spot
-    requires { IsOperand (length values.now) operand }
-    ensures value { spot_of result ≡ spot_at first values.now operand }
-    ensures is { IsSpot result }
-{
-    match operand {
-        Operand::At(spot) => spot,
-        Operand::Own(n) => Spot::Visible(first as usize + n as usize),
-        Operand::Element(part, offset, address) => {
-            spot_in(
-                part,
-                first,
-                u64::from(offset) + values[address as usize].unsigned_abs(),
-            )
-        }
     }
 }

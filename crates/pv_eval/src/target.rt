@@ -2,21 +2,25 @@
 ghost use Rattle.std.specs.Prelude.{length};
 ghost use Rattle.pv_eval.specs.Operands.{IsOperand};
 ghost use Rattle.pv_eval.specs.Order.{AreNodes};
-ghost use Rattle.pv_eval.specs.OneProof.{AreNodes-prop, IsOperand-prop};
+ghost use Rattle.pv_eval.specs.Ops.{IsAccess, AreOps};
+ghost use Rattle.pv_eval.specs.OneProof.{AreOps-prop, IsAccess-prop};
 
+use crate::lower::{access_of, ops_of};
 use crate::node::{Node, Operand, Spot};
+use crate::op::{Access, Op};
 use crate::room::Room;
-use crate::spot::spot_at;
 use crate::trap::Trap;
-use crate::value::run;
+use crate::value::{accessed, run};
+use std::alloc::{AllocError, Global};
 
-/// An operand: the nodes of its indexes, and what it is by their values.
+/// An operand: the operations of its indexes, what it is by their values, and how many values there must be room for.
 #[derive(Drop)]
 pub struct Target {
-    pub(crate) nodes: Vec<Node>,
-    pub(crate) operand: Operand,
-    ghost ordered: { AreNodes nodes.items } by { AreNodes-prop nodes.items },
-    ghost within: { IsOperand (length nodes.items) operand } by { IsOperand-prop (length nodes.items) operand },
+    pub(crate) ops: Vec<Op>,
+    pub(crate) access: Access,
+    pub(crate) count: usize,
+    ghost spots: { AreOps ops.items } by { AreOps-prop ops.items },
+    ghost spot: { IsAccess access } by { IsAccess-prop access },
 }
 
 impl Target {
@@ -28,34 +32,42 @@ impl Target {
     ghost use Rattle.pv_eval.specs.Traps.{located};
     ghost use Rattle.pv_eval.specs.Operands.{IsSpot};
     ghost use Rattle.pv_eval.specs.Means.{Names, activation};
+    ghost use Rattle.pv_eval.specs.Ready.{Locates};
 
     /// The target that an operand is by the values of these nodes.
-    pub fn of(nodes: Vec<Node>, operand: Operand) -> Target
-        requires nodes { AreNodes nodes.items }
-        requires within { IsOperand (length nodes.items) operand }
-        ensures nodes { result.nodes.items ≡ nodes.items }
-        ensures operand { result.operand ≡ operand }
+    pub fn of(alloc: Global, nodes: &[Node], operand: Operand) -> Result<Target, AllocError>
+        requires nodes { AreNodes nodes.now }
+        requires within { IsOperand (length nodes.now) operand }
+        ensures count { IfOk result (λ t. t.count ≡ length nodes.now) }
+        ensures locates { (source : Source) (block : BlockTree) (o : OperandTree)
+            → Names source block [] nodes.now operand o
+            → IfOk result (λ t. Locates source block t o) }
     {
-        Target { nodes, operand }
+        let ops = ops_of(alloc, nodes)?;
+        Ok(Target {
+            ops,
+            access: access_of(nodes, operand),
+            count: nodes.len(),
+        })
     }
 
     /// How many values are taken to locate it.
     pub fn len(&self) -> usize
-        ensures { result ≡ length self.now.nodes.items }
+        ensures { result ≡ self.now.count }
     {
-        self.nodes.len()
+        self.count
     }
 
     /// The spot that it names in a block at work. What `values` holds doesn't matter.
     pub fn locate(&self, room: &Room, values: &mut [i64]) -> Result<Spot, Trap>
-        requires { length self.now.nodes.items ≤ length values.old }
+        requires { self.now.count ≤ length values.old }
         ensures value { (source : Source) (block : BlockTree) (o : OperandTree)
-            → Names source block [] self.now.nodes.items self.now.operand o
+            → Locates source block self.now o
             → located result ≡ locate source (activation block room.now.first) (frame_of room.now) o }
         ensures spot { IfOk result IsSpot }
     {
-        match run(self.nodes.as_slice(), room, values) {
-            Ok(()) => Ok(spot_at(self.operand, room.first, &values[..self.nodes.len()])),
+        match run(self.ops.as_slice(), room, values) {
+            Ok(()) => Ok(accessed(&self.access, values, room)),
             Err(trap) => Err(trap),
         }
     }

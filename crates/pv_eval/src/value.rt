@@ -1,29 +1,93 @@
-//! Nodes at work: one after the other, each leaves its value.
-ghost use Rattle.std.specs.Prelude.{◌≡◌, ◌<◌, ◌≤◌, ◌^◌, pos, ◌+ℤ◌, ◌≤ℤ◌, length, []};
+//! Operations at work: one after the other, each leaves its value.
+ghost use Rattle.std.specs.Prelude.{◌≡◌, ◌+ℤ◌, ◌-ℤ◌, ◌*ℤ◌, slice_set};
+ghost use Rattle.std.specs.Int.{w64, int_wrap};
 ghost use Rattle.pv_eval.specs.Rooms.{frame_of};
 ghost use Rattle.pv_eval.specs.Traps.{tried};
-ghost use Rattle.pv_eval.specs.Nodes.{element_number, node_value, run, left_by};
-ghost use Rattle.pv_eval.specs.Operands.{span};
-ghost use Rattle.pv_eval.specs.Order.{AreBelow, IsRoomFor, AreNodes};
+ghost use Rattle.pv_eval.specs.Operands.{spot_of, at, IsSpot};
+ghost use Rattle.pv_eval.specs.Ops.{fetched, accessed, cell_number, done, run_ops, left_in, IsAccess, HasSpot, AreOps};
 
-use crate::node::Node;
+use crate::node::Spot;
+use crate::op::{Access, Arg, Deed, Op};
 use crate::operator::{one, three, two};
 use crate::room::Room;
-use crate::spot::{read, spot_at};
+use crate::spot::{read, spot_in, visible_value};
 use crate::trap::Trap;
 use pv_machine::{Place, TrapKind};
 
-/// The value of a node, by those of the nodes before it.
-fn node_value(node: &Node, values: &[i64], room: &Room) -> Result<i64, Trap>
-    requires below { AreBelow (length values.now) node.now }
-    requires room { IsRoomFor values.now node.now }
-    ensures { tried result ≡ node_value room.now.first (frame_of room.now) values.now node.now }
+fn value_at(values: &[i64], n: u32) -> i64
+    ensures { result ≡ at values.now n }
 {
-    match node {
-        Node::Constant(v) => Ok(*v),
-        Node::Read(operand, place) => read(room, spot_at(*operand, room.first, values), *place),
-        Node::One { op, ty, arg } => Ok(one(*op, *ty, values[*arg as usize])),
-        Node::Two {
+    match values.get(n as usize) {
+        Some(v) => *v,
+        None => 0,
+    }
+}
+
+pub(crate) fn fetched(arg: &Arg, values: &[i64], room: &Room) -> i64
+    ensures { result ≡ fetched room.now.first (frame_of room.now) values.now arg.now }
+{
+    match arg {
+        Arg::Constant(v) => *v,
+        Arg::Value(n) => value_at(values, *n),
+        Arg::Visible(n) => visible_value(room, *n),
+        Arg::Own(n) => visible_value(room, room.first as usize + *n as usize),
+    }
+}
+
+/// The spot that is read or assigned.
+pub(crate) fn accessed(access: &Access, values: &[i64], room: &Room) -> Spot
+    requires { IsAccess access.now }
+    ensures value { spot_of result ≡ accessed room.now.first (frame_of room.now) values.now access.now }
+    ensures is { IsSpot result }
+{
+    match access {
+        Access::At(spot) => *spot,
+        Access::Own(n) => Spot::Visible(room.first as usize + *n as usize),
+        Access::Element(part, offset, address) => spot_in(
+            *part,
+            room.first,
+            u64::from(*offset) + fetched(address, values, room).unsigned_abs(),
+        ),
+    }
+}
+
+/// So many cells behind the one of this number, as 64 bits have it. Of nodes it fits 32 bits.
+fn number_behind(n: i64, i: i64, low: i64, stride: i64) -> i64
+    ensures { result ≡ int_wrap w64 ((i -ℤ low) *ℤ stride +ℤ n) }
+{
+    i.wrapping_sub(low).wrapping_mul(stride).wrapping_add(n)
+}
+
+/// The number of an element's cell.
+fn cell_number(
+    n: i64,
+    i: i64,
+    low: i64,
+    high: i64,
+    stride: i64,
+    place: Place,
+) -> Result<i64, Trap>
+    ensures { tried result ≡ cell_number n i low high stride place }
+{
+    if low <= i && i <= high {
+        Ok(number_behind(n, i, low, stride))
+    } else {
+        Err(Trap {
+            kind: TrapKind::Index,
+            place,
+        })
+    }
+}
+
+/// What an operation leaves, by the values that are there.
+fn done(deed: &Deed, values: &[i64], room: &Room) -> Result<i64, Trap>
+    requires { HasSpot deed.now }
+    ensures { tried result ≡ done room.now.first (frame_of room.now) values.now deed.now }
+{
+    match deed {
+        Deed::Read(access, place) => read(room, accessed(access, values, room), *place),
+        Deed::One { op, ty, arg } => Ok(one(*op, *ty, fetched(arg, values, room))),
+        Deed::Two {
             op,
             ty,
             place,
@@ -33,31 +97,30 @@ fn node_value(node: &Node, values: &[i64], room: &Room) -> Result<i64, Trap>
             *op,
             *ty,
             *place,
-            values[*left as usize],
-            values[*right as usize],
+            fetched(left, values, room),
+            fetched(right, values, room),
         ),
-        Node::Three {
+        Deed::Three {
             op,
             first,
             second,
             third,
         } => Ok(three(
             *op,
-            values[*first as usize],
-            values[*second as usize],
-            values[*third as usize],
+            fetched(first, values, room),
+            fetched(second, values, room),
+            fetched(third, values, room),
         )),
-        Node::Element {
+        Deed::Element {
             from,
             index,
             low,
             high,
             stride,
-            most: _,
             place,
-        } => element_number(
-            values[*from as usize],
-            values[*index as usize],
+        } => cell_number(
+            fetched(from, values, room),
+            fetched(index, values, room),
             *low,
             *high,
             *stride,
@@ -66,46 +129,23 @@ fn node_value(node: &Node, values: &[i64], room: &Room) -> Result<i64, Trap>
     }
 }
 
-/// So many cells lie between two elements.
-fn cells_between(low: i64, i: i64, stride: u32) -> u64
-    requires { span low i stride < 2 ^ 33 }
-    ensures { result ≡ span low i stride }
+/// Puts a value under a number, if there is room for it.
+fn put(values: &mut [i64], n: usize, v: i64)
+    ensures { values.new ≡ slice_set values.old n v }
 {
-    i.abs_diff(low) * u64::from(stride)
-}
-
-/// The number of an element's cell.
-fn element_number(
-    n: i64,
-    i: i64,
-    low: i64,
-    high: i64,
-    stride: u32,
-    place: Place,
-) -> Result<i64, Trap>
-    requires low { pos 0 ≤ℤ n }
-    requires most { (n +ℤ pos (span low high stride)) ≤ℤ pos (2 ^ 32) }
-    ensures { tried result ≡ element_number n i low high stride place }
-{
-    if low <= i && i <= high {
-        Ok(n + cells_between(low, i, stride) as i64)
-    } else {
-        Err(Trap {
-            kind: TrapKind::Index,
-            place,
-        })
+    if n < values.len() {
+        values[n] = v;
     }
 }
 
-/// Runs nodes in a frame: their values stand first in `values` then, unless there is a trap.
-pub(crate) fn run(nodes: &[Node], room: &Room, values: &mut [i64]) -> Result<(), Trap>
-    requires nodes { AreNodes nodes.now }
-    requires space { length nodes.now ≤ length values.old }
-    ensures { left_by result (length nodes.now) values.new ≡ run room.now.first (frame_of room.now) nodes.now [] }
+/// Runs operations in a frame. Where one traps, no clause says what is left in `values`.
+pub(crate) fn run(ops: &[Op], room: &Room, values: &mut [i64]) -> Result<(), Trap>
+    requires { AreOps ops.now }
+    ensures same { left_in result values.new ≡ run_ops room.now.first (frame_of room.now) ops.now values.old }
 {
-    for (k, node) in nodes.iter().enumerate() {
-        match node_value(node, &values[..k], room) {
-            Ok(v) => values[k] = v,
+    for op in ops {
+        match done(&op.deed, values, room) {
+            Ok(v) => put(values, op.to, v),
             Err(trap) => return Err(trap),
         }
     }
