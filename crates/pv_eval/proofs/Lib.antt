@@ -1,5 +1,6 @@
 pub mod ForCallers
 pub mod OperatorLaws
+pub mod BitWays
 pub mod RunLaws
 pub mod Makings
 pub mod Writing

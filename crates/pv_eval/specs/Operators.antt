@@ -1,5 +1,5 @@
 -- What is made of values, by the definitions of operators and functions.
-use Rattle.std.specs.Prelude.{ℤ, pos, neg_ℤ, ◌+ℤ◌, ◌-ℤ◌, ◌*ℤ◌, unsigned_abs, int_lt, int_le, not, if◌then◌else◌}
+use Rattle.std.specs.Prelude.{ℤ, pos, neg_ℤ, ◌+ℤ◌, ◌-ℤ◌, ◌*ℤ◌, ◌≤ℤ◌, unsigned_abs, int_lt, int_le, not, if◌then◌else◌}
 use Rattle.std.specs.Ordering.{int_eq}
 use Rattle.pv_word.specs.declared.types.Ty.{Ty}
 use Rattle.pv_word.specs.Types.{wrap_of, and_of, or_of, xor_of, not_of, shl_of, shr_of}
@@ -13,6 +13,11 @@ use Rattle.pv_eval.specs.declared.node.TwoOp.{TwoOp}
 use Rattle.pv_eval.specs.declared.node.TwoOp.TheVariants.{Mul, Div, Mod, Add, Sub, Less, Greater, LessEqual, GreaterEqual, Equal, NotEqual, And, Xor, Or, Min, Max, Shl, Shr}
 use Rattle.pv_eval.specs.declared.node.ThreeOp.{ThreeOp}
 use Rattle.pv_eval.specs.declared.node.ThreeOp.TheVariants.{Limit, Sel}
+
+-- 0 or 1
+pub record IsBit (a : ℤ) : Type 0 where
+  pub from : pos 0 ≤ℤ a
+  pub to : a ≤ℤ pos 1
 
 abbrev pub one_result : OneOp → Ty → ℤ → ℤ
 one_result Minus ty a = wrap_of ty (neg_ℤ a)

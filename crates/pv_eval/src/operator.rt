@@ -4,7 +4,8 @@ ghost use Rattle.std.specs.Prelude.{◌≡◌, ◌≢◌, ◌<◌, ◌≤◌, �
 ghost use Rattle.pv_word.specs.Types.{width_of, InRange, wrap_of, pattern_of, and_of, or_of, xor_of, not_of, shl_of, shr_of};
 ghost use Rattle.pv_word.specs.Division.{quotient, remainder};
 ghost use Rattle.pv_mean.specs.Values.{number_of, divided, lesser, greater};
-ghost use Rattle.pv_eval.specs.Operators.{one_result, two_result, three_result};
+ghost use Rattle.pv_word.specs.declared.types.Ty.TheVariants.{Bool};
+ghost use Rattle.pv_eval.specs.Operators.{IsBit, one_result, two_result, three_result};
 ghost use Rattle.pv_eval.specs.Traps.{tried};
 
 use crate::node::{OneOp, ThreeOp, TwoOp};
@@ -142,16 +143,52 @@ pub(crate) fn packed(ty: Ty, n: u64) -> i64
     kept(ty, n as i64)
 }
 
-fn and(ty: Ty, a: i64, b: i64) -> i64
+/// Whether the number is 0 or 1. On these what works bit by bit needs no look at the type.
+fn is_bit(a: i64) -> bool
+    ensures { IsTrue result → IsBit a }
+{
+    0 <= a && a <= 1
+}
+
+fn is_bool(ty: Ty) -> bool
+    ensures { IsTrue result → ty ≡ Bool }
+{
+    match ty {
+        Ty::Bool => true,
+        Ty::Byte | Ty::Word | Ty::Dword | Ty::Int | Ty::Dint | Ty::Time => false,
+    }
+}
+
+fn and_wide(ty: Ty, a: i64, b: i64) -> i64
     ensures { result ≡ and_of ty a b }
 {
     packed(ty, pattern(ty, a) & pattern(ty, b))
 }
 
-fn or(ty: Ty, a: i64, b: i64) -> i64
+fn and(ty: Ty, a: i64, b: i64) -> i64
+    ensures { result ≡ and_of ty a b }
+{
+    if is_bit(a) && is_bit(b) {
+        lesser(a, b)
+    } else {
+        and_wide(ty, a, b)
+    }
+}
+
+fn or_wide(ty: Ty, a: i64, b: i64) -> i64
     ensures { result ≡ or_of ty a b }
 {
     packed(ty, pattern(ty, a) | pattern(ty, b))
+}
+
+fn or(ty: Ty, a: i64, b: i64) -> i64
+    ensures { result ≡ or_of ty a b }
+{
+    if is_bit(a) && is_bit(b) {
+        greater(a, b)
+    } else {
+        or_wide(ty, a, b)
+    }
 }
 
 fn xor(ty: Ty, a: i64, b: i64) -> i64
@@ -160,10 +197,20 @@ fn xor(ty: Ty, a: i64, b: i64) -> i64
     packed(ty, pattern(ty, a) ^ pattern(ty, b))
 }
 
-fn not(ty: Ty, a: i64) -> i64
+fn not_wide(ty: Ty, a: i64) -> i64
     ensures { result ≡ not_of ty a }
 {
     packed(ty, modulus(ty) - (pattern(ty, a) + 1))
+}
+
+fn not(ty: Ty, a: i64) -> i64
+    ensures { result ≡ not_of ty a }
+{
+    if is_bool(ty) && is_bit(a) {
+        1 - a
+    } else {
+        not_wide(ty, a)
+    }
 }
 
 fn shl(ty: Ty, a: i64, n: u64) -> i64

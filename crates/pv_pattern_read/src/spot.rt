@@ -8,7 +8,8 @@ ghost use Rattle.pv_mean.specs.Endings.{got};
 ghost use Rattle.pv_mean.specs.Spots as m;
 ghost use Rattle.pv_mean.specs.Values.{locate};
 ghost use Rattle.pv_eval.specs.Operands as operands;
-ghost use Rattle.pv_eval.specs.Means.{Names, activation};
+ghost use Rattle.pv_eval.specs.Means.{activation};
+ghost use Rattle.pv_eval.specs.Ready.{Locates};
 ghost use Rattle.pv_resolve.specs.Contexts.{IsContext, block_in};
 ghost use Rattle.pv_pattern.specs.Reads.{bare, IsFixedOperand, IsFixedStep};
 ghost use Rattle.pv_pattern.specs.Terms.{IsTermOf};
@@ -48,7 +49,7 @@ fn is_fixed(operand: &Operand) -> bool
 /// The spot that a target names where no cell has a value.
 fn located(alloc: Global, target: &Target) -> Result<Spot, TermFault>
     ensures { (source : Source) (block : BlockTree) (o : OperandTree)
-        → Names source block [] target.now.nodes.items target.now.operand o
+        → Locates source block target.now o
         → IfOk result (λ spot. locate source (activation block 0) bare o ≡ got (operands.spot_of spot)) }
 {
     let mut values = vec![in alloc; 0; target.len()]?;

@@ -139,7 +139,7 @@ fn make_room(program: &mut Program, count: usize)
 pub(crate) fn push_value(program: &mut Program, value: Expression) -> Result<u32, ResolveFault>
     ensures grows { OnOk result (Extends program.old program.new) }
     ensures at { IfOk result (λ n. slice_get program.new.values.items n ≡ Some value) }
-    ensures fits { OnOk result (length value.nodes.items ≤ program.new.scratch) }
+    ensures fits { OnOk result (value.count ≤ program.new.scratch) }
 {
     make_room(program, value.len());
     let n = number(program.values.len())?;
@@ -151,7 +151,7 @@ pub(crate) fn push_value(program: &mut Program, value: Expression) -> Result<u32
 pub(crate) fn push_target(program: &mut Program, target: Target) -> Result<u32, ResolveFault>
     ensures grows { OnOk result (Extends program.old program.new) }
     ensures at { IfOk result (λ n. slice_get program.new.targets.items n ≡ Some target) }
-    ensures fits { OnOk result (length target.nodes.items ≤ program.new.scratch) }
+    ensures fits { OnOk result (target.count ≤ program.new.scratch) }
 {
     make_room(program, target.len());
     let n = number(program.targets.len())?;

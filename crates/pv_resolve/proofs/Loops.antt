@@ -166,14 +166,10 @@ walked_all c old new w named o items i same past h spot source is =
 
 -- ---- alone
 
-pub expression_made : (source : Source) (block : BlockTree) (old new made : List Node) (n m : ℕ) (e : ExprTree) → old ≡ [] → made ≡ new → m ≡ n
-    → Means source block old new n e → Means source block [] made m e
-expression_made source block old new made n m e none same number means =
-    subst (λ o. Means source block o made m e) none
-    (subst (λ ns. Means source block old ns m e) (sym same) (subst (λ k. Means source block old new k e) (sym number) means))
+pub expression_alone : (source : Source) (block : BlockTree) (old new made : List Node) (n : ℕ) (e : ExprTree) → old ≡ [] → made ≡ new → Means source block old new n e → Means source block [] made n e
+expression_alone source block old new made n e none same means =
+    subst (λ o. Means source block o made n e) none (subst (λ ns. Means source block old ns n e) (sym same) means)
 
-pub target_made : (source : Source) (block : BlockTree) (old new made : List Node) (o p : operand.Operand) (named : OperandTree) → old ≡ []
-    → made ≡ new → p ≡ o → Names source block old new o named → Names source block [] made p named
-target_made source block old new made o p named none same at names =
-    subst (λ x. Names source block x made p named) none
-    (subst (λ ns. Names source block old ns p named) (sym same) (subst (λ k. Names source block old new k named) (sym at) names))
+pub target_alone : (source : Source) (block : BlockTree) (old new made : List Node) (o : operand.Operand) (named : OperandTree) → old ≡ [] → made ≡ new → Names source block old new o named → Names source block [] made o named
+target_alone source block old new made o named none same names =
+    subst (λ x. Names source block x made o named) none (subst (λ ns. Names source block old ns o named) (sym same) names)

@@ -1,8 +1,8 @@
 //! Expressions and targets of a block, ready to be evaluated and located.
-ghost use Rattle.std.specs.Prelude.{[], IfOk};
+ghost use Rattle.std.specs.Prelude.{IfOk};
 ghost use Rattle.pv_tree.specs.View.{expr_tree, operand_tree};
 ghost use Rattle.pv_mean.specs.Sources.{Source};
-ghost use Rattle.pv_eval.specs.Means.{Means, Names};
+ghost use Rattle.pv_eval.specs.Ready.{Evaluates, Locates};
 ghost use Rattle.pv_resolve.specs.Contexts.{IsContext, block_in};
 
 use crate::context::Context;
@@ -15,22 +15,22 @@ impl<'p> Context<'p> {
     /// An expression of the block.
     pub fn expression(&self, alloc: Global, e: &Expr) -> Result<Expression, ResolveFault>
         ensures { (source : Source) → IsContext self.now source
-            → IfOk result (λ x. Means source (block_in self.now) [] x.nodes.items x.result
-            (expr_tree e.now)) }
+            → IfOk result (λ x. Evaluates source (block_in self.now) x (expr_tree e.now)) }
     {
         let mut nodes = Vec::new(alloc);
         let n = self.expr(alloc, &mut nodes, e)?;
-        Ok(Expression::of(nodes, n))
+        let expression = Expression::of(alloc, nodes.as_slice(), n)?;
+        Ok(expression)
     }
 
     /// An operand of the block, to be assigned.
     pub fn target(&self, alloc: Global, operand: &Operand) -> Result<Target, ResolveFault>
         ensures { (source : Source) → IsContext self.now source
-            → IfOk result (λ t. Names source (block_in self.now) [] t.nodes.items t.operand
-            (operand_tree operand.now)) }
+            → IfOk result (λ t. Locates source (block_in self.now) t (operand_tree operand.now)) }
     {
         let mut nodes = Vec::new(alloc);
         let at = self.operand(alloc, &mut nodes, operand)?;
-        Ok(Target::of(nodes, at))
+        let target = Target::of(alloc, nodes.as_slice(), at)?;
+        Ok(target)
     }
 }

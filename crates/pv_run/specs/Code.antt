@@ -16,7 +16,8 @@ use Rattle.pv_mean.specs.Calls.{instance_first}
 use Rattle.pv_mean.specs.Instructions.{site_of}
 use Rattle.pv_eval.specs.declared.expression.Expression.{Expression}
 use Rattle.pv_eval.specs.declared.target.Target.{Target}
-use Rattle.pv_eval.specs.Means.{Means, Names, activation}
+use Rattle.pv_eval.specs.Means.{activation}
+use Rattle.pv_eval.specs.Ready.{Evaluates, Locates}
 use Rattle.pv_eval.specs.Writes.{TypesOf}
 use Rattle.pv_stl_run.specs.declared.instr.Instr.{Instr}
 use Rattle.pv_stl_run.specs.declared.instr.Deed.TheVariants as deed
@@ -54,15 +55,15 @@ pub record IsValue (source : Source) (block : BlockTree) (p : Program) (n : ℕ)
     (e : ExprTree) : Type 0 where
   pub expression : Expression
   pub at : slice_get p.values.items n ≡ Some expression
-  pub fits : length expression.nodes.items ≤ p.scratch
-  pub means : Means source block [] expression.nodes.items expression.result e
+  pub fits : expression.count ≤ p.scratch
+  pub means : Evaluates source block expression e
 
 pub record IsTarget (source : Source) (block : BlockTree) (p : Program) (n : ℕ)
     (o : OperandTree) : Type 0 where
   pub target : Target
   pub at : slice_get p.targets.items n ≡ Some target
-  pub fits : length target.nodes.items ≤ p.scratch
-  pub names : Names source block [] target.nodes.items target.operand o
+  pub fits : target.count ≤ p.scratch
+  pub locates : Locates source block target o
 
 -- ---- the values of a CASE's branches
 

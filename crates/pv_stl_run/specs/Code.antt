@@ -11,7 +11,8 @@ use Rattle.pv_mean.specs.Instructions as m
 use Rattle.pv_mean.specs.Instructions.{Effect, onward, left, effect, on_registers, type_behind, where_true, jump, jump_by_result, jump_by_codes, jump_by_overflow, loop_jump, by_result}
 use Rattle.pv_eval.specs.declared.target.Target.{Target}
 use Rattle.pv_eval.specs.declared.trap.Trap.{Trap}
-use Rattle.pv_eval.specs.Means.{Names, activation}
+use Rattle.pv_eval.specs.Means.{activation}
+use Rattle.pv_eval.specs.Ready.{Locates}
 use Rattle.pv_stl_run.specs.declared.instr.Change.{Change}
 use Rattle.pv_stl_run.specs.declared.instr.Change.TheVariants.{Open, Close}
 use Rattle.pv_stl_run.specs.declared.instr.Written.{Written}
@@ -33,8 +34,8 @@ pub record IsTarget (source : Source) (block : BlockTree) (targets : List Target
     (o : OperandTree) : Type 0 where
   pub target : Target
   pub at : slice_get targets n ≡ Some target
-  pub fits : length target.nodes.items ≤ room
-  pub names : Names source block [] target.nodes.items target.operand o
+  pub fits : target.count ≤ room
+  pub locates : Locates source block target o
 
 -- the instruction's row of the table, in each activation of the block
 abbrev pub HasRow : Source → BlockTree → InstrTree → (Activation → Effect) → Type 0

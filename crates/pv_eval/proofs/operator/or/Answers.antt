@@ -1,18 +1,15 @@
-use Rattle.std.proofs.Common.{◌≡◌, ◌∙◌, ap, arith, pos}
-use Rattle.std.specs.Prelude.{bit_or}
+use Rattle.std.proofs.Common.{refl, ◌≡◌, ◌∙◌, ap, subst, to_z, of_z}
 use Rattle.std.specs.Int.{w64}
 use Rattle.std.proofs.lemmas.Int.{to_z-of_z}
-use Rattle.std.proofs.lemmas.Nat.{or_of_32}
-use Rattle.pv_word.specs.Types.{pattern_of, wrap_of}
+use Rattle.pv_mean.specs.Values.{greater}
+use Rattle.pv_eval.specs.Operators.{IsBit}
+use Rattle.pv_eval.proofs.BitWays.{or_bits}
 use Rattle.pv_eval.proofs.operator.or.Goals as goal
 
-pub packed-requires : goal.packed-requires
-packed-requires c = omega (arith, or_of_32 c.pattern.result c.pattern-2.result c.pattern.ensures.short c.pattern-2.ensures.short)
-
-pub returns : goal.returns
-returns c =
-    let p : c.pattern.result ≡ pattern_of c.args.ty c.args.a = c.pattern.ensures.value ∙ ap (pattern_of c.args.ty) (to_z-of_z w64 c.args.a c.ranges.a) in
-    let q : c.pattern-2.result ≡ pattern_of c.args.ty c.args.b = c.pattern-2.ensures.value ∙ ap (pattern_of c.args.ty) (to_z-of_z w64 c.args.b c.ranges.b) in
-    to_z-of_z w64 c.packed.result (record { sfits = c.packed.type_inv }) ∙ c.packed.ensures
-    ∙ ap (λ m. wrap_of c.args.ty (pos (bit_or m c.pattern-2.result))) p
-    ∙ ap (λ m. wrap_of c.args.ty (pos (bit_or (pattern_of c.args.ty c.args.a) m))) q
+pub returns-then-is_bit-2 : goal.returns-then-is_bit-2
+returns-then-is_bit-2 c =
+    let a = to_z-of_z w64 c.args.a c.ranges.a in
+    let b = to_z-of_z w64 c.args.b c.ranges.b in
+    to_z-of_z w64 c.greater.result (record { sfits = c.greater.type_inv }) ∙ c.greater.ensures
+    ∙ ap (λ x. greater x (to_z w64 (of_z w64 c.args.b))) a ∙ ap (greater c.args.a) b
+    ∙ or_bits c.args.ty c.args.a c.args.b (subst IsBit a (c.if-is_bit.ensures refl)) (subst IsBit b (c.if-is_bit-2.ensures refl))

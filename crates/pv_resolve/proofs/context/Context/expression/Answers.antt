@@ -3,7 +3,7 @@ use Rattle.pv_tree.specs.View.{expr_tree}
 use Rattle.pv_eval.specs.Order.{AreNodes}
 use Rattle.pv_resolve.specs.Contexts.{block_in}
 use Rattle.pv_resolve.proofs.Ordered.{no_nodes}
-use Rattle.pv_resolve.proofs.Loops.{expression_made}
+use Rattle.pv_resolve.proofs.Loops.{expression_alone}
 use Rattle.pv_resolve.proofs.context.Context.expression.Goals as goal
 
 pub expr-requires : goal.expr-requires
@@ -11,6 +11,5 @@ expr-requires c =
     subst AreNodes (sym c.new-nodes.ensures.items) no_nodes
 
 pub returns : goal.returns
-returns c =
-    λ source is. expression_made source (block_in c.args.self.now) _ _ _ _ _ (expr_tree c.args.e.now) c.new-nodes.ensures.items c.of.ensures.nodes
-    c.of.ensures.at (c.in_ok-n.ensures.means source is)
+returns c = λ source is. c.in_ok-expression.ensures.evaluates source (block_in c.args.self.now) (expr_tree c.args.e.now)
+    (expression_alone source (block_in c.args.self.now) _ _ _ _ (expr_tree c.args.e.now) c.new-nodes.ensures.items c.as_slice.ensures.value (c.in_ok-n.ensures.means source is))
