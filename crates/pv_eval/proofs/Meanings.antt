@@ -1,10 +1,13 @@
 -- What a run of an expression's operations gives, and one of an operand's.
-use Rattle.std.proofs.Common.{◌≡◌, ℕ, ◌+◌, ◌<◌, ◌≤◌, ℤ, List, [], length, Some, refl, sym, ap, arith, ◌∙◌}
-use Rattle.std.specs.Prelude.{unsigned_abs, slice_get}
+use Rattle.std.proofs.Common.{◌≡◌, ℕ, ◌+◌, ◌<◌, ◌≤◌, ℤ, List, [], ◌∷◌, length, Some, refl, sym, ap, arith, ◌∙◌}
+use Rattle.std.proofs.lemmas.Bool.{eqb-true}
+use Rattle.std.proofs.lemmas.List.{length-replicate}
+use Rattle.std.specs.Prelude.{unsigned_abs, pos, replicate, Option, None, IfSome, ◌==◌, true}
 use Rattle.pv_tree.specs.Tree.{ExprTree, OperandTree, BlockTree}
 use Rattle.pv_mean.specs.Sources.{Source}
 use Rattle.pv_mean.specs.Frames.{Frame}
-use Rattle.pv_mean.specs.Endings.{got, and_then}
+use Rattle.pv_mean.specs.Endings.{Tried, got, and_then}
+use Rattle.pv_mean.specs.Spots.{Spot, visible}
 use Rattle.pv_mean.specs.Values.{value, locate}
 use Rattle.pv_eval.specs.declared.node.Node.{Node}
 use Rattle.pv_eval.specs.declared.node.Operand.{Operand}
@@ -13,6 +16,8 @@ use Rattle.pv_eval.specs.Operands.{at, spot_in, spot_at, IsOperand}
 use Rattle.pv_eval.specs.Nodes.{run}
 use Rattle.pv_eval.specs.Order.{AreNodes, AreWithin}
 use Rattle.pv_eval.specs.Means.{Means, Names, activation}
+use Rattle.pv_eval.specs.declared.target.Target.{Target}
+use Rattle.pv_eval.specs.Ready.{Locates}
 use Rattle.pv_eval.specs.Ops.{fetched, accessed, run_ops}
 use Rattle.pv_eval.specs.Lowered.{arg_of, access_of, ops_of}
 use Rattle.pv_eval.specs.declared.op.Arg.{Arg}
@@ -55,3 +60,19 @@ locates source block nodes o named ops a order within are is m first frame value
     ap (λ os. and_then (run_ops first frame os values) (λ us. got (accessed first frame us a))) are
     ∙ ap (λ b. and_then (run_ops first frame (ops_of nodes 0 nodes) values) (λ us. got (accessed first frame us b))) is
     ∙ located source block nodes order first frame o named values within enough m
+
+-- what no index has a say in
+pub at_cell : (source : Source) (block : BlockTree) (t : Target) (o : OperandTree) (first n : ℕ) → t.ops.items ≡ [] → ((frame : Frame) (values : List ℤ) → accessed first frame values t.access ≡ visible n) → Locates source block t o → (frame : Frame) → locate source (activation block first) frame o ≡ got (visible n)
+at_cell source block t o first n none is h frame =
+    let values = replicate t.count (pos 0) in
+    sym (h.same first frame values (omega (arith, length-replicate t.count (pos 0))))
+    ∙ ap (λ ops. and_then (run_ops first frame ops values) (λ us. got (accessed first frame us t.access))) none
+    ∙ ap (λ s. let u : Tried Spot = got s in u) (is frame values)
+
+pub if_cell : (source : Source) (block : BlockTree) (t : Target) (o : OperandTree) (first : ℕ) (r : Option ℕ) → t.ops.items ≡ [] → IfSome r (λ n. (frame : Frame) (values : List ℤ) → accessed first frame values t.access ≡ visible n) → Locates source block t o → IfSome r (λ n. (frame : Frame) → locate source (activation block first) frame o ≡ got (visible n))
+if_cell source block t o first None none h l = tt
+if_cell source block t o first (Some n) none h l = at_cell source block t o first n none h l
+
+pub no_ops : (ops items : List Op) → ops ≡ items → (length ops == 0) ≡ true → items ≡ []
+no_ops ops [] e h = refl
+no_ops ops (x ∷ xs) e h = absurd (omega (arith, ap length e, eqb-true (length ops) 0 h))

@@ -10,7 +10,7 @@ use crate::node::{Node, Operand, Spot};
 use crate::op::{Access, Op};
 use crate::room::Room;
 use crate::trap::Trap;
-use crate::value::{accessed, run};
+use crate::value::{accessed, cell_of, run};
 use std::alloc::{AllocError, Global};
 
 /// An operand: the operations of its indexes, what it is by their values, and how many values there must be room for.
@@ -24,7 +24,10 @@ pub struct Target {
 }
 
 impl Target {
-    ghost use Rattle.std.specs.Prelude.{◌≡◌, ◌≤◌, [], IfOk};
+    ghost use Rattle.std.specs.Prelude.{◌≡◌, ◌≤◌, [], IfOk, IfSome};
+    ghost use Rattle.pv_mean.specs.Frames.{Frame};
+    ghost use Rattle.pv_mean.specs.Endings.{got};
+    ghost use Rattle.pv_mean.specs.Spots.{visible};
     ghost use Rattle.pv_tree.specs.Tree.{OperandTree, BlockTree};
     ghost use Rattle.pv_mean.specs.Sources.{Source};
     ghost use Rattle.pv_mean.specs.Values.{locate};
@@ -56,6 +59,20 @@ impl Target {
         ensures { result ≡ self.now.count }
     {
         self.count
+    }
+
+    /// The visible cell that it names where no index has a say, in a block whose instance begins at the first one.
+    pub fn cell(&self, first: u32) -> Option<usize>
+        ensures { (source : Source) (block : BlockTree) (o : OperandTree)
+            → Locates source block self.now o
+            → IfSome result (λ n. (frame : Frame)
+            → locate source (activation block first) frame o ≡ got (visible n)) }
+    {
+        if self.ops.as_slice().is_empty() {
+            cell_of(&self.access, first)
+        } else {
+            None
+        }
     }
 
     /// The spot that it names in a block at work. What `values` holds doesn't matter.

@@ -1,5 +1,7 @@
 //! Operations at work: one after the other, each leaves its value.
-ghost use Rattle.std.specs.Prelude.{◌≡◌, ◌+ℤ◌, ◌-ℤ◌, ◌*ℤ◌, slice_set};
+ghost use Rattle.std.specs.Prelude.{◌≡◌, ℤ, List, ◌+ℤ◌, ◌-ℤ◌, ◌*ℤ◌, slice_set, IfSome};
+ghost use Rattle.pv_mean.specs.Frames.{Frame};
+ghost use Rattle.pv_mean.specs.Spots as m;
 ghost use Rattle.std.specs.Int.{w64, int_wrap};
 ghost use Rattle.pv_eval.specs.Rooms.{frame_of};
 ghost use Rattle.pv_eval.specs.Traps.{tried};
@@ -48,6 +50,19 @@ pub(crate) fn accessed(access: &Access, values: &[i64], room: &Room) -> Spot
             room.first,
             u64::from(*offset) + fetched(address, values, room).unsigned_abs(),
         ),
+    }
+}
+
+/// The visible cell that is read or assigned whatever the values are, if one is.
+pub(crate) fn cell_of(access: &Access, first: u32) -> Option<usize>
+    ensures { IfSome result (λ n. (frame : Frame) (values : List ℤ)
+        → accessed first frame values access.now ≡ m.visible n) }
+{
+    match access {
+        Access::At(Spot::Visible(n)) => Some(*n),
+        Access::At(_) => None,
+        Access::Own(n) => Some(first as usize + *n as usize),
+        Access::Element(..) => None,
     }
 }
 
