@@ -87,7 +87,7 @@ impl Program {
         Ok(Flow::Normal)
     }
 
-    /// Runs a statement, the one of this number.
+    /// Runs a statement, the one of this number. An assignment, of which there are most, takes no call of the great match.
     #[cycle(run)]
     fn run_stmt(
         &self,
@@ -104,12 +104,33 @@ impl Program {
         ensures { RunsStmt self.now k stmt.now at (frame_in visible.old own.old) result (frame_in visible.new own.new) }
     {
         match stmt {
-            Stmt::Assign { value, target } => match self.value(
-                *value, at.first, visible, own, scratch,
-            ) {
-                Ok(v) => self.store(*target, v, at.first, visible, own, scratch),
-                Err(stop) => Err(stop),
-            },
+            Stmt::Assign { value, target } => {
+                self.assign(*value, *target, at, visible, own, scratch)
+            }
+            _ => self.run_other(k, stmt, at, visible, own, below, turns, scratch),
+        }
+    }
+
+    /// Runs a statement, the one of this number, whatever it is.
+    #[cycle(run)]
+    fn run_other(
+        &self,
+        k: u32,
+        stmt: &Stmt,
+        at: At,
+        visible: &mut [i64],
+        own: &mut [Option<i64>],
+        below: &mut [Option<i64>],
+        turns: &mut [Turn],
+        scratch: &mut [i64],
+    ) -> Result<Flow, Stop>
+        requires { HasRoom self.now at (length below.old) (length turns.old) (length scratch.old) }
+        ensures { RunsStmt self.now k stmt.now at (frame_in visible.old own.old) result (frame_in visible.new own.new) }
+    {
+        match stmt {
+            Stmt::Assign { value, target } => {
+                self.assign(*value, *target, at, visible, own, scratch)
+            }
             Stmt::AssignCall {
                 call,
                 target,

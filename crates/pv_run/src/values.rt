@@ -1,8 +1,10 @@
 //! Values and targets of a program in a frame.
-ghost use Rattle.std.specs.Prelude.{◌≡◌, ◌≤◌, length, IfOk};
+ghost use Rattle.std.specs.Prelude.{◌≡◌, ◌≤◌, ℕ, length, IfOk, IfSome};
+ghost use Rattle.pv_mean.specs.Frames.{Frame};
+ghost use Rattle.pv_mean.specs.Spots as m;
 ghost use Rattle.pv_tree.specs.Tree.{ExprTree, OperandTree, BlockTree};
 ghost use Rattle.pv_mean.specs.Sources.{Source};
-ghost use Rattle.pv_mean.specs.Endings.{end_of};
+ghost use Rattle.pv_mean.specs.Endings.{got, end_of};
 ghost use Rattle.pv_mean.specs.Values.{value, locate};
 ghost use Rattle.pv_mean.specs.Statements.{store};
 ghost use Rattle.pv_eval.specs.Means.{activation};
@@ -10,9 +12,10 @@ ghost use Rattle.pv_eval.specs.Operands.{IsSpot};
 ghost use Rattle.pv_eval.specs.Writes.{TypesOf};
 ghost use Rattle.pv_run.specs.Code.{IsValue, IsTarget};
 ghost use Rattle.pv_run.specs.Ends.{value_of, spot_end, ending_of};
-ghost use Rattle.pv_run.specs.Runs.{frame_in, Tests};
+ghost use Rattle.pv_run.specs.Runs.{frame_in, Tests, RunsStmt};
+ghost use Rattle.pv_run.specs.declared.program.Stmt.TheVariants.{Assign};
 
-use crate::program::Program;
+use crate::program::{At, Program};
 use crate::stop::{Flow, Stop};
 use pv_eval::{Room, Spot, write_spot};
 
@@ -96,6 +99,18 @@ impl Program {
         }
     }
 
+    /// The visible cell that the target of this number is, if it is one whatever the cells hold.
+    fn cell(&self, n: u32, first: u32) -> Option<usize>
+        ensures { (source : Source) (block : BlockTree) (o : OperandTree) → IsTarget source block self.now n o
+            → IfSome result (λ cell. (frame : Frame)
+            → locate source (activation block first) frame o ≡ got (m.visible cell)) }
+    {
+        match self.targets.get(n as usize) {
+            Some(target) => target.cell(first),
+            None => None,
+        }
+    }
+
     /// A value goes to the target of this number.
     pub(crate) fn store(
         &self,
@@ -112,11 +127,35 @@ impl Program {
             → ending_of result (frame_in visible.new brief.new)
             ≡ store source (activation block first) o (frame_in visible.old brief.old) v }
     {
+        if let Some(cell) = self.cell(n, first) {
+            write_spot(self.types.as_slice(), visible, brief, Spot::Visible(cell), v);
+            return Ok(Flow::Normal);
+        }
         match self.locate(n, first, visible, brief, scratch) {
             Ok(spot) => {
                 write_spot(self.types.as_slice(), visible, brief, spot, v);
                 Ok(Flow::Normal)
             }
+            Err(stop) => Err(stop),
+        }
+    }
+
+    /// An assignment: the value of one number goes to the target of another.
+    pub(crate) fn assign(
+        &self,
+        value: u32,
+        target: u32,
+        at: At,
+        visible: &mut [i64],
+        own: &mut [Option<i64>],
+        scratch: &mut [i64],
+    ) -> Result<Flow, Stop>
+        requires { self.now.scratch ≤ length scratch.old }
+        ensures { (k : ℕ) → RunsStmt self.now k (Assign value target) at
+            (frame_in visible.old own.old) result (frame_in visible.new own.new) }
+    {
+        match self.value(value, at.first, visible, own, scratch) {
+            Ok(v) => self.store(target, v, at.first, visible, own, scratch),
             Err(stop) => Err(stop),
         }
     }

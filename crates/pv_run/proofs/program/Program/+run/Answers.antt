@@ -245,8 +245,8 @@ run_for-loop-turn-preserved t c =
     (body_of source c.args.at block trees) (c.args.self.now.bound - (c.loop-turn.turn + 1)) n stepped) (sym
     (to_z-of_z w128 c.in-Ok-step.next fits))
 
-pub run_stmt-returns-in-Ok-Some-arm_of : goal.run_stmt-returns-in-Ok-Some-arm_of
-run_stmt-returns-in-Ok-Some-arm_of t c =
+pub run_other-returns-in-Ok-Some-arm_of : goal.run_other-returns-in-Ok-Some-arm_of
+run_other-returns-in-Ok-Some-arm_of t c =
     λ source block tree program is.
     if_runs_arm (subst (λ x. IsStmt source block c.args.self.now c.args.k x tree) c.in-If.is is) (calls_within source c.args.at.calls)
     (activation block c.args.at.first) (frame_in c.args.visible.now c.args.own.now) c.in-Ok-Some-arm_of.body
@@ -256,8 +256,8 @@ run_stmt-returns-in-Ok-Some-arm_of t c =
     c.before-in-Ok-Some-arm_of.ensures.same
     (λ trees are. c.run_list.ensures source block trees program are)
 
-pub run_stmt-returns-in-Ok-None-arm_of : goal.run_stmt-returns-in-Ok-None-arm_of
-run_stmt-returns-in-Ok-None-arm_of t c =
+pub run_other-returns-in-Ok-None-arm_of : goal.run_other-returns-in-Ok-None-arm_of
+run_other-returns-in-Ok-None-arm_of t c =
     λ source block tree program is.
     if_runs_other (subst (λ x. IsStmt source block c.args.self.now c.args.k x tree) c.in-If.is is) (calls_within source c.args.at.calls)
     (activation block c.args.at.first) (frame_in c.args.visible.now c.args.own.now)
@@ -267,44 +267,44 @@ run_stmt-returns-in-Ok-None-arm_of t c =
     c.before-in-Ok-None-arm_of.ensures.same
     (λ trees are. c.run_list-in-Ok-None-arm_of.ensures source block trees program are)
 
-pub run_stmt-returns-in-Err-arm_of : goal.run_stmt-returns-in-Err-arm_of
-run_stmt-returns-in-Err-arm_of t c =
+pub run_other-returns-in-Err-arm_of : goal.run_other-returns-in-Err-arm_of
+run_other-returns-in-Err-arm_of t c =
     λ source block tree program is.
     if_stops (subst (λ x. IsStmt source block c.args.self.now c.args.k x tree) c.in-If.is is) (calls_within source c.args.at.calls)
     (activation block c.args.at.first) (frame_in c.args.visible.now c.args.own.now) c.in-Err-arm_of.stop
     (λ trees are. c.in-Err-arm_of.ensures source block c.args.k trees are)
 
-pub run_stmt-returns-in-Some : goal.run_stmt-returns-in-Some
-run_stmt-returns-in-Some t c =
+pub run_other-returns-in-Some : goal.run_other-returns-in-Some
+run_other-returns-in-Some t c =
     λ source block tree program is.
-    let fits : FitsSigned w64 c.in-Ok-value.v = search rules in
+    let fits : FitsSigned w64 c.in-Ok.v = search rules in
     case_runs_branch (subst (λ x. IsStmt source block c.args.self.now c.args.k x tree) c.in-Case.is is)
-    (calls_within source c.args.at.calls) (frame_in c.args.visible.now c.args.own.now) c.in-Ok-value.v c.in-Some.body
-    (λ e value. c.in-Ok-value.ensures source block e value) (λ trees are. subst (λ x. ChoosesBranch source block c.args.self.now c.args.k
+    (calls_within source c.args.at.calls) (frame_in c.args.visible.now c.args.own.now) c.in-Ok.v c.in-Some.body
+    (λ e value. c.in-Ok.ensures source block e value) (λ trees are. subst (λ x. ChoosesBranch source block c.args.self.now c.args.k
     (Some c.in-Some.body)
-    (branch_chosen (activation block c.args.at.first) x trees)) (to_z-of_z w64 c.in-Ok-value.v fits)
+    (branch_chosen (activation block c.args.at.first) x trees)) (to_z-of_z w64 c.in-Ok.v fits)
     (c.in-Some.ensures source block c.args.k c.args.at.first trees are)) _ c.before-in-Some.result c.before-in-Some.ensures.same
     (λ trees are. c.run_list-in-Some.ensures source block trees program are)
 
-pub run_stmt-returns-in-None : goal.run_stmt-returns-in-None
-run_stmt-returns-in-None t c =
+pub run_other-returns-in-None : goal.run_other-returns-in-None
+run_other-returns-in-None t c =
     λ source block tree program is.
-    let fits : FitsSigned w64 c.in-Ok-value.v = search rules in
+    let fits : FitsSigned w64 c.in-Ok.v = search rules in
     case_runs_other (subst (λ x. IsStmt source block c.args.self.now c.args.k x tree) c.in-Case.is is) (calls_within source c.args.at.calls)
-    (frame_in c.args.visible.now c.args.own.now) c.in-Ok-value.v
-    (λ e value. c.in-Ok-value.ensures source block e value) (λ trees are. subst (λ x. branch_chosen
-    (activation block c.args.at.first) x trees ≡ None) (to_z-of_z w64 c.in-Ok-value.v fits)
+    (frame_in c.args.visible.now c.args.own.now) c.in-Ok.v
+    (λ e value. c.in-Ok.ensures source block e value) (λ trees are. subst (λ x. branch_chosen
+    (activation block c.args.at.first) x trees ≡ None) (to_z-of_z w64 c.in-Ok.v fits)
     (c.in-None.ensures source block c.args.k c.args.at.first trees are)) _ c.before-in-None.result c.before-in-None.ensures.same
     (λ trees are. c.run_list-in-None.ensures source block trees program are)
 
-pub run_stmt-returns-in-Err-value : goal.run_stmt-returns-in-Err-value
-run_stmt-returns-in-Err-value t c =
+pub run_other-returns-in-Err-value : goal.run_other-returns-in-Err-value
+run_other-returns-in-Err-value t c =
     λ source block tree program is.
     case_stops (subst (λ x. IsStmt source block c.args.self.now c.args.k x tree) c.in-Case.is is) (calls_within source c.args.at.calls)
     (frame_in c.args.visible.now c.args.own.now) c.in-Err-value.stop (λ e value. c.in-Err-value.ensures source block e value)
 
-pub run_stmt-returns-in-Ok-begin : goal.run_stmt-returns-in-Ok-begin
-run_stmt-returns-in-Ok-begin t c =
+pub run_other-returns-in-Ok-begin : goal.run_other-returns-in-Ok-begin
+run_other-returns-in-Ok-begin t c =
     λ source block tree program is.
     for_runs (subst (λ x. IsStmt source block c.args.self.now c.args.k x tree) c.in-For.is is) (calls_within source c.args.at.calls)
     (frame_in c.args.visible.now c.args.own.now) (frame_in c.begin.new.visible c.begin.new.brief) c.in-Ok-begin.begun
@@ -312,35 +312,35 @@ run_stmt-returns-in-Ok-begin t c =
     c.before-in-Ok-begin.ensures.same
     (λ trees are. c.run_for.ensures source block trees program are)
 
-pub run_stmt-returns-in-Err-begin : goal.run_stmt-returns-in-Err-begin
-run_stmt-returns-in-Err-begin t c =
+pub run_other-returns-in-Err-begin : goal.run_other-returns-in-Err-begin
+run_other-returns-in-Err-begin t c =
     λ source block tree program is.
     for_unbegun (subst (λ x. IsStmt source block c.args.self.now c.args.k x tree) c.in-For.is is) (calls_within source c.args.at.calls)
     (frame_in c.args.visible.now c.args.own.now) c.in-Err-begin.stop
     (λ name at a b by counts. c.in-Err-begin.ensures.value source block name at a b by program.types counts)
 
-pub run_stmt-returns-in-While : goal.run_stmt-returns-in-While
-run_stmt-returns-in-While t c =
+pub run_other-returns-in-While : goal.run_other-returns-in-While
+run_other-returns-in-While t c =
     λ source block tree program is.
     while_runs (subst (λ x. IsStmt source block c.args.self.now c.args.k x tree) c.in-While.is is) (calls_within source c.args.at.calls)
     (activation block c.args.at.first) (frame_in c.args.visible.now c.args.own.now) _ c.before-in-While.result
     c.before-in-While.ensures.same
     (λ e trees value are. c.run_while.ensures source block e trees program value are)
 
-pub run_stmt-returns-in-Repeat : goal.run_stmt-returns-in-Repeat
-run_stmt-returns-in-Repeat t c =
+pub run_other-returns-in-Repeat : goal.run_other-returns-in-Repeat
+run_other-returns-in-Repeat t c =
     λ source block tree program is.
     repeat_runs (subst (λ x. IsStmt source block c.args.self.now c.args.k x tree) c.in-Repeat.is is) (calls_within source c.args.at.calls)
     (activation block c.args.at.first) (frame_in c.args.visible.now c.args.own.now) _ c.before-in-Repeat.result
     c.before-in-Repeat.ensures.same
     (λ e trees value are. c.run_repeat.ensures source block e trees program value are)
 
-pub run_stmt-returns-in-Err-run_call-2 : goal.run_stmt-returns-in-Err-run_call-2
-run_stmt-returns-in-Err-run_call-2 t c =
+pub run_other-returns-in-Err-run_call : goal.run_other-returns-in-Err-run_call
+run_other-returns-in-Err-run_call t c =
     λ source block tree program is.
     call_stops (subst (λ x. IsStmt source block c.args.self.now c.args.k x tree) c.in-Call.is is) (calls_within source c.args.at.calls)
-    (activation block c.args.at.first) (frame_in c.args.visible.now c.args.own.now) c.in-Err-run_call-2.stop
-    (λ site called. c.in-Err-run_call-2.ensures source block site program called)
+    (activation block c.args.at.first) (frame_in c.args.visible.now c.args.own.now) c.in-Err-run_call.stop
+    (λ site called. c.in-Err-run_call.ensures source block site program called)
 
 pub run_block-returns-in-Err : goal.run_block-returns-in-Err
 run_block-returns-in-Err t c =
@@ -355,7 +355,7 @@ run_block-run_body-requires t c =
     let back = c.split_at_mut-inner.ensures.back_len in
     let width = c.width.ensures.within in
     let most = c.requires.room.below in
-    let less : c.args.started.now.at.calls * 2 ^ 40 + 4 * statements_end c.args.started.now.code.body + 4 < t = omega
+    let less : c.args.started.now.at.calls * 2 ^ 40 + 8 * statements_end c.args.started.now.code.body + 4 < t = omega
     (arith, c.requires.calls, c.requires.short, c.decreases) in
     let turns = room_next c.args.started.now.at.calls c.args.at.calls c.args.self.now.ranges _ c.requires.calls c.requires.room.ranges in (
       less,
@@ -407,7 +407,7 @@ run_block-returns-in-Ok-hand_out t c =
 pub run_body-run_list-requires : goal.run_body-run_list-requires
 run_body-run_list-requires t c =
     let end : statements_end c.args.body ≡ c.in-Statements.list.end = ap statements_end c.in-Statements.is in
-    let less : c.args.at.calls * 2 ^ 40 + 4 * c.in-Statements.list.end < t = omega (arith, end, c.decreases) in
+    let less : c.args.at.calls * 2 ^ 40 + 8 * c.in-Statements.list.end < t = omega (arith, end, c.decreases) in
     (less, c.requires.room)
 
 pub run_body-returns-in-Ok : goal.run_body-returns-in-Ok

@@ -16,7 +16,7 @@ abbrev pub decreases-run_block : goal.decreases-run_block
 decreases-run_block l = l.at.calls * 2 ^ 40 + 1
 
 abbrev pub decreases-run_body : goal.decreases-run_body
-decreases-run_body l = l.at.calls * 2 ^ 40 + 4 * statements_end l.body + 4
+decreases-run_body l = l.at.calls * 2 ^ 40 + 8 * statements_end l.body + 4
 
 abbrev pub decreases-run_instrs : goal.decreases-run_instrs
 decreases-run_instrs l = l.at.calls * 2 ^ 40 + 3
@@ -25,19 +25,22 @@ abbrev pub decreases-run_call : goal.decreases-run_call
 decreases-run_call l = l.at.calls * 2 ^ 40 + 2
 
 abbrev pub decreases-run_for : goal.decreases-run_for
-decreases-run_for l = l.at.calls * 2 ^ 40 + 4 * l.body.end + 1
+decreases-run_for l = l.at.calls * 2 ^ 40 + 8 * l.body.end + 1
 
 abbrev pub decreases-run_list : goal.decreases-run_list
-decreases-run_list l = l.at.calls * 2 ^ 40 + 4 * l.list.end
+decreases-run_list l = l.at.calls * 2 ^ 40 + 8 * l.list.end
 
 abbrev pub decreases-run_repeat : goal.decreases-run_repeat
-decreases-run_repeat l = l.at.calls * 2 ^ 40 + 4 * l.body.end + 1
+decreases-run_repeat l = l.at.calls * 2 ^ 40 + 8 * l.body.end + 1
 
 abbrev pub decreases-run_stmt : goal.decreases-run_stmt
-decreases-run_stmt l = l.at.calls * 2 ^ 40 + 4 * l.k + 3
+decreases-run_stmt l = l.at.calls * 2 ^ 40 + 8 * l.k + 5
+
+abbrev pub decreases-run_other : goal.decreases-run_other
+decreases-run_other l = l.at.calls * 2 ^ 40 + 8 * l.k + 4
 
 abbrev pub decreases-run_while : goal.decreases-run_while
-decreases-run_while l = l.at.calls * 2 ^ 40 + 4 * l.body.end + 1
+decreases-run_while l = l.at.calls * 2 ^ 40 + 8 * l.body.end + 1
 
 -- the turns that are left, in the frame as it is now
 abbrev pub invariant-run_for-loop-turn : goal.invariant-run_for-loop-turn
