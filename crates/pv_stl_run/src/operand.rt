@@ -45,6 +45,9 @@ fn spot_of(
     let Some(target) = targets.get(n as usize) else {
         return Ok(Spot::Nowhere);
     };
+    if let Some(cell) = target.cell(first) {
+        return Ok(Spot::Visible(cell));
+    }
     if target.len() > scratch.len() {
         return Ok(Spot::Nowhere);
     }
