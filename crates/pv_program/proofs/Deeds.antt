@@ -30,7 +30,7 @@ use Rattle.pv_program.specs.Bodies.{LeadsSo, CallsSo, IsMadeDeed}
 
 pub taken-of : {source : Source} {block : BlockTree} {p : Program} {n : ℕ} {o : OperandTree} → IsTarget source block p n o
     → stl.IsTarget source block p.targets.items p.scratch n o
-taken-of t = record { target = t.target; at = t.at; fits = t.fits; names = t.names }
+taken-of t = record { target = t.target; at = t.at; fits = t.fits; locates = t.locates }
 
 pub joins-by : {source : Source} {block : BlockTree} {targets : List Target} {room n : ℕ} (i : InstrTree) (o : OperandTree) (j : Junction)
     → WordJoins i.op j → i.operand ≡ Some o → stl.IsTarget source block targets room n o → IsDeed source block targets room (deed.Join j n) i

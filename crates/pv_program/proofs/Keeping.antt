@@ -48,7 +48,7 @@ target-kept {n = n} x t = record {
   target = t.target;
   at = x.targets.at n t.target t.at;
   fits = omega (arith, t.fits, x.scratch);
-  names = t.names;
+  locates = t.locates;
 }
 
 pub choices-kept : {block : BlockTree} {p q : Program} {n m : ℕ} {cs : Choices} → Extends p q → AreChoices block p n m cs → AreChoices block q n m cs
@@ -182,7 +182,7 @@ taken-kept {n = n} x t = record {
   target = t.target;
   at = x.targets.at n t.target t.at;
   fits = omega (arith, t.fits, x.scratch);
-  names = t.names;
+  locates = t.locates;
 }
 
 pub deed-kept : {source : Source} {block : BlockTree} {p q : Program} {d : Deed} {i : InstrTree} → Extends p q
