@@ -49,8 +49,9 @@ one_reading at ty_text x y s t a b =
 
 one_name : (text : List ℕ) (x y : Name) → IsNamed text x → IsNamed text y → x ≡ y
 one_name text x y a b =
-    ap (λ (k : List ℕ). record { key = k; spelled = x.spelled }) (a.0 ∙ sym b.0)
-    ∙ ap (λ (k : List ℕ). record { key = y.key; spelled = k }) (a.1 ∙ sym b.1)
+    ap (λ (k : List ℕ). record { key = k; spelled = x.spelled; paired = x.paired }) (a.0 ∙ sym b.0)
+    ∙ ap (λ (k : List ℕ). record { key = y.key; spelled = k; paired = x.paired }) (a.1 ∙ sym b.1)
+    ∙ ap (λ (p : Bool). record { key = y.key; spelled = y.spelled; paired = p }) (a.2 ∙ sym b.2)
 
 one_symbol : (p : List ℕ × Data) (x y : SymbolData) → IsSymbolOf p x → IsSymbolOf p y → x ≡ y
 one_symbol p x y a b =

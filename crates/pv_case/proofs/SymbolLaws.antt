@@ -203,10 +203,10 @@ met_before earlier p key b is e off good =
 
 pub adds : (old new : Symbols) (p : Pair) (symbol : Symbol) (at ty_text key bytes : List ℕ) (b : Bool)
     → ReadsAs at ty_text (operand_tree symbol.at) symbol.ty → at ≡ text_in p.1 (codes "at") → ty_text ≡ text_in p.1 (codes "type")
-    → bytes ≡ p.0 → symbol.name.key ≡ str_to_ascii_lowercase bytes → symbol.name.spelled ≡ bytes → key ≡ symbol.name.key
+    → bytes ≡ p.0 → symbol.name.key ≡ str_to_ascii_lowercase bytes → symbol.name.spelled ≡ bytes → symbol.name.paired ≡ false → key ≡ symbol.name.key
     → b ≡ not (list_any (bytes_eq key) old.seen.keys) → b ≡ true → new.seen.keys ≡ insert_key bytes_eq old.seen.keys key
     → new.list.items ≡ old.list.items ++ symbol ∷ [] → Adds old new p
-adds old new p symbol at ty_text key bytes b reads is of named keyed spelled same e hit inserted pushed =
+adds old new p symbol at ty_text key bytes b reads is of named keyed spelled paired same e hit inserted pushed =
     let apart : list_any (bytes_eq key) old.seen.keys ≡ false = unmet (list_any (bytes_eq key) old.seen.keys) (sym e ∙ hit) in
     let its_key : key ≡ symbol_key p.0 = same ∙ keyed ∙ ap symbol_key named in
     let here = subst (λ (t : List ℕ). ReadsAs t (text_in p.1 (codes "type")) (operand_tree symbol.at) symbol.ty) is
@@ -219,7 +219,7 @@ adds old new p symbol at ty_text key bytes b reads is of named keyed spelled sam
         reads = here;
         apart = λ c. true≢false (sym (contains_any key old.seen.keys (subst (Contains old.seen.keys) (sym its_key) c)) ∙ apart);
       };
-      says = record { name = (keyed ∙ ap symbol_key named, spelled ∙ named); reads = here };
+      says = record { name = (keyed ∙ ap symbol_key named, spelled ∙ named, paired); reads = here };
       seen = inserted ∙ ap (λ (t : Bool). if t then old.seen.keys else old.seen.keys ++ key ∷ []) apart
           ∙ ap (λ (k : List ℕ). old.seen.keys ++ k ∷ []) its_key;
       pushed = pushed;

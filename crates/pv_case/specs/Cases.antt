@@ -69,7 +69,8 @@ bound_of p = (p.0, value_of p.1)
 
 -- a symbol's name, as a plain name
 abbrev pub IsNamed : List ℕ → Name → Type 0
-IsNamed text name = (name.key ≡ symbol_key text) × (name.spelled ≡ text)
+IsNamed text name =
+    (name.key ≡ symbol_key text) × (name.spelled ≡ text) × (name.paired ≡ false)
 
 pub record IsSymbolOf (p : List ℕ × Data) (symbol : SymbolData) : Type 0 where
   pub name : IsNamed p.0 symbol.name

@@ -51,16 +51,6 @@ place_same a b h =
 place_self : (a : Place) → IsTrue (same_place a a)
 place_self a = on_both (nat_eq a.file a.file) (nat_eq a.offset a.offset) (nat_self a.file) (nat_self a.offset)
 
-name_same : (a b : Name) → IsTrue (same_name a b) → a ≡ b
-name_same a b h =
-    let k = both_on (bytes_eq a.key b.key) (bytes_eq a.spelled b.spelled) h in
-    ap (λ y. record { key = y; spelled = a.spelled }) ((bytes_eq-Decides a.key b.key).0 k.0)
-    ∙ ap (λ s. record { key = b.key; spelled = s }) ((bytes_eq-Decides a.spelled b.spelled).0 k.1)
-
-name_self : (a : Name) → IsTrue (same_name a a)
-name_self a =
-    on_both (bytes_eq a.key a.key) (bytes_eq a.spelled a.spelled) ((bytes_eq-Decides a.key a.key).1 refl) ((bytes_eq-Decides a.spelled a.spelled).1 refl)
-
 truth_same : (a b : Bool) → IsTrue (same_truth a b) → a ≡ b
 truth_same true true h = refl
 truth_same true false h = absurd (true≢false (sym h))
@@ -70,6 +60,20 @@ truth_same false false h = refl
 truth_self : (a : Bool) → IsTrue (same_truth a a)
 truth_self true = refl
 truth_self false = refl
+
+name_same : (a b : Name) → IsTrue (same_name a b) → a ≡ b
+name_same a b h =
+    let k = both_on (bytes_eq a.key b.key && bytes_eq a.spelled b.spelled) (same_truth a.paired b.paired) h in
+    let m = both_on (bytes_eq a.key b.key) (bytes_eq a.spelled b.spelled) k.0 in
+    ap (λ y. record { key = y; spelled = a.spelled; paired = a.paired }) ((bytes_eq-Decides a.key b.key).0 m.0)
+    ∙ ap (λ s. record { key = b.key; spelled = s; paired = a.paired }) ((bytes_eq-Decides a.spelled b.spelled).0 m.1)
+    ∙ ap (λ t. record { key = b.key; spelled = b.spelled; paired = t }) (truth_same a.paired b.paired k.1)
+
+name_self : (a : Name) → IsTrue (same_name a a)
+name_self a =
+    on_both (bytes_eq a.key a.key && bytes_eq a.spelled a.spelled) (same_truth a.paired a.paired)
+    (on_both (bytes_eq a.key a.key) (bytes_eq a.spelled a.spelled) ((bytes_eq-Decides a.key a.key).1 refl) ((bytes_eq-Decides a.spelled a.spelled).1 refl))
+    (truth_self a.paired)
 
 root_same : (a b : Root) → IsTrue (same_root a b) → a ≡ b
 root_same (Local a hash at) (Local b hashed place) h =

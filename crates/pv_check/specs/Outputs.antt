@@ -14,11 +14,12 @@ use Rattle.pv_tree.specs.Rules.Callable.{is_output_where}
 abbrev pub same_place : Place → Place → Truth
 same_place a b = nat_eq a.file b.file && nat_eq a.offset b.offset
 
-abbrev pub same_name : Name → Name → Truth
-same_name a b = bytes_eq a.key b.key && bytes_eq a.spelled b.spelled
-
 abbrev pub same_truth : Truth → Truth → Truth
 same_truth a b = if a then b else not b
+
+abbrev pub same_name : Name → Name → Truth
+same_name a b =
+    bytes_eq a.key b.key && bytes_eq a.spelled b.spelled && same_truth a.paired b.paired
 
 abbrev pub same_root : Root → Root → Truth
 same_root (Local a hash at) (Local b hashed place) =

@@ -23,18 +23,18 @@ fn same_place(a: Place, b: Place) -> bool
     a.file == b.file && a.offset == b.offset
 }
 
-/// Whether two names are written the same.
-fn same_name(a: &Name, b: &Name) -> bool
-    ensures { result ≡ same_name a.now b.now }
-{
-    a.key == b.key && a.spelled == b.spelled
-}
-
 /// Whether both are so, or neither.
 fn same_truth(a: bool, b: bool) -> bool
     ensures { result ≡ same_truth a b }
 {
     if a { b } else { !b }
+}
+
+/// Whether two names are written the same.
+fn same_name(a: &Name, b: &Name) -> bool
+    ensures { result ≡ same_name a.now b.now }
+{
+    a.key == b.key && a.spelled == b.spelled && same_truth(a.paired, b.paired)
 }
 
 /// Whether two operands begin with the same name at the same place.

@@ -17,7 +17,7 @@ use Rattle.pv_tree.specs.declared.expr.Root.{Root}
 use Rattle.pv_tree.specs.declared.expr.Root.TheVariants.{Local, Named, Area as InArea}
 use Rattle.pv_tree.specs.Tree.{ExprTree, lit, read, unary, binary, std, paren, operand, no_steps, steps}
 use Rattle.pv_tree.specs.Lexemes.{Lexeme, lexeme_of, lexemes_of}
-use Rattle.pv_tree.specs.Words.{IsQuoted, IsNumbered, IsNumberedPair, IsFree, is_reserved, begins_quoted, plain_name, quoted_name, SpellsWord, SpellsFirm, SpellsName}
+use Rattle.pv_tree.specs.Words.{IsQuoted, IsNumbered, IsNumberedPair, IsFree, is_reserved, begins_quoted, plain_name, pair_name, quoted_name, SpellsWord, SpellsFirm, SpellsName}
 use Rattle.pv_tree.specs.Reading.{AreEnded, ReadAsName, ReadAsExpression, IsSyntaxFaultAt, IsTooDeepExpression}
 use Rattle.pv_tree.specs.Outside.{IsFirstOutside}
 use Rattle.pv_tree.proofs.ForCallers.{outside-apart}
@@ -279,7 +279,7 @@ by_kind kind bytes = plain_name bytes
 abbrev said : List Lexeme → Option Name
 said [] = None
 said (t ∷ []) = Some (by_kind t.kind t.bytes)
-said (t ∷ n ∷ []) = Some (plain_name (t.bytes ++ n.bytes))
+said (t ∷ n ∷ []) = Some (pair_name (t.bytes ++ n.bytes))
 said (t ∷ n ∷ m ∷ more) = None
 
 word_said : (name : Name) (place : Place) (tokens : List Lexeme) → SpellsWord name place tokens → said tokens ≡ Some name

@@ -14,7 +14,7 @@ use Rattle.pv_tree.specs.declared.stmt.Choice.TheVariants as of
 use Rattle.pv_tree.specs.Tree.{PlacedName, ExprTree, StepTree, field, ArgTree, CallPlain, Choices, StmtTree, StmtTrees}
 use Rattle.pv_tree.specs.View.{steps_of, stmts_of, arms_of, branches_of, else_of}
 use Rattle.pv_tree.specs.Lexemes.{Lexeme, ◌⨾◌, IsSign, sign, word, maybe, listed, each_behind}
-use Rattle.pv_tree.specs.Words.{IsFree, plain_name, quoted_name, SpellsWord, SpellsName}
+use Rattle.pv_tree.specs.Words.{IsFree, plain_name, pair_name, quoted_name, SpellsWord, SpellsName}
 use Rattle.pv_tree.specs.Expressions.{SpellsExpr, IsFormedExpr, SpellsOperand, IsFormedOperand}
 use Rattle.pv_tree.specs.Calls.{SpellsArrow, SpellsArg, SpellsArgs, SpellsCalled, SpellsBase, SpellsCall, IsFreeBehind, IsFormedArg, IsFormedCall}
 use Rattle.pv_tree.specs.Statements.{SpellsChoice, SpellsUpTo, SpellsRange, SpellsBy, SpellsEnd, SpellsStmt, SpellsStmts, SpellsArms, SpellsBranches, SpellsElse, IsFormedChoice, IsFormedUpTo, IsFormedRange, IsFormedStmt, AreFormedStmts, AreFormedArms, AreFormedBranches, IsFormedElse}
@@ -196,14 +196,14 @@ pub data DoesCode : CodeSort → Stack → List Sure → Stack → Type 0 where
   marks_quoted_hash : {s : Stack} (w h : Lexeme)
       → DoesCode quoted_hash (token w ∷ token h ∷ s) [] (path (rooted (Local (quoted_name w.bytes) true w.place) h.place) ∷ s)
   marks_numbered_hash : {s : Stack} (n : Sure) (w h : Lexeme) → n.lexeme.kind ≡ k.Number → DoesCode numbered_hash (token w ∷ token h ∷ s) (n ∷ [])
-      (path (rooted (Local (plain_name (w.bytes ++ n.lexeme.bytes)) true w.place) h.place) ∷ s)
+      (path (rooted (Local (pair_name (w.bytes ++ n.lexeme.bytes)) true w.place) h.place) ∷ s)
   marks_plain_second : {s : Stack} (w d : Lexeme) (p : PathTree)
       → DoesCode plain_second (token w ∷ token d ∷ path p ∷ s) [] (path (stepped p (field (plain_name w.bytes) w.place)) ∷ s)
   marks_quoted_second : {s : Stack} (w d : Lexeme) (p : PathTree)
       → DoesCode quoted_second (token w ∷ token d ∷ path p ∷ s) [] (path (stepped p (field (quoted_name w.bytes) w.place)) ∷ s)
   marks_numbered_second : {s : Stack} (n : Sure) (w d : Lexeme) (p : PathTree) → n.lexeme.kind ≡ k.Number
       → DoesCode numbered_second (token w ∷ token d ∷ path p ∷ s) (n ∷ [])
-      (path (stepped p (field (plain_name (w.bytes ++ n.lexeme.bytes)) w.place)) ∷ s)
+      (path (stepped p (field (pair_name (w.bytes ++ n.lexeme.bytes)) w.place)) ∷ s)
   a_second : {s : Stack} {ts : List Sure} (d : Lexeme) (p : PathTree) (n : Name) (at : Place) → SpellsName n at (lexemes ts)
       → DoesCode second (token d ∷ path p ∷ s) ts (path (stepped p (field n at)) ∷ s)
   a_second_number : {s : Stack} {ts : List Sure} (w d : Lexeme) (p : PathTree) (n : Name) (at : Place) → (IsPrefix w → SpellsName n at (w ∷ lexemes ts))

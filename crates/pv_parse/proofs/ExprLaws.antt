@@ -13,7 +13,7 @@ use Rattle.pv_tree.specs.declared.expr.BinaryOp.TheVariants as o
 use Rattle.pv_tree.specs.Tree.{ExprTree, lit, read, unary, binary, paren, ExprTrees, no_exprs, exprs, operand, StepTree, field, index}
 use Rattle.pv_tree.specs.View.{steps_of}
 use Rattle.pv_tree.specs.Lexemes.{Lexeme, IsJoined, IsSign, IsWord, sign}
-use Rattle.pv_tree.specs.Words.{plain_name, quoted_name, SpellsWord, SpellsFirm}
+use Rattle.pv_tree.specs.Words.{plain_name, pair_name, quoted_name, SpellsWord, SpellsFirm}
 use Rattle.pv_tree.specs.Literals.{number_type}
 use Rattle.pv_tree.specs.Expressions.{SpellsExpr, SpellsArguments, SpellsRoot, SpellsSteps, SpellsStep, IsFormedRoot, AreFormedSteps, IsFormedStep, IsBefore, AreFormedExprs, strength_of}
 use Rattle.pv_ll.specs.declared.table.Symbol.{Symbol}
@@ -132,7 +132,7 @@ firm_name_1 acts sorts s inner ws w (tok {t = t} p nil) = record {
 }
 
 pair_spelled : (t m : Sure) → IsPrefix t.lexeme → (q : m.kind ≡ n.number)
-    → SpellsFirm (plain_name (t.lexeme.bytes ++ m.lexeme.bytes)) t.lexeme.place (t.lexeme ∷ m.lexeme ∷ [])
+    → SpellsFirm (pair_name (t.lexeme.bytes ++ m.lexeme.bytes)) t.lexeme.place (t.lexeme ∷ m.lexeme ∷ [])
 pair_spelled t m h q = inr (inr (record {
   prefix = t.lexeme;
   number = m.lexeme;
@@ -146,9 +146,9 @@ pair_spelled t m h q = inr (inr (record {
 
 pub firm_name_2 : (acts : List Action) (sorts : List Sort) → Lawful acts sorts b.firm_name_2 name.firm_name b.firm_name_2_body
 firm_name_2 acts sorts s inner ws w (tok {t = t} p (tok {t = m} q nil)) = record {
-  after = path (rooted (Named (plain_name (t.lexeme.bytes ++ m.lexeme.bytes))) t.lexeme.place) ∷ s;
+  after = path (rooted (Named (pair_name (t.lexeme.bytes ++ m.lexeme.bytes))) t.lexeme.place) ∷ s;
   makes = refl;
-  mean = a_firm (plain_name (t.lexeme.bytes ++ m.lexeme.bytes)) t.lexeme.place (pair_spelled t m (fact.prefix t p) q) (fact.pair_free t m (fact.prefix t p) q);
+  mean = a_firm (pair_name (t.lexeme.bytes ++ m.lexeme.bytes)) t.lexeme.place (pair_spelled t m (fact.prefix t p) q) (fact.pair_free t m (fact.prefix t p) q);
 }
 
 pub firm_name_3 : (acts : List Action) (sorts : List Sort) → Lawful acts sorts b.firm_name_3 name.firm_name b.firm_name_3_body

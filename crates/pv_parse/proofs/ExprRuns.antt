@@ -17,7 +17,7 @@ use Rattle.pv_tree.specs.declared.expr.BinaryOp.{BinaryOp}
 use Rattle.pv_tree.specs.Tree.{ExprTree, lit, read, unary, binary, paren, operand, StepTree, field, index, StepTrees, no_steps, steps}
 use Rattle.pv_tree.specs.View.{steps_of, list_of_steps}
 use Rattle.pv_tree.specs.Lexemes.{Lexeme, IsSign, IsOne}
-use Rattle.pv_tree.specs.Words.{plain_name, quoted_name, IsPlain, IsFree, SpellsWord, SpellsFirm}
+use Rattle.pv_tree.specs.Words.{plain_name, pair_name, quoted_name, IsPlain, IsFree, SpellsWord, SpellsFirm}
 use Rattle.pv_tree.specs.Expressions.{SpellsExpr, SpellsStep, SpellsOperand, SpellsAtom, IsBefore, strength, strength_of, SpellsRoot, IsFormedRoot}
 use Rattle.pv_parse.specs.declared.action.Action.{Action}
 use Rattle.pv_parse.specs.KindNumbers as n
@@ -106,7 +106,7 @@ firm_made rest acts x place ts (inr (inl d)) =
     renamed_path rest acts name.firm_name ts (Named (plain_name d.token.bytes)) (Named x) d.token.place place (ap (λ z. Named z) (sym d.is.is.names)) d.is.at
     (λ s. on (sym d.alone) (by b.firm_name_3 b.firm_name_3_body refl (pass n.numbered d.token (kind.numbered x d.token d.is.is)) refl))
 firm_made rest acts x place ts (inr (inr d)) =
-    renamed_path rest acts name.firm_name ts (Named (plain_name (d.prefix.bytes ++ d.number.bytes))) (Named x) d.prefix.place place
+    renamed_path rest acts name.firm_name ts (Named (pair_name (d.prefix.bytes ++ d.number.bytes))) (Named x) d.prefix.place place
     (ap (λ z. Named z) (sym d.names)) d.at
     (λ s. on (sym d.parts) (by b.firm_name_2 b.firm_name_2_body refl (then (pass n.number_prefix d.prefix (kind.prefix d.prefix d.word d.is_prefix))
     (pass n.number d.number (kind.number d.number d.counts))) refl))

@@ -10,7 +10,7 @@ use Rattle.pv_lex.specs.Shapes.{is_one_of}
 use Rattle.pv_tree.specs.declared.expr.StdFunction.{StdFunction}
 use Rattle.pv_tree.specs.declared.expr.StdFunction.TheVariants as function
 use Rattle.pv_tree.specs.Lexemes.{Lexeme}
-use Rattle.pv_tree.specs.Words.{prefixes, is_reserved, block_words, function_words, function_word, type_word, conversion_words, targets_of, plain_name, IsNumberedPair, IsFree}
+use Rattle.pv_tree.specs.Words.{prefixes, is_reserved, block_words, function_words, function_word, type_word, conversion_words, targets_of, pair_name, IsNumberedPair, IsFree}
 use Rattle.pv_tree.specs.Words.{statement_words as code_words}
 use Rattle.pv_tree.specs.Expressions.{IsOfFunction}
 use Rattle.pv_parse.specs.KindNumbers as n
@@ -90,11 +90,11 @@ pair-longer : (front back : List ℕ) → is_one_of prefixes front ≡ true → 
 pair-longer front back o s =
     longer-step (length front == 2) (length front == 3) front back refl refl (has-two-or-three front o) o s
 
-pub pair-free : (front back : List ℕ) → is_one_of prefixes front ≡ true → 0 < length back → IsFree (plain_name (front ++ back))
+pub pair-free : (front back : List ℕ) → is_one_of prefixes front ≡ true → 0 < length back → IsFree (pair_name (front ++ back))
 pair-free front back o s = free-by (front ++ back) (longer-unreserved (front ++ back) (pair-longer front back o s))
 
 pub is-pair : (prefix number : Lexeme) → SaidBy k.Word prefixes prefix → Counted number
-    → IsNumberedPair (plain_name (prefix.bytes ++ number.bytes)) prefix.place (prefix ∷ number ∷ [])
+    → IsNumberedPair (pair_name (prefix.bytes ++ number.bytes)) prefix.place (prefix ∷ number ∷ [])
 is-pair prefix number s c =
     record { prefix = prefix; number = number; parts = refl; at = refl; word = s.0; is_prefix = s.1; counts = c.is; names = refl }
 

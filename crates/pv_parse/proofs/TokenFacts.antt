@@ -9,7 +9,7 @@ use Rattle.pv_tree.specs.declared.expr.BinaryOp.TheVariants as o
 use Rattle.pv_tree.specs.declared.expr.StdFunction.{StdFunction}
 use Rattle.pv_tree.specs.declared.expr.StdFunction.TheVariants as function
 use Rattle.pv_tree.specs.Lexemes.{Lexeme, IsSign, IsWord}
-use Rattle.pv_tree.specs.Words.{IsFree, IsPlain, IsQuoted, IsNumbered, plain_name, quoted_name, function_word}
+use Rattle.pv_tree.specs.Words.{IsFree, IsPlain, IsQuoted, IsNumbered, plain_name, pair_name, quoted_name, function_word}
 use Rattle.pv_tree.specs.Literals.{IsTruth, IsAddress, bare_address, address_bits, address_byte, address_bit}
 use Rattle.pv_tree.specs.Expressions.{IsBetween, IsOfFunction, parameters_of}
 use Rattle.pv_parse.specs.KindNumbers as n
@@ -95,7 +95,7 @@ quoted_free t p = (names.is-quoted t.lexeme (has t n.quoted p)).free
 pub numbered_free : (t : Sure) → t.kind ≡ n.numbered → IsFree (plain_name t.lexeme.bytes)
 numbered_free t p = (names.is-numbered t.lexeme (has t n.numbered p)).free
 
-pub pair_free : (t m : Sure) → IsPrefix t.lexeme → m.kind ≡ n.number → IsFree (plain_name (t.lexeme.bytes ++ m.lexeme.bytes))
+pub pair_free : (t m : Sure) → IsPrefix t.lexeme → m.kind ≡ n.number → IsFree (pair_name (t.lexeme.bytes ++ m.lexeme.bytes))
 pair_free t m h p = pair-free t.lexeme.bytes m.lexeme.bytes h.is_prefix (names.is-number m.lexeme (has m n.number p)).some
 
 pub address : (t : Sure) → t.kind ≡ n.address

@@ -4,7 +4,7 @@ use Rattle.pv_machine.specs.declared.place.Place.{Place}
 use Rattle.pv_tree.specs.declared.expr.Root.{Root}
 use Rattle.pv_tree.specs.declared.expr.Root.TheVariants.{Local, Named, Area}
 use Rattle.pv_tree.specs.Tree.{PlacedName, ExprTree, StepTree, field, ArgTree, CallPlain}
-use Rattle.pv_tree.specs.Words.{plain_name, quoted_name}
+use Rattle.pv_tree.specs.Words.{plain_name, pair_name, quoted_name}
 use Rattle.pv_tree.specs.Nesting.{first_of}
 use Rattle.pv_parse.specs.declared.action.CallAction.{CallAction}
 use Rattle.pv_parse.specs.declared.action.CallAction.TheVariants as a
@@ -50,7 +50,7 @@ quoted_on s = option_and_then (λ t. Some ((quoted_name t.0.bytes, t.0.place), t
 abbrev pub pair_on : Stack → Option (PlacedName × Stack)
 pair_on s =
     option_and_then (λ n. option_and_then (λ t. Some
-    ((plain_name (t.0.bytes ++ n.0.bytes), t.0.place), t.1)) (token_on n.1)) (token_on s)
+    ((pair_name (t.0.bytes ++ n.0.bytes), t.0.place), t.1)) (token_on n.1)) (token_on s)
 
 -- a name behind `#`
 abbrev pub hashed_name : Option (PlacedName × Stack) → Option Stack

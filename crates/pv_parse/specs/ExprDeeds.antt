@@ -9,7 +9,7 @@ use Rattle.pv_tree.specs.declared.expr.BinaryOp.{BinaryOp}
 use Rattle.pv_tree.specs.Tree.{ExprTree, lit, read, unary, binary, std, paren, no_exprs, exprs, ExprTrees, OperandTree, operand, StepTree, field, index}
 use Rattle.pv_tree.specs.View.{steps_of}
 use Rattle.pv_tree.specs.Lexemes.{Lexeme}
-use Rattle.pv_tree.specs.Words.{plain_name, quoted_name}
+use Rattle.pv_tree.specs.Words.{plain_name, pair_name, quoted_name}
 use Rattle.pv_tree.specs.Literals.{number_type}
 use Rattle.pv_parse.specs.declared.action.ExprAction.{ExprAction}
 use Rattle.pv_parse.specs.declared.action.ExprAction.TheVariants as a
@@ -46,7 +46,7 @@ numbered_deed s = option_and_then (λ t. Some
 abbrev pub pair_deed : Stack → Option Stack
 pair_deed s =
     option_and_then (λ n. option_and_then (λ t. Some
-    (path (rooted (Named (plain_name (t.0.bytes ++ n.0.bytes))) t.0.place) ∷ t.1))
+    (path (rooted (Named (pair_name (t.0.bytes ++ n.0.bytes))) t.0.place) ∷ t.1))
     (token_on n.1)) (token_on s)
 
 abbrev pub area_deed : Stack → Option Stack

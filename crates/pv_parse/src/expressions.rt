@@ -2,7 +2,7 @@
 ghost use Rattle.std.specs.Prelude.{◌≡◌, ◌∷◌, ◌++◌, Some, None, IfOk, map, option_and_then};
 ghost use Rattle.pv_tree.specs.declared.expr.Root.TheVariants.{Named};
 ghost use Rattle.pv_tree.specs.View.{expr_tree, exprs_of};
-ghost use Rattle.pv_tree.specs.Words.{plain_name};
+ghost use Rattle.pv_tree.specs.Words.{pair_name};
 ghost use Rattle.pv_parse.specs.Items.{stack_of, lexeme_of_slice, path, path_tree, expr, Leaves, Pops, Finds};
 ghost use Rattle.pv_parse.specs.ExprDeeds.{rooted, hashed, function_expr, word_deed, quoted_deed, numbered_deed, pair_deed, area_deed, field_deed, index_deed, read_deed, hash_read_deed, number_deed, truth_deed, paren_deed, unary_deed, link_deed, one_deed, two_deed, three_deed, argument_on, later_on, opening_on, expr_deed};
 ghost use Rattle.pv_parse.specs.TokenTexts.{times_of, compare_of};
@@ -68,13 +68,13 @@ pub fn numbered_pair(alloc: Global, stack: &mut Vec<Item>) -> Result<(), Stop>
     push_named(alloc, name, prefix.place, stack)
 }
 
-/// The name of a text in two parts.
+/// The numbered name of two words.
 pub fn joined_name(alloc: Global, front: &[u8], back: &[u8]) -> Result<Name, AllocError>
-    ensures { IfOk result (λ name. name ≡ plain_name (front.now ++ back.now)) }
+    ensures { IfOk result (λ name. name ≡ pair_name (front.now ++ back.now)) }
 {
     let mut text = Vec::from_slice(alloc, front)?;
     text.extend_from_slice(back)?;
-    Name::plain(alloc, &text)
+    Name::pair(alloc, &text)
 }
 
 /// A name that isn't a word is an operand without steps.

@@ -1,6 +1,6 @@
 //! The instance on which a called block works.
-ghost use Rattle.std.specs.Prelude.{◌≡◌, ℕ, length, nat_eq, IfOk};
-ghost use Rattle.std.specs.List.{list_all, list_any};
+ghost use Rattle.std.specs.Prelude.{◌≡◌, ℕ, length, IfOk};
+ghost use Rattle.std.specs.List.{list_all};
 ghost use Rattle.std.specs.Char.{is_ascii_digit};
 ghost use Rattle.pv_tree.specs.View.{call_tree};
 ghost use Rattle.pv_tree.specs.Callees as callees;
@@ -31,19 +31,12 @@ fn all_digits(text: &[u8]) -> bool
     text.iter().all(|b| b.is_ascii_digit())
 }
 
-/// Whether a text has a `#`.
-fn has_hash(text: &[u8]) -> bool
-    ensures { result ≡ list_any (nat_eq 35) text.now }
-{
-    text.iter().any(|b| b'#' == *b)
-}
-
-/// Whether a text is decimal digits, or has a `#` behind its first byte.
+/// Whether a text is decimal digits, at least one.
 fn is_number_text(text: &[u8]) -> bool
     ensures { result ≡ callees.is_number_text text.now }
 {
     match text.split_first() {
-        Some((_, more)) => all_digits(text) || has_hash(more),
+        Some(_) => all_digits(text),
         None => false,
     }
 }
@@ -70,7 +63,7 @@ fn is_numbered(key: &[u8]) -> bool
 fn is_word(name: &Name) -> bool
     ensures { result ≡ callees.is_word name.now }
 {
-    !is_quoted(name) && !is_numbered(name.key.bytes())
+    !is_quoted(name) && !(name.paired || is_numbered(name.key.bytes()))
 }
 
 /// Where a called name, or the second of two, begins.

@@ -2,7 +2,7 @@
 use Rattle.std.proofs.Common.{inl, List, [], ◌∷◌, ◌++◌, Some, None, refl, ap, ◌∙◌, sym, subst}
 use Rattle.pv_tree.specs.Tree.{CallPlain, call_}
 use Rattle.pv_tree.specs.Lexemes.{Lexeme}
-use Rattle.pv_tree.specs.Words.{plain_name, quoted_name}
+use Rattle.pv_tree.specs.Words.{plain_name, pair_name, quoted_name}
 use Rattle.pv_ll.specs.Meaning.DoesAll.{nil, tok, val}
 use Rattle.pv_parse.specs.CodeItems.{of_expr, of_call, value, statement}
 use Rattle.pv_parse.specs.Items.{code}
@@ -114,7 +114,7 @@ after_prefix_1 s inner ws u (val {us = us} {ts = rest} (codes (marks_numbered_se
   after = code (statement (call_ c)) ∷ below;
   makes = refl;
   mean = codes (goes_prefix w d p (call_ c) (λ xs k b i pre.
-      let name = plain_name (w.bytes ++ o.lexeme.bytes) in
+      let name = pair_name (w.bytes ++ o.lexeme.bytes) in
       let second = callee_second p name w.place d xs (w ∷ o.lexeme ∷ []) (xs ++ d ∷ w ∷ o.lexeme ∷ []) b i (prefix_pair w o.lexeme pre j) refl in
       regroup (Means for_stmt (call_ c)) xs (d ∷ w ∷ o.lexeme ∷ []) (lexemes vs) (d ∷ w ∷ lexemes ws)
       (ap (λ (z : List Lexeme). d ∷ w ∷ z) (two ws us rest vs q e))
@@ -176,7 +176,7 @@ after_hash_prefix_1 s inner ws u (val {us = us} {ts = rest} (codes (marks_number
   mean = codes (goes_hash_prefix w o (call_ c) (λ i pre.
       subst (λ (z : List Lexeme). Means for_stmt (call_ c) (o ∷ w ∷ z)) (sym (two ws us rest vs q e))
       (call_means for_stmt c (o ∷ w ∷ x.lexeme ∷ lexemes vs)
-      (h (o ∷ w ∷ x.lexeme ∷ []) (hash_callee (plain_name (w.bytes ++ x.lexeme.bytes)) w.place o (w ∷ x.lexeme ∷ []) i (prefix_pair w x.lexeme pre j))))));
+      (h (o ∷ w ∷ x.lexeme ∷ []) (hash_callee (pair_name (w.bytes ++ x.lexeme.bytes)) w.place o (w ∷ x.lexeme ∷ []) i (prefix_pair w x.lexeme pre j))))));
 }
 
 pub after_hash_prefix_2 : Lawful b.after_hash_prefix_2 n.after_hash_prefix b.after_hash_prefix_2_body
@@ -277,7 +277,7 @@ value_after_prefix_1 s inner ws u (val {us = us} {ts = rest} (codes (marks_numbe
   after = code (value (of_call c)) ∷ below;
   makes = refl;
   mean = codes (goes_prefix w d p (of_call c) (λ xs k b i pre.
-      let name = plain_name (w.bytes ++ o.lexeme.bytes) in
+      let name = pair_name (w.bytes ++ o.lexeme.bytes) in
       let second = callee_second p name w.place d xs (w ∷ o.lexeme ∷ []) (xs ++ d ∷ w ∷ o.lexeme ∷ []) b i (prefix_pair w o.lexeme pre j) refl in
       regroup (Means for_value (of_call c)) xs (d ∷ w ∷ o.lexeme ∷ []) (lexemes vs) (d ∷ w ∷ lexemes ws)
       (ap (λ (z : List Lexeme). d ∷ w ∷ z) (two ws us rest vs q e))
@@ -339,7 +339,7 @@ value_after_hash_prefix_1 s inner ws u (val {us = us} {ts = rest} (codes (marks_
   mean = codes (goes_hash_prefix w o (of_call c) (λ i pre.
       subst (λ (z : List Lexeme). Means for_value (of_call c) (o ∷ w ∷ z)) (sym (two ws us rest vs q e))
       (call_means for_value c (o ∷ w ∷ x.lexeme ∷ lexemes vs)
-      (h (o ∷ w ∷ x.lexeme ∷ []) (hash_callee (plain_name (w.bytes ++ x.lexeme.bytes)) w.place o (w ∷ x.lexeme ∷ []) i (prefix_pair w x.lexeme pre j))))));
+      (h (o ∷ w ∷ x.lexeme ∷ []) (hash_callee (pair_name (w.bytes ++ x.lexeme.bytes)) w.place o (w ∷ x.lexeme ∷ []) i (prefix_pair w x.lexeme pre j))))));
 }
 
 pub value_after_hash_prefix_2 : Lawful b.value_after_hash_prefix_2 n.value_after_hash_prefix b.value_after_hash_prefix_2_body

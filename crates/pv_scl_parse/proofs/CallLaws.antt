@@ -5,7 +5,7 @@ use Rattle.std.proofs.lemmas.List.Elements.{All-nil, All-cons}
 use Rattle.pv_machine.specs.declared.place.Place.{Place}
 use Rattle.pv_tree.specs.Tree.{ExprTree, read, OperandTree, StepTree, field, index, ArgTree}
 use Rattle.pv_tree.specs.Lexemes.{Lexeme, ◌⨾◌, IsSign, each_behind}
-use Rattle.pv_tree.specs.Words.{plain_name, quoted_name, SpellsName}
+use Rattle.pv_tree.specs.Words.{plain_name, pair_name, quoted_name, SpellsName}
 use Rattle.pv_tree.specs.Expressions.{SpellsExpr, IsFormedExpr, SpellsOperand, IsFormedOperand}
 use Rattle.pv_tree.specs.Calls.{SpellsArrow, SpellsArg, SpellsArgs, IsFormedArg}
 use Rattle.pv_tree.proofs.ForCallers.{first-expr}
@@ -34,7 +34,7 @@ quoted_second_1 s inner ws (top_token w (top_token d (top_path {s = below} p bar
 
 pub numbered_second_1 : Lawful b.numbered_second_1 n.numbered_second b.numbered_second_1_body
 numbered_second_1 s inner ws (top_token w (top_token d (top_path {s = below} p bare))) (tok {t = m} i nil) =
-    record { after = path (stepped p (field (plain_name (w.bytes ++ m.lexeme.bytes)) w.place)) ∷ below; makes = refl; mean = codes (marks_numbered_second m w d p (fact.number m i)) }
+    record { after = path (stepped p (field (pair_name (w.bytes ++ m.lexeme.bytes)) w.place)) ∷ below; makes = refl; mean = codes (marks_numbered_second m w d p (fact.number m i)) }
 
 pub second_name_1 : Lawful b.second_name_1 n.second_name b.second_name_1_body
 second_name_1 s inner ws u (tok {t = t} i (val (codes (marks_plain_second {s = below} w d p)) nil q)) =
@@ -55,10 +55,10 @@ second_name_2 s inner ws u (tok {t = t} i (val {us = us} {ws = all} (codes (a_se
 pub second_number_1 : Lawful b.second_number_1 n.second_number b.second_number_1_body
 second_number_1 s inner ws u (val {us = us} (codes (marks_numbered_second {s = below} m w d p c)) nil q) =
     record {
-      after = path (stepped p (field (plain_name (w.bytes ++ m.lexeme.bytes)) w.place)) ∷ below;
+      after = path (stepped p (field (pair_name (w.bytes ++ m.lexeme.bytes)) w.place)) ∷ below;
       makes = refl;
-      mean = codes (a_second_number w d p (plain_name (w.bytes ++ m.lexeme.bytes)) w.place
-          (λ i. subst (λ (z : List Sure). SpellsName (plain_name (w.bytes ++ m.lexeme.bytes)) w.place (w ∷ lexemes z)) (sym (last ws us q)) (prefix_pair w m.lexeme i c)));
+      mean = codes (a_second_number w d p (pair_name (w.bytes ++ m.lexeme.bytes)) w.place
+          (λ i. subst (λ (z : List Sure). SpellsName (pair_name (w.bytes ++ m.lexeme.bytes)) w.place (w ∷ lexemes z)) (sym (last ws us q)) (prefix_pair w m.lexeme i c)));
     }
 
 pub second_number_2 : Lawful b.second_number_2 n.second_number b.second_number_2_body

@@ -6,7 +6,7 @@ use Rattle.pv_ll.specs.declared.table.Symbol.TheVariants.{Token, Name}
 use Rattle.pv_tree.specs.declared.expr.Root.TheVariants.{Local}
 use Rattle.pv_tree.specs.Tree.{PlacedName, CallPlain, field, call_}
 use Rattle.pv_tree.specs.Lexemes.{Lexeme, IsSign, sign}
-use Rattle.pv_tree.specs.Words.{SpellsWord, SpellsFirm, SpellsName, plain_name, quoted_name}
+use Rattle.pv_tree.specs.Words.{SpellsWord, SpellsFirm, SpellsName, plain_name, pair_name, quoted_name}
 use Rattle.pv_tree.specs.Calls.{SpellsBase}
 use Rattle.pv_parse.specs.KindNumbers as n
 use Rattle.pv_parse.specs.CodeItems.{of_call, called, value, statement}
@@ -107,7 +107,7 @@ dot_firm p d x at c us vs i (inr (inl w)) fin s =
     (behind_mark n.dot o.after_dot b.after_dot_3 n.free_numbered (Name o.plain_second ∷ Name o.call_arguments ∷ []) d t vs (kind.dot d i)
     (kind-free-numbered x t w.is.is) (word_marks t w.is.is.kind) refl (then (by b.plain_second_1 b.plain_second_1_body refl empty refl) (here s)) refl)
 dot_firm p d x at c us vs i (inr (inr w)) fin s =
-    let name = plain_name (w.prefix.bytes ++ w.number.bytes) in
+    let name = pair_name (w.prefix.bytes ++ w.number.bytes) in
     let here : Calling (stepped p (field name w.prefix.place)) c vs = subst (λ (z : Place). Calling (stepped p (field name z)) c vs)
     (sym w.at) (subst (λ (z : NameOf). Calling (stepped p (field z at)) c vs) w.names fin) in
     on (ap (λ (z : List Lexeme). d ∷ (z ++ vs)) (sym w.parts))
@@ -152,7 +152,7 @@ hash_firm h x at c us vs i (inr (inl w)) fin s =
     (behind_mark n.hash o.after_hash b.after_hash_3 n.free_numbered (Name f.plain_hash ∷ Name o.called ∷ []) h t vs (kind.hash h i)
     (kind-free-numbered x t w.is.is) (word_marks t w.is.is.kind) refl (then (by fb.plain_hash_1 fb.plain_hash_1_body refl empty refl) (here s)) refl)
 hash_firm h x at c us vs i (inr (inr w)) fin s =
-    let name = plain_name (w.prefix.bytes ++ w.number.bytes) in
+    let name = pair_name (w.prefix.bytes ++ w.number.bytes) in
     let here : Going o.called (rooted (Local name true w.prefix.place) h.place) (code (called c)) vs =
     subst (λ (z : Place). Going o.called (rooted (Local name true z) h.place) (code (called c)) vs)
     (sym w.at) (subst (λ (z : NameOf). Going o.called (rooted (Local z true at) h.place) (code (called c)) vs) w.names fin) in
@@ -215,7 +215,7 @@ value_dot_firm p d x at c us vs i (inr (inl w)) fin s =
     (behind_mark n.dot o.value_after_dot b.value_after_dot_3 n.free_numbered (Name o.plain_second ∷ Name o.call_arguments ∷ []) d t vs (kind.dot d i)
     (kind-free-numbered x t w.is.is) (word_marks t w.is.is.kind) refl (then (by b.plain_second_1 b.plain_second_1_body refl empty refl) (here s)) refl)
 value_dot_firm p d x at c us vs i (inr (inr w)) fin s =
-    let name = plain_name (w.prefix.bytes ++ w.number.bytes) in
+    let name = pair_name (w.prefix.bytes ++ w.number.bytes) in
     let here : Calling (stepped p (field name w.prefix.place)) c vs = subst (λ (z : Place). Calling (stepped p (field name z)) c vs)
     (sym w.at) (subst (λ (z : NameOf). Calling (stepped p (field z at)) c vs) w.names fin) in
     on (ap (λ (z : List Lexeme). d ∷ (z ++ vs)) (sym w.parts))
@@ -260,7 +260,7 @@ value_hash_firm h x at c us vs i (inr (inl w)) fin s =
     (behind_mark n.hash o.value_after_hash b.value_after_hash_3 n.free_numbered (Name f.plain_hash ∷ Name o.called ∷ []) h t vs (kind.hash h i)
     (kind-free-numbered x t w.is.is) (word_marks t w.is.is.kind) refl (then (by fb.plain_hash_1 fb.plain_hash_1_body refl empty refl) (here s)) refl)
 value_hash_firm h x at c us vs i (inr (inr w)) fin s =
-    let name = plain_name (w.prefix.bytes ++ w.number.bytes) in
+    let name = pair_name (w.prefix.bytes ++ w.number.bytes) in
     let here : Going o.called (rooted (Local name true w.prefix.place) h.place) (code (called c)) vs =
     subst (λ (z : Place). Going o.called (rooted (Local name true z) h.place) (code (called c)) vs)
     (sym w.at) (subst (λ (z : NameOf). Going o.called (rooted (Local z true at) h.place) (code (called c)) vs) w.names fin) in

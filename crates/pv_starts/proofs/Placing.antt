@@ -37,7 +37,7 @@ counted : (project : ProjectTree) (path : List ℕ) (start : Option Literal) (ty
     → length (leaves_at project path start ty) ≡ size_in project ty
 counted project path start ty =
     let e = counted_leaves (types_of_project project)
-    (var (record { key = []; spelled = path }) Static ty start (record { file = 0; offset = 0 }) ∷ []) in
+    (var (record { key = []; spelled = path; paired = false }) Static ty start (record { file = 0; offset = 0 }) ∷ []) in
     let a = length-append (leaves_at project path start ty) [] in omega (arith, e, a)
 
 -- the leaves of what is laid out stand among these, behind as many as its first cell's number says

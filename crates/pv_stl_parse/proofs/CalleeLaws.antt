@@ -9,7 +9,7 @@ use Rattle.pv_types.specs.declared.name.Name.{Name}
 use Rattle.pv_tree.specs.declared.expr.Root.TheVariants.{Local, Named}
 use Rattle.pv_tree.specs.Tree.{field, ExprTree, ArgTree}
 use Rattle.pv_tree.specs.Lexemes.{Lexeme, IsSign, sign, ◌⨾◌, each_behind}
-use Rattle.pv_tree.specs.Words.{IsFree, plain_name, quoted_name, SpellsWord, SpellsName}
+use Rattle.pv_tree.specs.Words.{IsFree, plain_name, pair_name, quoted_name, SpellsWord, SpellsName}
 use Rattle.pv_tree.specs.Expressions.{SpellsExpr, IsFormedExpr}
 use Rattle.pv_tree.specs.Calls.{SpellsArrow, SpellsArg, SpellsArgsStl, IsFormedArg}
 use Rattle.pv_ll.specs.Meaning.DoesAll.{nil, tok, val}
@@ -183,10 +183,10 @@ hashed_name_4 s inner ws (top_token h bare) (tok {t = t} i (val (codes (marks_qu
 
 pub hashed_prefix_1 : Lawful b.hashed_prefix_1 n.hashed_prefix b.hashed_prefix_1_body
 hashed_prefix_1 s inner ws u (val {us = us} (codes (marks_numbered_hash {s = below} m w h c)) nil q) = record {
-  after = path (rooted (Local (plain_name (w.bytes ++ m.lexeme.bytes)) true w.place) h.place) ∷ below;
+  after = path (rooted (Local (pair_name (w.bytes ++ m.lexeme.bytes)) true w.place) h.place) ∷ below;
   makes = refl;
-  mean = instrs (a_callee_prefix w h (plain_name (w.bytes ++ m.lexeme.bytes)) w.place (λ i.
-      subst (λ (z : List Sure). SpellsName (plain_name (w.bytes ++ m.lexeme.bytes)) w.place (w ∷ lexemes z)) (sym (last ws us q)) (prefix_pair w m.lexeme i c)));
+  mean = instrs (a_callee_prefix w h (pair_name (w.bytes ++ m.lexeme.bytes)) w.place (λ i.
+      subst (λ (z : List Sure). SpellsName (pair_name (w.bytes ++ m.lexeme.bytes)) w.place (w ∷ lexemes z)) (sym (last ws us q)) (prefix_pair w m.lexeme i c)));
 }
 
 pub hashed_prefix_2 : Lawful b.hashed_prefix_2 n.hashed_prefix b.hashed_prefix_2_body

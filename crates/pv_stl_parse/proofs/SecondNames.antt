@@ -2,12 +2,12 @@
 use Rattle.std.proofs.Common.{◌≡◌, inl, inr, [], ◌∷◌, ◌++◌, refl}
 use Rattle.pv_lex.specs.declared.token.Kind.TheVariants as k
 use Rattle.pv_tree.specs.Lexemes.{Lexeme}
-use Rattle.pv_tree.specs.Words.{plain_name, quoted_name, SpellsWord, SpellsName}
+use Rattle.pv_tree.specs.Words.{plain_name, pair_name, quoted_name, SpellsWord, SpellsName}
 use Rattle.pv_parse.specs.KindNumbers as kn
 use Rattle.pv_parse.proofs.ForCallers.{Sure, IsPrefix, single_at}
 use Rattle.pv_stl_parse.proofs.Facts as fact
 
-pub prefix_pair : (w n : Lexeme) → IsPrefix w → n.kind ≡ k.Number → SpellsName (plain_name (w.bytes ++ n.bytes)) w.place (w ∷ n ∷ [])
+pub prefix_pair : (w n : Lexeme) → IsPrefix w → n.kind ≡ k.Number → SpellsName (pair_name (w.bytes ++ n.bytes)) w.place (w ∷ n ∷ [])
 prefix_pair w n h c =
     inr (inr (inr (record { prefix = w; number = n; parts = refl; at = refl; word = h.word; is_prefix = h.is_prefix; counts = c; names = refl })))
 

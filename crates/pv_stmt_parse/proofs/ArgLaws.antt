@@ -7,7 +7,7 @@ use Rattle.pv_lex.specs.declared.token.Language.{Language}
 use Rattle.pv_tree.specs.declared.expr.Root.TheVariants.{Local}
 use Rattle.pv_tree.specs.Tree.{ExprTree, ArgTree}
 use Rattle.pv_tree.specs.Lexemes.{Lexeme, Form, ◌⨾◌, sign, each_behind}
-use Rattle.pv_tree.specs.Words.{plain_name, quoted_name}
+use Rattle.pv_tree.specs.Words.{plain_name, pair_name, quoted_name}
 use Rattle.pv_tree.specs.Expressions.{SpellsExpr}
 use Rattle.pv_tree.specs.Calls.{SpellsArrow, SpellsArg, IsFormedArg}
 use Rattle.pv_ll.specs.declared.table.Symbol.{Symbol}
@@ -47,7 +47,7 @@ quoted_hash_1 acts sorts language s inner ws (top_token w (top_token {s = below}
 
 pub numbered_hash_1 : (acts : List Action) (sorts : List Sort) (language : Language) → FrontLawful acts sorts language b.numbered_hash_1 name.numbered_hash b.numbered_hash_1_body
 numbered_hash_1 acts sorts language s inner ws (top_token w (top_token {s = below} h bare)) (tok {t = n} p nil) = record {
-  after = path (rooted (Local (plain_name (w.bytes ++ n.lexeme.bytes)) true w.place) h.place) ∷ below;
+  after = path (rooted (Local (pair_name (w.bytes ++ n.lexeme.bytes)) true w.place) h.place) ∷ below;
   makes = refl;
   mean = codes (marks_numbered_hash n w h (number_is n p));
 }

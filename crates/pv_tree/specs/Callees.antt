@@ -1,6 +1,6 @@
 -- Calls: which block a call runs, which parameters the block has, and which of them an argument is for.
 use Rattle.std.specs.Prelude.{ℕ, List, [], ◌∷◌, ◌++◌, filter, find, drop, bytes_eq, nat_eq, Bool as Truth, true, false, ◌&&◌, ◌||◌, not, is_some, is_none, if◌then◌else◌, Option, Some, None}
-use Rattle.std.specs.List.{starts_with, list_any, list_all}
+use Rattle.std.specs.List.{starts_with, list_all}
 use Rattle.std.specs.Char.{is_ascii_digit}
 use Rattle.pv_machine.specs.declared.place.Place.{Place}
 use Rattle.pv_types.specs.declared.name.Name.{Name}
@@ -31,13 +31,14 @@ is_by_stl as_value = false
 is_by_stl by_call = true
 is_by_stl by_uc = true
 
--- a quoted name keeps its quotes; a numbered one is OB, FB, FC, DB or UDT and a number, which is decimal digits or has a `#`
+-- a quoted name keeps its quotes; a numbered one is OB, FB, FC, DB or UDT and a number: decimal digits in the same word, or
+-- any number of its own, which the name is marked for
 abbrev pub is_quoted : Name → Truth
 is_quoted name = starts_with nat_eq name.spelled (34 ∷ [])
 
 abbrev pub is_number_text : List ℕ → Truth
 is_number_text [] = false
-is_number_text (b ∷ more) = list_all is_ascii_digit (b ∷ more) || list_any (nat_eq 35) more
+is_number_text (b ∷ more) = list_all is_ascii_digit (b ∷ more)
 
 abbrev pub has_number_behind : List ℕ → List ℕ → ℕ → Truth
 has_number_behind prefix key count =
@@ -50,7 +51,7 @@ is_numbered key =
     || has_number_behind (100 ∷ 98 ∷ []) key 2 || has_number_behind (117 ∷ 100 ∷ 116 ∷ []) key 3
 
 abbrev pub is_word : Name → Truth
-is_word name = not (is_quoted name) && not (is_numbered name.key)
+is_word name = not (is_quoted name) && not (name.paired || is_numbered name.key)
 
 -- what a called name or a second name means: a declaration of the block, what it is, or a block or symbol
 pub data Called : Type 0 where

@@ -115,12 +115,20 @@ is_numbered text = is_numbered_at 2 text || is_numbered_at 3 text
 
 -- ---- names
 
--- the name that is written so, and the one that is written in these quotes
+-- the name that one word is, the one that two words are, joined, and the one that is written in these quotes
 abbrev pub plain_name : List ℕ → Name
-plain_name bytes = record { key = str_to_ascii_lowercase bytes; spelled = bytes }
+plain_name bytes =
+    record { key = str_to_ascii_lowercase bytes; spelled = bytes; paired = false }
+
+abbrev pub pair_name : List ℕ → Name
+pair_name bytes = record { key = str_to_ascii_lowercase bytes; spelled = bytes; paired = true }
 
 abbrev pub quoted_name : List ℕ → Name
-quoted_name bytes = record { key = str_to_ascii_lowercase (between_quotes bytes); spelled = bytes }
+quoted_name bytes = record {
+  key = str_to_ascii_lowercase (between_quotes bytes);
+  spelled = bytes;
+  paired = false
+}
 
 -- a word that is the name: any but a numbered one
 pub record IsPlain (name : Name) (t : Lexeme) : Type 0 where
@@ -147,7 +155,7 @@ pub record IsNumberedPair (name : Name) (place : Place) (tokens : List Lexeme) :
   pub word : prefix.kind ≡ k.Word
   pub is_prefix : IsTrue (is_one_of prefixes prefix.bytes)
   pub counts : number.kind ≡ k.Number
-  pub names : name ≡ plain_name (prefix.bytes ++ number.bytes)
+  pub names : name ≡ pair_name (prefix.bytes ++ number.bytes)
 
 -- a word alone
 abbrev pub SpellsWord : Name → Place → Form

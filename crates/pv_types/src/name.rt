@@ -2,7 +2,7 @@
 //!
 //! Two names are the same where their keys are: letter case and quotes play no part, and neither do
 //! they in the order of names or in their hashes.
-ghost use Rattle.std.specs.Prelude.{◌≡◌, ◌↔◌, IfOk, IsTrue};
+ghost use Rattle.std.specs.Prelude.{◌≡◌, ◌↔◌, IfOk, IsTrue, true, false};
 ghost use Rattle.std.specs.Str.{str_to_ascii_lowercase};
 ghost use Rattle.pv_types.specs.Names.{between_quotes};
 
@@ -19,16 +19,29 @@ pub struct Name {
     /// The name as it was written: a quoted one with its quotes, a numbered one without the blank
     /// in it.
     pub spelled: Text,
+    /// Whether the name was written as two words, a letter of a kind of block and a number behind
+    /// it (`FB 1_0`). Such a name is that block's, whatever its number looks like; names are the
+    /// same without a look at this.
+    pub paired: bool,
 }
 
 impl Name {
-    /// The name that is written as this text, which is a word, or a numbered name without a blank
-    /// in it.
+    /// The name that is written as this one word.
     pub fn plain(alloc: Global, text: &[u8]) -> Result<Name, AllocError>
         ensures key { IfOk result (λ name. name.key ≡ str_to_ascii_lowercase text.now) }
         ensures spelled { IfOk result (λ name. name.spelled ≡ text.now) }
+        ensures paired { IfOk result (λ name. name.paired ≡ false) }
     {
-        name_of(alloc, text, text)
+        name_of(alloc, text, text, false)
+    }
+
+    /// The numbered name that is written as the two words which this text joins.
+    pub fn pair(alloc: Global, text: &[u8]) -> Result<Name, AllocError>
+        ensures key { IfOk result (λ name. name.key ≡ str_to_ascii_lowercase text.now) }
+        ensures spelled { IfOk result (λ name. name.spelled ≡ text.now) }
+        ensures paired { IfOk result (λ name. name.paired ≡ true) }
+    {
+        name_of(alloc, text, text, true)
     }
 
     /// The name that is written as this text, whose first and last byte are its quotes.
@@ -36,8 +49,9 @@ impl Name {
         ensures key { IfOk result (λ name. name.key
             ≡ str_to_ascii_lowercase (between_quotes text.now)) }
         ensures spelled { IfOk result (λ name. name.spelled ≡ text.now) }
+        ensures paired { IfOk result (λ name. name.paired ≡ false) }
     {
-        name_of(alloc, within_quotes(text), text)
+        name_of(alloc, within_quotes(text), text, false)
     }
 
     /// Whether the two names are the same.
@@ -58,10 +72,16 @@ fn within_quotes(text: &[u8]) -> &[u8]
     &text[1..text.len() - 1]
 }
 
-/// The name of this text that is written as `spelled`.
-fn name_of(alloc: Global, text: &[u8], spelled: &[u8]) -> Result<Name, AllocError>
+/// The name of this text that is written as `spelled`, in two words where it is paired.
+fn name_of(
+    alloc: Global,
+    text: &[u8],
+    spelled: &[u8],
+    paired: bool,
+) -> Result<Name, AllocError>
     ensures key { IfOk result (λ name. name.key ≡ str_to_ascii_lowercase text.now) }
     ensures spelled { IfOk result (λ name. name.spelled ≡ spelled.now) }
+    ensures paired { IfOk result (λ name. name.paired ≡ paired) }
 {
     let mut key = Vec::from_slice(alloc, text)?;
     key.as_mut_slice().make_ascii_lowercase();
@@ -69,6 +89,7 @@ fn name_of(alloc: Global, text: &[u8], spelled: &[u8]) -> Result<Name, AllocErro
     Ok(Name {
         key: Text::from(key),
         spelled: Text::from(spelled),
+        paired,
     })
 }
 
@@ -78,7 +99,11 @@ impl Clone for Name {
     fn clone(&self) -> Result<Name, AllocError> {
         let key = self.key.clone()?;
         let spelled = self.spelled.clone()?;
-        Ok(Name { key, spelled })
+        Ok(Name {
+            key,
+            spelled,
+            paired: self.paired,
+        })
     }
 }
 
