@@ -111,7 +111,6 @@ within_push nodes ws k node v len is w here = record {
     before_or_last : (j : ℕ) → j < length (ws ++ v ∷ []) → (j < length ws) ⊎ (j ≡ length ws)
     before_or_last j lt = elim (cases_lt j (length ws)) [ inl less ↦ inl less | inr more ↦ inr (omega (arith, length-append ws (v ∷ []))) ]
 
-
 -- ---- in 64 bits
 
 in_64_bits : (n i low : ℤ) (stride : ℕ) → pos 0 ≤ℤ n → low ≤ℤ i → (n +ℤ pos (span low i stride)) ≤ℤ pos (2 ^ 32) → pos (unsigned_abs n + span low i stride) ≡ int_wrap w64 ((i -ℤ low) *ℤ pos stride +ℤ n)

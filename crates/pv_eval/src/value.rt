@@ -74,14 +74,7 @@ fn number_behind(n: i64, i: i64, low: i64, stride: i64) -> i64
 }
 
 /// The number of an element's cell.
-fn cell_number(
-    n: i64,
-    i: i64,
-    low: i64,
-    high: i64,
-    stride: i64,
-    place: Place,
-) -> Result<i64, Trap>
+fn cell_number(n: i64, i: i64, low: i64, high: i64, stride: i64, place: Place) -> Result<i64, Trap>
     ensures { tried result ≡ cell_number n i low high stride place }
 {
     if low <= i && i <= high {

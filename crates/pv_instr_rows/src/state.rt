@@ -186,8 +186,12 @@ pub fn same(a: &State, b: &State) -> bool {
 /// The operands x : BOOL, v and w of the type.
 pub fn targets(alloc: Global, ty: Ty) -> Result<Vec<Target>, AllocError> {
     let mut out = Vec::new(alloc);
-    out.push(Target::of(Vec::new(alloc), Operand::At(Spot::Brief(Ty::Bool, 0))))?;
-    out.push(Target::of(Vec::new(alloc), Operand::At(Spot::Brief(ty, 1))))?;
-    out.push(Target::of(Vec::new(alloc), Operand::At(Spot::Brief(ty, 2))))?;
+    for spot in [
+        Spot::Brief(Ty::Bool, 0),
+        Spot::Brief(ty, 1),
+        Spot::Brief(ty, 2),
+    ] {
+        out.push(Target::of(alloc, &[], Operand::At(spot))?)?;
+    }
     Ok(out)
 }

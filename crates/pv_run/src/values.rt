@@ -128,7 +128,13 @@ impl Program {
             ≡ store source (activation block first) o (frame_in visible.old brief.old) v }
     {
         if let Some(cell) = self.cell(n, first) {
-            write_spot(self.types.as_slice(), visible, brief, Spot::Visible(cell), v);
+            write_spot(
+                self.types.as_slice(),
+                visible,
+                brief,
+                Spot::Visible(cell),
+                v,
+            );
             return Ok(Flow::Normal);
         }
         match self.locate(n, first, visible, brief, scratch) {
