@@ -2,6 +2,7 @@
 //! values of the input cells for each scan, and `end`. Values are decimal, one blank before each, and each line ends with a line feed.
 #![tactic(auto)]
 
+pub mod laws;
 mod read;
 #[cfg(test)]
 mod tests;
