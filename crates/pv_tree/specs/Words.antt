@@ -127,7 +127,7 @@ abbrev pub quoted_name : List ℕ → Name
 quoted_name bytes = record {
   key = str_to_ascii_lowercase (between_quotes bytes);
   spelled = bytes;
-  paired = false
+  paired = false;
 }
 
 -- a word that is the name: any but a numbered one

@@ -73,12 +73,7 @@ fn within_quotes(text: &[u8]) -> &[u8]
 }
 
 /// The name of this text that is written as `spelled`, in two words where it is paired.
-fn name_of(
-    alloc: Global,
-    text: &[u8],
-    spelled: &[u8],
-    paired: bool,
-) -> Result<Name, AllocError>
+fn name_of(alloc: Global, text: &[u8], spelled: &[u8], paired: bool) -> Result<Name, AllocError>
     ensures key { IfOk result (λ name. name.key ≡ str_to_ascii_lowercase text.now) }
     ensures spelled { IfOk result (λ name. name.spelled ≡ spelled.now) }
     ensures paired { IfOk result (λ name. name.paired ≡ paired) }
