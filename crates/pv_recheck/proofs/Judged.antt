@@ -1,8 +1,8 @@
 -- What the steps of a check find decides the answer, and the answer is one.
 --
--- The steps of a check have relations of their own (specs/Judging), one a layer, with all impossible cases ⊥: their exits close with no
--- file, and one lemma (`answers_by_proofs`) goes from the inner to the outer.
-use Rattle.std.proofs.Common.{◌≡◌, ℕ, List, [], ◌∷◌, ap, sym, subst, ◌∙◌, inl, inr, Result, Ok, Err, length, ℤ}
+-- The steps of a check have stops and relations of their own (specs/Judging), one a layer: their exits close with no file, and one lemma
+-- (`answers_by_proofs`) goes from the inner to the outer.
+use Rattle.std.proofs.Common.{◌≡◌, ℕ, List, [], ◌∷◌, refl, ap, sym, subst, ◌∙◌, inl, inr, Result, Ok, Err, length, ℤ}
 use Rattle.pv_bool.specs.Tree.{ProgramTree}
 use Rattle.pv_gate.specs.declared.netlist.Node.{Node}
 use Rattle.pv_gate.specs.Node.{Names}
@@ -11,14 +11,13 @@ use Rattle.pv_cert.specs.declared.certificate.Certificate.{Certificate}
 use Rattle.pv_cert.specs.CertificateText.{satisfied_by, no_reduction, IsTextOf}
 use Rattle.pv_cert.specs.ChainText.{chain_line}
 use Rattle.pv_cert.proofs.ForCallers.{made-of-proofs, without-words}
-use Rattle.pv_recheck.specs.declared.fault.Kind.{Kind}
-use Rattle.pv_recheck.specs.declared.fault.Kind.TheVariants.{NotACertificate, Line, NoEmpty, WrongQuery}
-use Rattle.pv_recheck.specs.declared.fault.RecheckFault.{RecheckFault}
-use Rattle.pv_recheck.specs.declared.fault.RecheckFault.TheVariants.{Unbuilt, TooManyGates, Fault, NoMemory}
+use Rattle.pv_recheck.specs.declared.stop.LogStop.TheVariants.{TooManyGates, Line, NoEmpty, NoMemory}
+use Rattle.pv_recheck.specs.declared.stop.ProofStop.{ProofStop}
+use Rattle.pv_recheck.specs.declared.stop.ProofStop.TheVariants.{Log, WrongQuery}
 use Rattle.pv_recheck.specs.Form.{IsUnbuilt}
 use Rattle.pv_recheck.specs.Validity.{IsValid}
 use Rattle.pv_recheck.specs.Answers.{Answers}
-use Rattle.pv_recheck.specs.Judging.{JudgesProofs, IsProofFault}
+use Rattle.pv_recheck.specs.Judging.{JudgesProofs, answer_of}
 use Rattle.pv_recheck.proofs.Lines.{fourth_of}
 
 -- a certificate's text is that of its proofs
@@ -37,22 +36,16 @@ module _ (limit : ℕ) (program : ProgramTree) where
       let text = proofs_text bytes c j.1 t j.2 in
       record { proof = j.1; is_text = text; is_proof = record { query = j.3; chain = plain_chain bytes j.1 [] built text; refutes = j.4 } }
 
-  fault_by : (bytes : List ℕ) (c : Certificate) (at : ℕ) (kind : Kind) → (IsUnbuilt bytes → ⊥) → IsTextOf bytes c
-      → IsProofFault limit program c.proofs at kind → Answers limit program bytes (Err (Fault at kind))
-  fault_by bytes c at NotACertificate built t j = absurd j
-  fault_by bytes c at (Line fault) built t j = (built, (c, t, j.1), λ many. absurd (j.0 many))
-  fault_by bytes c at NoEmpty built t j = (built, (c, t, j.1, j.2), λ many. absurd (j.0 many))
-  fault_by bytes c at WrongQuery built t (inl j) = (built, (c, t, inl j), λ many. inr j.1)
-  fault_by bytes c at WrongQuery built t (inr j) = (built, (c, t, inr j.1), λ many. absurd (j.0 many))
-
   -- a certificate was read, and its proofs were judged
-  pub answers_by_proofs : (bytes : List ℕ) (c : Certificate) (r : Result (Unit {0}) RecheckFault) → (IsUnbuilt bytes → ⊥) → IsTextOf bytes c
-      → JudgesProofs limit program c.proofs r → Answers limit program bytes r
+  pub answers_by_proofs : (bytes : List ℕ) (c : Certificate) (r : Result (Unit {0}) ProofStop) → (IsUnbuilt bytes → ⊥) → IsTextOf bytes c
+      → JudgesProofs limit program c.proofs r → Answers limit program bytes (answer_of r)
   answers_by_proofs bytes c (Ok done) built t j = (valid_by bytes c done built t j, j.0)
-  answers_by_proofs bytes c (Err Unbuilt) built t j = absurd j
-  answers_by_proofs bytes c (Err TooManyGates) built t j = (built, j.0, (c, t, j.1))
-  answers_by_proofs bytes c (Err (Fault at kind)) built t j = fault_by bytes c at kind built t j
-  answers_by_proofs bytes c (Err NoMemory) built t j = tt
+  answers_by_proofs bytes c (Err (Log TooManyGates)) built t j = (built, j.0, (c, t, j.1))
+  answers_by_proofs bytes c (Err (Log (Line at fault))) built t j = (built, (c, t, j.1), λ many. absurd (j.0 many))
+  answers_by_proofs bytes c (Err (Log NoEmpty)) built t j = (built, (c, t, j.1, refl), λ many. absurd (j.0 many))
+  answers_by_proofs bytes c (Err (Log NoMemory)) built t j = tt
+  answers_by_proofs bytes c (Err (WrongQuery at)) built t (inl j) = (built, (c, t, inl j), λ many. inr j.1)
+  answers_by_proofs bytes c (Err (WrongQuery at)) built t (inr j) = (built, (c, t, inr j.1), λ many. absurd (j.0 many))
 
 -- a literal that names a node
 pub names_at : (nodes others : List Node) (fail other : ℤ) → nodes ≡ others → fail ≡ other → Names (length others) other

@@ -7,13 +7,13 @@ ghost use Rattle.pv_cert.specs.declared.proof.Query.{Query};
 ghost use Rattle.pv_recheck.specs.Form.{IsUnbuilt};
 ghost use Rattle.pv_recheck.specs.Validity.{formula_over, step_formula, IsValid};
 ghost use Rattle.pv_recheck.specs.Answers.{Answers, IsUnlessNoMemory};
-ghost use Rattle.pv_recheck.specs.Judging.{HasFewGates, ReadsAs, HasNoFormula};
-ghost use Rattle.pv_recheck.specs.Judging.{JudgesLog, JudgesProofs};
+ghost use Rattle.pv_recheck.specs.Judging.{HasFewGates, HasNoFormula, JudgesLog, JudgesProofs};
 
 use crate::fault::{Kind, RecheckFault};
 use crate::form::is_unbuilt;
+use crate::stop::{LogStop, ProofStop, answer_of};
 use pv_bool::Program;
-use pv_cert::{CertFault, Certificate, Proof, Query, read};
+use pv_cert::{CertFault, Proof, Query, read};
 use pv_cnf::{ClauseView, Formula};
 use pv_frames::{push_step, variables};
 use pv_gate::{GateFault, MAX_INPUTS};
@@ -59,32 +59,18 @@ pub(crate) fn check(
     if is_unbuilt(bytes) {
         return Err(RecheckFault::Unbuilt);
     }
-    match read_certificate(alloc, bytes) {
-        Ok(certificate) => check_proofs(alloc, program, limit, certificate.proofs.as_slice()),
-        Err(fault) => Err(fault),
-    }
-}
-
-fn read_certificate(alloc: Global, bytes: &[u8]) -> Result<Certificate, RecheckFault>
-    ensures { ReadsAs bytes.now result }
-{
     match read(alloc, bytes) {
-        Ok(certificate) => Ok(certificate),
+        Ok(certificate) => answer_of(check_proofs(
+            alloc,
+            program,
+            limit,
+            certificate.proofs.as_slice(),
+        )),
         Err(CertFault::NotACertificate { line }) => Err(RecheckFault::Fault {
             line,
             kind: Kind::NotACertificate,
         }),
         Err(CertFault::NoMemory) => Err(RecheckFault::NoMemory),
-    }
-}
-
-/// A query or a proof that isn't the verdict's, in this line.
-fn wrong_query(line: u64) -> RecheckFault
-    ensures { result ≡ RecheckFault.Fault line Kind.WrongQuery }
-{
-    RecheckFault::Fault {
-        line,
-        kind: Kind::WrongQuery,
     }
 }
 
@@ -94,22 +80,22 @@ fn check_proofs(
     program: &Program,
     limit: u32,
     proofs: &[Proof],
-) -> Result<(), RecheckFault>
+) -> Result<(), ProofStop>
     requires bits { length program.now.bits.items ≤ MAX_INPUTS }
     requires limit { limit ≤ MAX_STEP_GATES }
     ensures { JudgesProofs limit (program_tree program.now) proofs.now result }
 {
     let Some((first, more)) = proofs.split_first() else {
-        return Err(wrong_query(3));
+        return Err(ProofStop::WrongQuery(3));
     };
     if !is_step_zero(first.query) {
-        return Err(wrong_query(3));
+        return Err(ProofStop::WrongQuery(3));
     }
-    if let Err(fault) = check_log(alloc, program, limit, &first.log) {
-        return Err(fault);
+    if let Err(stop) = check_log(alloc, program, limit, &first.log) {
+        return Err(ProofStop::Log(stop));
     }
     if !more.is_empty() {
-        return Err(wrong_query(first.log.as_slice().len() as u64 + 6));
+        return Err(ProofStop::WrongQuery(first.log.as_slice().len() as u64 + 6));
     }
     Ok(())
 }
@@ -124,31 +110,26 @@ fn is_step_zero(query: Query) -> bool
 }
 
 /// The log, against the formula of step(0).
-fn check_log(alloc: Global, program: &Program, limit: u32, log: &Log) -> Result<(), RecheckFault>
+fn check_log(alloc: Global, program: &Program, limit: u32, log: &Log) -> Result<(), LogStop>
     requires bits { length program.now.bits.items ≤ MAX_INPUTS }
     requires limit { limit ≤ MAX_STEP_GATES }
     ensures { JudgesLog limit (program_tree program.now) log.now result }
 {
     let formula = match step_formula(alloc, program, limit) {
         Ok(formula) => formula,
-        Err(fault) => return Err(fault),
+        Err(GateFault::Limit) => return Err(LogStop::TooManyGates),
+        Err(GateFault::NoMemory) => return Err(LogStop::NoMemory),
     };
     let mut checker = Checker::make(alloc, formula.variables())?;
     match checker.check(&formula, log) {
         Verdict::Accepted => Ok(()),
-        Verdict::NoEmpty => Err(RecheckFault::Fault {
-            line: 5,
-            kind: Kind::NoEmpty,
-        }),
-        Verdict::Refused { line, kind } => Err(RecheckFault::Fault {
-            line: line as u64 + 5,
-            kind: Kind::Line(kind),
-        }),
+        Verdict::NoEmpty => Err(LogStop::NoEmpty),
+        Verdict::Refused { line, kind } => Err(LogStop::Line(line as u64 + 5, kind)),
     }
 }
 
 /// The formula of step(0), made from the program.
-fn step_formula(alloc: Global, program: &Program, limit: u32) -> Result<Formula, RecheckFault>
+fn step_formula(alloc: Global, program: &Program, limit: u32) -> Result<Formula, GateFault>
     requires bits { length program.now.bits.items ≤ MAX_INPUTS }
     requires limit { limit ≤ MAX_STEP_GATES }
     ensures formula { IfOk result (λ formula. formula ≡ step_formula (program_tree program.now)) }
@@ -158,23 +139,22 @@ fn step_formula(alloc: Global, program: &Program, limit: u32) -> Result<Formula,
 {
     match circuit(alloc, program, limit) {
         Ok(step) => formula_of(alloc, &step),
-        Err(GateFault::Limit) => Err(RecheckFault::TooManyGates),
-        Err(GateFault::NoMemory) => Err(RecheckFault::NoMemory),
+        Err(fault) => Err(fault),
     }
 }
 
 /// The clauses of step(0) of a circuit.
-fn formula_of(alloc: Global, step: &StepCircuit) -> Result<Formula, RecheckFault>
+fn formula_of(alloc: Global, step: &StepCircuit) -> Result<Formula, GateFault>
     requires fail { Names (length step.now.gates.nodes) step.now.fail }
     requires gates { gate_count step.now.gates.nodes ≤ MAX_STEP_GATES }
     ensures formula { IfOk result
         (λ formula. formula ≡ formula_over step.now.gates.nodes step.now.fail) }
     ensures small { IfOk result (λ formula. formula.variables < 2 ^ 31) }
-    ensures err { IfErr result (λ fault. fault ≡ RecheckFault.NoMemory) }
+    ensures err { IfErr result (λ fault. fault ≡ GateFault.NoMemory) }
 {
     let mut formula = Formula::make(alloc, variables(&step.gates))?;
     match push_step(&step.gates, step.fail, &mut formula) {
         Ok(()) => Ok(formula),
-        Err(_) => Err(RecheckFault::NoMemory),
+        Err(_) => Err(GateFault::NoMemory),
     }
 }

@@ -11,6 +11,7 @@ mod check;
 mod fault;
 mod form;
 pub mod laws;
+mod stop;
 
 pub use check::{MAX_STEP_GATES, check_certificate};
 pub use fault::{Kind, RecheckFault};
