@@ -16,12 +16,13 @@ use Rattle.pv_mean.specs.ProjectSizes.{project_tree}
 use Rattle.pv_first_form.specs.FirstForm.{IsFirstOperand}
 use Rattle.pv_first_form.specs.Programs.{first_source, program_of as program_of_source}
 use Rattle.pv_pattern.specs.Patterns.{invariant}
+use Rattle.pv_pattern_read.specs.declared.fault.TextFault.{TextFault}
+use Rattle.pv_pattern_read.specs.Answers.{AnswersText}
 use Rattle.pv_case.specs.declared.case.TheConstants.{MAX_SOURCES}
 use Rattle.pv_case.specs.declared.case.Case.{Case}
 use Rattle.pv_case.specs.declared.case.Symbol.{Symbol}
 use Rattle.pv_case.specs.Cases.{source_data, symbol_data, CaseData, data_of}
 use Rattle.pv_load.specs.declared.source.SourceStop.{SourceStop}
-use Rattle.pv_load.specs.declared.fit.FitStop.{FitStop}
 use Rattle.pv_load.specs.declared.subject.SubjectStop.TheVariants.{Source as At_source}
 use Rattle.pv_load.specs.Held.{Counts}
 use Rattle.pv_load.specs.Subjects.{Given, Entered, blocks_of, project_of, scope_of, HasPattern}
@@ -32,7 +33,7 @@ use Rattle.pv_recheck_command.specs.declared.recheck.RecheckStop.{RecheckStop}
 use Rattle.pv_recheck_command.specs.Forms.{IsFirstCase, IsFirstAlone, AreFirst}
 use Rattle.pv_recheck_command.specs.Refusals.{StopsAsAny}
 use Rattle.pv_recheck_command.specs.Rechecks.{recheck_stop_status}
-use Rattle.pv_recheck_command.specs.Made.{AnswersOne}
+use Rattle.pv_recheck_command.specs.Made.{requirement_in}
 use Rattle.pv_recheck_command.proofs.Requirements.{same_scope, in_scope, requirement_found, requirement_stopped}
 
 -- ---- options and stops
@@ -112,10 +113,10 @@ module _ (given : Given) (entered : Entered) (case : Case) (project : Project) (
       let P : List BlockTree → Type 0 = λ bs. slice_get bs entry ≡ Some entered.block in
       subst P (sym (ap (λ (p : ProjectTree). p.blocks) is.same)) there
 
-  abbrev pub AnswersThere : Result Expr FitStop → Type 0
-  AnswersThere result = AnswersOne (record { project = project_tree project; block = entered.block }) text result
+  abbrev pub AnswersThere : Result Expr TextFault → Type 0
+  AnswersThere result = AnswersText (record { project = project_tree project; block = entered.block }) text result
 
-  in_given : (result : Result Expr FitStop) → AnswersThere result → AnswersOne (scope_of given entered) text result
+  in_given : (result : Result Expr TextFault) → AnswersThere result → AnswersText (scope_of given entered) text result
   in_given result is_there =
       in_scope (record { project = project_tree project; block = entered.block }) (scope_of given entered) text result
       (same_scope (project_tree project) (project_of given) entered.block entered.block is.same refl) is_there
@@ -123,10 +124,11 @@ module _ (given : Given) (entered : Entered) (case : Case) (project : Project) (
   the_text : given.case.expressions ≡ text ∷ []
   the_text = sym of_case.expressions ∙ only
 
-  pub answer_found : (result : Result Expr FitStop) → AnswersThere result → IfOk result (λ e. HasPattern given entered (invariant (expr_tree e)))
+  pub answer_found : (result : Result Expr TextFault) → AnswersThere result
+      → IfOk (requirement_in result) (λ e. HasPattern given entered (invariant (expr_tree e)))
   answer_found (Ok e) answers = requirement_found given entered text e first the_text (in_given (Ok e) answers)
-  answer_found (Err stop) answers = tt
+  answer_found (Err fault) answers = tt
 
-  pub answer_stopped : (result : Result Expr FitStop) → AnswersThere result → IfErr result (StopsFit given entered)
+  pub answer_stopped : (result : Result Expr TextFault) → AnswersThere result → IfErr (requirement_in result) (StopsFit given entered)
   answer_stopped (Ok e) answers = tt
-  answer_stopped (Err stop) answers = requirement_stopped given entered text stop first the_text (in_given (Err stop) answers)
+  answer_stopped (Err fault) answers = requirement_stopped given entered text fault first the_text (in_given (Err fault) answers)

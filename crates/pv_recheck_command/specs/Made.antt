@@ -4,23 +4,15 @@ use Rattle.pv_edge.specs.Files.{FileMap}
 use Rattle.pv_types.specs.declared.layout.TheConstants.{MAX_LEAVES}
 use Rattle.pv_tree.specs.declared.expr.Expr.{Expr}
 use Rattle.pv_tree.specs.Tree.{ExprTree}
-use Rattle.pv_tree.specs.View.{expr_tree}
-use Rattle.pv_tree.specs.Rules.{Rule}
-use Rattle.pv_tree.specs.Scopes.{Scope}
 use Rattle.pv_bool.specs.declared.program.Program.{Program}
 use Rattle.pv_bool.specs.Programs.{program_tree}
-use Rattle.pv_pattern.specs.Texts as texts
-use Rattle.pv_pattern.specs.Texts.{IsAtFault, Says}
 use Rattle.pv_pattern_read.specs.declared.fault.TextFault.{TextFault}
 use Rattle.pv_pattern_read.specs.declared.fault.TextFault.TheVariants as text_fault
 use Rattle.pv_load.specs.declared.reading.ReadStop.{ReadStop}
 use Rattle.pv_load.specs.declared.reading.ReadStop.TheVariants as read_stop
 use Rattle.pv_load.specs.declared.fit.FitStop.{FitStop}
 use Rattle.pv_load.specs.declared.fit.FitStop.TheVariants as fit_stop
-use Rattle.pv_load.specs.Refusals.{FitRefusal, not_an_input, bound_range, pattern_text, pattern_rule, brief_cell, not_bool}
 use Rattle.pv_load.specs.Subjects.{Given, SubjectData}
-use Rattle.pv_load.specs.Stopped.{StopsAt, asks_none}
-use Rattle.pv_load.specs.Stops.{fit_stopped}
 use Rattle.pv_recheck_command.specs.declared.certificate.CertificateStop.{CertificateStop}
 use Rattle.pv_recheck_command.specs.declared.certificate.CertificateStop.TheVariants as certificate_stop
 use Rattle.pv_recheck_command.specs.declared.subject.FirstSubject.{FirstSubject}
@@ -39,19 +31,10 @@ of_text text_fault.BriefCell = fit_stop.BriefCell 0
 of_text text_fault.NotBool = fit_stop.NotBool 0
 of_text text_fault.NoMemory = fit_stop.NoMemory
 
--- the one text is refused so
-abbrev pub RefusesText : Scope → List ℕ → FitRefusal → Type 0
-RefusesText scope text (not_an_input path) = ⊥
-RefusesText scope text (bound_range path) = ⊥
-RefusesText scope text (pattern_text n) = (n ≡ 0) × IsAtFault scope text texts.unread
-RefusesText scope text (pattern_rule n) = (n ≡ 0) × (rule : Rule) × IsAtFault scope text (texts.broken rule)
-RefusesText scope text (brief_cell n) = (n ≡ 0) × IsAtFault scope text texts.brief_cell
-RefusesText scope text (not_bool n) = (n ≡ 0) × IsAtFault scope text texts.no_bool
-
--- the text says this of a scan, or is refused so
-abbrev pub AnswersOne : Scope → List ℕ → Result Expr FitStop → Type 0
-AnswersOne scope text (Ok e) = Says scope text (expr_tree e)
-AnswersOne scope text (Err stop) = StopsAt asks_none (RefusesText scope text) (fit_stopped stop)
+-- the requirement that a text was found to be, or the stop by its fault
+abbrev pub requirement_in : Result Expr TextFault → Result Expr FitStop
+requirement_in (Ok e) = Ok e
+requirement_in (Err fault) = Err (of_text fault)
 
 -- the Boolean program of what is given and of the requirement that its case has, all of it of the form
 pub record IsProgramOf (told : Option FileMap) (file : List ℕ) (given : Given) (program : Program) : Type 0 where

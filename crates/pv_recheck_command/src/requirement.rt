@@ -4,13 +4,13 @@ ghost use Rattle.pv_lex.specs.declared.lex.TheConstants.{MAX_SOURCE};
 ghost use Rattle.pv_tree.specs.Tree.{BlockTree};
 ghost use Rattle.pv_tree.specs.View.{block_tree, expr_tree};
 ghost use Rattle.pv_mean.specs.ProjectSizes.{project_tree};
-ghost use Rattle.pv_names.specs.InScope.{scope_of};
 ghost use Rattle.pv_pattern.specs.Patterns.{invariant};
+ghost use Rattle.pv_pattern_read.specs.Answers.{AnswersText};
 ghost use Rattle.pv_load.specs.Subjects.{Given, blocks_of, Entered, HasPattern};
 ghost use Rattle.pv_load.specs.Stops.{StopsFit};
 ghost use Rattle.pv_load.specs.Made.{IsCase, IsProjectOf};
 ghost use Rattle.pv_recheck_command.specs.Forms.{IsFirstCase};
-ghost use Rattle.pv_recheck_command.specs.Made.{of_text, AnswersOne};
+ghost use Rattle.pv_recheck_command.specs.Made.{of_text, requirement_in};
 
 use pv_case::Case;
 use pv_load::FitStop;
@@ -32,28 +32,27 @@ fn stop_of(fault: TextFault) -> FitStop
     }
 }
 
-/// The expression that the text is in the block.
-fn said_in(scope: &Scope, alloc: Global, text: &str) -> Result<Expr, FitStop>
-    requires { length text.now ≤ MAX_SOURCE }
-    ensures { AnswersOne (scope_of scope.now) text.now result }
+/// The requirement that a text was found to be, or why a command stops at it.
+fn requirement_in(said: Result<Expr, TextFault>) -> Result<Expr, FitStop>
+    ensures { result ≡ requirement_in said }
 {
-    match said(scope, alloc, text) {
+    match said {
         Ok(e) => Ok(e),
         Err(fault) => Err(stop_of(fault)),
     }
 }
 
 /// What the text says over the names of the block of this number.
-fn said_at(alloc: Global, project: &Project, entry: u32, text: &str) -> Result<Expr, FitStop>
+fn said_at(alloc: Global, project: &Project, entry: u32, text: &str) -> Result<Expr, TextFault>
     requires short { length text.now ≤ MAX_SOURCE }
     ensures { (block : BlockTree) → slice_get (map block_tree project.now.blocks.list.items) entry ≡ Some block
-        → AnswersOne (record { project = project_tree project.now; block = block }) text.now result }
+        → AnswersText (record { project = project_tree project.now; block = block }) text.now result }
 {
     let Ok(list) = entries(alloc, project.blocks().list.as_slice()) else {
-        return Err(FitStop::NoMemory);
+        return Err(TextFault::NoMemory);
     };
     let Ok(tables) = Tables::of(alloc, list.as_slice(), project.symbols()) else {
-        return Err(FitStop::NoMemory);
+        return Err(TextFault::NoMemory);
     };
     match tables.entries().get(entry as usize) {
         Some(entered) => {
@@ -61,9 +60,9 @@ fn said_at(alloc: Global, project: &Project, entry: u32, text: &str) -> Result<E
                 tables: &tables,
                 entry: entered,
             };
-            said_in(&scope, alloc, text)
+            said(&scope, alloc, text)
         }
-        None => Err(FitStop::NoMemory),
+        None => Err(TextFault::NoMemory),
     }
 }
 
@@ -93,7 +92,7 @@ pub(crate) fn requirement_of(
         → IfErr result (StopsFit given entered) }
 {
     match only_text(case) {
-        Some(text) => said_at(alloc, project, entry, text.as_str()),
+        Some(text) => requirement_in(said_at(alloc, project, entry, text.as_str())),
         None => Err(FitStop::NoMemory),
     }
 }

@@ -22,4 +22,4 @@ returns-in-Some c = λ block there.
     (ltb-true c.args.entry (length c.entries-2.result.now) (sym c.in-Some.ensures.lookup.0)) c.in-Some.ensures.lookup.1
     (ap (λ l. slice_get l c.args.entry) (c.entries-2.ensures ∙ blocks) ∙ there) in
     in_scope (record { project = project_of tables; block = block_of entered }) (record { project = project_tree c.args.project.now; block = block })
-    c.args.text.now c.said_in.result (same_scope (project_of tables) (project_tree c.args.project.now) (block_of entered) block made is) c.said_in.ensures
+    c.args.text.now c.said.result (same_scope (project_of tables) (project_tree c.args.project.now) (block_of entered) block made is) c.said.ensures
