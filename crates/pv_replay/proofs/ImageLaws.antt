@@ -11,7 +11,7 @@ use Rattle.pv_word.specs.declared.types.Ty.TheVariants.{Bool as BoolType, Byte, 
 use Rattle.pv_word.specs.Types.{InRange}
 use Rattle.pv_machine.specs.declared.role.Role.{Role}
 use Rattle.pv_machine.specs.declared.role.Role.TheVariants.{Input, Param, Kept, Brief}
-use Rattle.pv_machine.specs.Roles.{is_input, is_stored}
+use Rattle.pv_machine.specs.Roles.{is_stored}
 use Rattle.pv_machine.specs.Ranges.{Range, range_of, range_at, IsWithin, AreWithin}
 use Rattle.pv_mean.specs.declared.cell.Cell.{Cell}
 use Rattle.pv_mean.specs.Frames.{first, others, is_free, range_of_cell, range_by, image_len, stored_cells, begin, image_after, start_image}
@@ -67,11 +67,11 @@ pub record IsBegun (roles : List Role) (image input : List ℤ) (n stored given 
   pub same : AreLong input → take n values ++ begin_by_roles (drop n roles) (drop stored image) (drop given input) ≡ begin_by_roles roles image input
 
 -- what begins from cell n on begins with its value
-begin-at : (roles : List Role) (image input : List ℤ) (n stored given : ℕ) (r : Role) (b : Bool) → n < length roles → is_input (get_or roles n r) ≡ b
+begin-at : (roles : List Role) (image input : List ℤ) (n stored given : ℕ) (r : Role) (b : Bool) → n < length roles → is_stored (get_or roles n r) ≡ b
     → begin_by_roles (drop n roles) (drop stored image) (drop given input)
-    ≡ begun b (get_or image stored (pos 0)) (get_or input given (pos 0)) ∷ begin_by_roles (drop (suc n) roles) (behind (not b) (drop stored image)) (behind b (drop given input))
+    ≡ begun b (get_or image stored (pos 0)) (get_or input given (pos 0)) ∷ begin_by_roles (drop (suc n) roles) (behind b (drop stored image)) (behind (not b) (drop given input))
 begin-at roles image input n stored given r b lt role =
-    let rest = λ (x : Bool). begin_by_roles (drop (suc n) roles) (behind (not x) (drop stored image)) (behind x (drop given input)) in
+    let rest = λ (x : Bool). begin_by_roles (drop (suc n) roles) (behind x (drop stored image)) (behind (not x) (drop given input)) in
     ap (λ l. begin_by_roles l (drop stored image) (drop given input)) (drop-cons roles n r lt)
     ∙ ap (λ x. begun x (first (drop stored image)) (first (drop given input)) ∷ rest x) role
     ∙ ap (λ v. begun b v (first (drop given input)) ∷ rest b) (first-drop image stored)
@@ -86,7 +86,7 @@ put n values v w rest whole lt is so_far =
 
 -- an input takes the next value of the input
 pub begin-input : (roles : List Role) (image input : List ℤ) (n stored given next after : ℕ) (values changed : List ℤ) (r : Role) (v : ℤ) → length values ≡ length roles → n < length roles
-    → r ≡ get_or roles n r → is_input r ≡ true → next ≡ suc n → after ≡ suc given → changed ≡ set values n v → (AreLong input → v ≡ get_or input given (pos 0))
+    → r ≡ get_or roles n r → is_stored r ≡ false → next ≡ suc n → after ≡ suc given → changed ≡ set values n v → (AreLong input → v ≡ get_or input given (pos 0))
     → IsBegun roles image input n stored given values → IsBegun roles image input next stored after changed
 begin-input roles image input n stored given next after values changed r v len lt at role is_next is_after is_changed is so_far =
     let P : ℕ → Type 0 = λ m. IsBegun roles image input m stored after changed in
@@ -97,13 +97,13 @@ begin-input roles image input n stored given next after values changed r v len l
       given_few = omega (arith, so_far.given_few);
       same = λ long. put n values v (get_or input given (pos 0)) (begin_by_roles (drop (suc n) roles) (drop stored image) (drop (suc given) input)) (begin_by_roles roles image input) (omega (arith, len, lt)) (is long)
           (ap (λ l. take n values ++ get_or input given (pos 0) ∷ begin_by_roles (drop (suc n) roles) (drop stored image) l) (sym (others-drop input given))
-          ∙ ap (λ l. take n values ++ l) (sym (begin-at roles image input n stored given r true lt (ap is_input (sym at) ∙ role)))
+          ∙ ap (λ l. take n values ++ l) (sym (begin-at roles image input n stored given r false lt (ap is_stored (sym at) ∙ role)))
           ∙ so_far.same long);
     })))
 
--- any other cell takes the next value of the image
+-- a stored cell takes the next value of the image
 pub begin-stored : (roles : List Role) (image input : List ℤ) (n stored given next after : ℕ) (values changed : List ℤ) (r : Role) (v : ℤ) → length values ≡ length roles → n < length roles
-    → r ≡ get_or roles n r → is_input r ≡ false → next ≡ suc n → after ≡ suc stored → changed ≡ set values n v → v ≡ get_or image stored (pos 0)
+    → r ≡ get_or roles n r → is_stored r ≡ true → next ≡ suc n → after ≡ suc stored → changed ≡ set values n v → v ≡ get_or image stored (pos 0)
     → IsBegun roles image input n stored given values → IsBegun roles image input next after given changed
 begin-stored roles image input n stored given next after values changed r v len lt at role is_next is_after is_changed is so_far =
     let P : ℕ → Type 0 = λ m. IsBegun roles image input m after given changed in
@@ -114,7 +114,7 @@ begin-stored roles image input n stored given next after values changed r v len 
       given_few = omega (arith, so_far.given_few);
       same = λ long. put n values v (get_or image stored (pos 0)) (begin_by_roles (drop (suc n) roles) (drop (suc stored) image) (drop given input)) (begin_by_roles roles image input) (omega (arith, len, lt)) is
           (ap (λ l. take n values ++ get_or image stored (pos 0) ∷ begin_by_roles (drop (suc n) roles) l (drop given input)) (sym (others-drop image stored))
-          ∙ ap (λ l. take n values ++ l) (sym (begin-at roles image input n stored given r false lt (ap is_input (sym at) ∙ role)))
+          ∙ ap (λ l. take n values ++ l) (sym (begin-at roles image input n stored given r true lt (ap is_stored (sym at) ∙ role)))
           ∙ so_far.same long);
     })))
 
@@ -136,25 +136,25 @@ pub record IsKept (roles : List Role) (start values : List ℤ) (n stored : ℕ)
   pub count : stored + stored_count (drop n roles) ≡ length image
   pub same : take stored image ++ left_of (drop n roles) (drop stored image) (drop n values) ≡ left_of roles start values
 
-count-input : (r : Role) (rs : List Role) → is_input r ≡ true → stored_count (r ∷ rs) ≡ stored_count rs
-count-input r rs h = ap (λ b. length (cond (not b) (r ∷ filter (λ q. not (is_input q)) rs) (filter (λ q. not (is_input q)) rs))) h
+count-input : (r : Role) (rs : List Role) → is_stored r ≡ false → stored_count (r ∷ rs) ≡ stored_count rs
+count-input r rs h = ap (λ b. length (cond b (r ∷ filter is_stored rs) (filter is_stored rs))) h
 
-count-stored : (r : Role) (rs : List Role) → is_input r ≡ false → stored_count (r ∷ rs) ≡ suc (stored_count rs)
-count-stored r rs h = ap (λ b. length (cond (not b) (r ∷ filter (λ q. not (is_input q)) rs) (filter (λ q. not (is_input q)) rs))) h
+count-stored : (r : Role) (rs : List Role) → is_stored r ≡ true → stored_count (r ∷ rs) ≡ suc (stored_count rs)
+count-stored r rs h = ap (λ b. length (cond b (r ∷ filter is_stored rs) (filter is_stored rs))) h
 
-left-input : (r : Role) (rs : List Role) (image values : List ℤ) → is_input r ≡ true → left_of (r ∷ rs) image values ≡ left_of rs image (others values)
-left-input r rs image values h = ap (λ b. cond b (left_of rs image (others values)) (left r (first image) (first values) ∷ left_of rs (others image) (others values))) h
+left-input : (r : Role) (rs : List Role) (image values : List ℤ) → is_stored r ≡ false → left_of (r ∷ rs) image values ≡ left_of rs image (others values)
+left-input r rs image values h = ap (λ b. cond b (left r (first image) (first values) ∷ left_of rs (others image) (others values)) (left_of rs image (others values))) h
 
-left-stored : (r : Role) (rs : List Role) (image values : List ℤ) → is_input r ≡ false
+left-stored : (r : Role) (rs : List Role) (image values : List ℤ) → is_stored r ≡ true
     → left_of (r ∷ rs) image values ≡ left r (first image) (first values) ∷ left_of rs (others image) (others values)
-left-stored r rs image values h = ap (λ b. cond b (left_of rs image (others values)) (left r (first image) (first values) ∷ left_of rs (others image) (others values))) h
+left-stored r rs image values h = ap (λ b. cond b (left r (first image) (first values) ∷ left_of rs (others image) (others values)) (left_of rs image (others values))) h
 
 pub keep-input : (roles : List Role) (start values : List ℤ) (n stored next : ℕ) (image : List ℤ) (r : Role) → n < length roles
-    → r ≡ get_or roles n r → is_input r ≡ true → next ≡ suc n
+    → r ≡ get_or roles n r → is_stored r ≡ false → next ≡ suc n
     → IsKept roles start values n stored image → IsKept roles start values next stored image
 keep-input roles start values n stored next image r lt at role is_next so_far =
     let P : ℕ → Type 0 = λ m. IsKept roles start values m stored image in
-    let own : is_input (get_or roles n r) ≡ true = ap is_input (sym at) ∙ role in
+    let own : is_stored (get_or roles n r) ≡ false = ap is_stored (sym at) ∙ role in
     let counted : stored_count (drop n roles) ≡ stored_count (drop (suc n) roles) = ap stored_count (drop-cons roles n r lt) ∙ count-input (get_or roles n r) (drop (suc n) roles) own in
     subst P (sym is_next) (record {
       count = omega (arith, so_far.count, counted);
@@ -164,19 +164,19 @@ keep-input roles start values n stored next image r lt at role is_next so_far =
     })
 
 pub keep-within : (roles : List Role) (start values : List ℤ) (n stored : ℕ) (image : List ℤ) (r : Role) → n < length roles
-    → r ≡ get_or roles n r → is_input r ≡ false → IsKept roles start values n stored image → stored < length image
+    → r ≡ get_or roles n r → is_stored r ≡ true → IsKept roles start values n stored image → stored < length image
 keep-within roles start values n stored image r lt at role so_far =
-    let counted : stored_count (drop n roles) ≡ suc (stored_count (drop (suc n) roles)) = ap stored_count (drop-cons roles n r lt) ∙ count-stored (get_or roles n r) (drop (suc n) roles) (ap is_input (sym at) ∙ role) in
+    let counted : stored_count (drop n roles) ≡ suc (stored_count (drop (suc n) roles)) = ap stored_count (drop-cons roles n r lt) ∙ count-stored (get_or roles n r) (drop (suc n) roles) (ap is_stored (sym at) ∙ role) in
     omega (arith, so_far.count, counted)
 
 pub keep-stored : (roles : List Role) (start values : List ℤ) (n stored next after : ℕ) (image changed : List ℤ) (r : Role) (v : ℤ) → n < length roles
-    → r ≡ get_or roles n r → is_input r ≡ false → next ≡ suc n → after ≡ suc stored → changed ≡ set image stored v → length changed ≡ length image
+    → r ≡ get_or roles n r → is_stored r ≡ true → next ≡ suc n → after ≡ suc stored → changed ≡ set image stored v → length changed ≡ length image
     → v ≡ left r (get_or image stored (pos 0)) (get_or values n (pos 0))
     → IsKept roles start values n stored image → IsKept roles start values next after changed
 keep-stored roles start values n stored next after image changed r v lt at role is_next is_after is_changed len is so_far =
     let P : ℕ → Type 0 = λ m. IsKept roles start values m after changed in
     let Q : ℕ → Type 0 = λ m. IsKept roles start values (suc n) m changed in
-    let own : is_input (get_or roles n r) ≡ false = ap is_input (sym at) ∙ role in
+    let own : is_stored (get_or roles n r) ≡ true = ap is_stored (sym at) ∙ role in
     let counted : stored_count (drop n roles) ≡ suc (stored_count (drop (suc n) roles)) = ap stored_count (drop-cons roles n r lt) ∙ count-stored (get_or roles n r) (drop (suc n) roles) own in
     let within : stored < length image = keep-within roles start values n stored image r lt at role so_far in
     let rest = left_of (drop (suc n) roles) (drop (suc stored) image) (drop (suc n) values) in

@@ -3,7 +3,7 @@ use Rattle.std.specs.Prelude.{ℕ, ◌^◌, ◌<◌, ℤ, pos, neg_ℤ, ◌≤�
 use Rattle.pv_word.specs.Types.{InRange}
 use Rattle.pv_machine.specs.declared.role.Role.{Role}
 use Rattle.pv_machine.specs.declared.role.Role.TheVariants.{Input, Param, Kept, Brief}
-use Rattle.pv_machine.specs.Roles.{is_input}
+use Rattle.pv_machine.specs.Roles.{is_stored}
 use Rattle.pv_mean.specs.declared.cell.Cell.{Cell}
 use Rattle.pv_mean.specs.Frames.{first, others, visible_cells}
 use Rattle.pv_mean.specs.Correct.{BindsInRange}
@@ -21,14 +21,14 @@ roles_of cells = map (λ c. c.role) (visible_cells cells)
 
 -- how many of them an image has
 abbrev pub stored_count : List Role → ℕ
-stored_count roles = length (filter (λ r. not (is_input r)) roles)
+stored_count roles = length (filter is_stored roles)
 
 -- ---- a scan's beginning
 
--- a visible cell takes the next value of the input, or of the image
+-- a stored cell takes the next value of the image, and an input of the input
 abbrev pub begun : Bool → ℤ → ℤ → ℤ
-begun true stored given = given
-begun false stored given = stored
+begun true stored given = stored
+begun false stored given = given
 
 -- what is left of the values, where the next one is taken
 abbrev pub behind : Bool → List ℤ → List ℤ
@@ -37,8 +37,8 @@ behind false values = values
 
 abbrev pub begin_by_roles : List Role → List ℤ → List ℤ → List ℤ
 begin_by_roles [] image input = []
-begin_by_roles (r ∷ rs) image input = begun (is_input r) (first image) (first input)
-    ∷ begin_by_roles rs (behind (not (is_input r)) image) (behind (is_input r) input)
+begin_by_roles (r ∷ rs) image input = begun (is_stored r) (first image) (first input)
+    ∷ begin_by_roles rs (behind (is_stored r) image) (behind (not (is_stored r)) input)
 
 -- ---- what a scan leaves
 
@@ -51,8 +51,9 @@ left Brief own end = own
 
 abbrev pub left_of : List Role → List ℤ → List ℤ → List ℤ
 left_of [] image values = []
-left_of (r ∷ rs) image values = cond (is_input r) (left_of rs image (others values))
+left_of (r ∷ rs) image values = cond (is_stored r)
     (left r (first image) (first values) ∷ left_of rs (others image) (others values))
+    (left_of rs image (others values))
 
 -- ---- a run's beginning
 

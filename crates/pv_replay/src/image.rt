@@ -38,7 +38,7 @@ fn long(v: i128) -> i64
     }
 }
 
-/// The visible cells at a scan's beginning: those of an input take the values of the input, and the others those of the image.
+/// The visible cells at a scan's beginning: the stored ones take the values of the image, and the inputs those of the input.
 pub(crate) fn begin(roles: &[Role], image: &[i64], input: &[i128], values: &mut [i64])
     requires { length values.old ≡ length roles.now }
     ensures { AreLong input.now → values.new ≡ begin_by_roles roles.now image.now input.now }
@@ -46,12 +46,12 @@ pub(crate) fn begin(roles: &[Role], image: &[i64], input: &[i128], values: &mut 
     let mut stored = 0;
     let mut given = 0;
     for (number, role) in roles.iter().enumerate() {
-        if role.is_input() {
-            values[number] = long(value_at(input, given));
-            given += 1;
-        } else {
+        if role.is_stored() {
             values[number] = stored_at(image, stored);
             stored += 1;
+        } else {
+            values[number] = long(value_at(input, given));
+            given += 1;
         }
     }
 }
@@ -74,7 +74,7 @@ pub(crate) fn keep(roles: &[Role], values: &[i64], image: &mut [i64])
 {
     let mut stored = 0;
     for (number, role) in roles.iter().enumerate() {
-        if !role.is_input() {
+        if role.is_stored() {
             image[stored] = left(*role, image[stored], values[number]);
             stored += 1;
         }

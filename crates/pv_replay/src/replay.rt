@@ -68,7 +68,7 @@ fn visible_roles(alloc: Global, cells: &[Cell]) -> Result<Vec<Role>, AllocError>
 fn count_stored(roles: &[Role]) -> usize
     ensures { result ≡ stored_count roles.now }
 {
-    roles.iter().filter(|role| !role.is_input()).count()
+    roles.iter().filter(|role| role.is_stored()).count()
 }
 
 /// The brief cells of eight blocks, of which none has more than these.
