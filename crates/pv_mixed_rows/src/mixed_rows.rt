@@ -40,7 +40,8 @@ an FB with its data block, from an OB~0 16~~~ORGANIZATION_BLOCK OB 1 BEGIN CALL 
 ranges within ranges in a called block, with turns of the caller~0 3~~~FUNCTION_BLOCK Demo VAR i, s : INT; END_VAR BEGIN L 3; o: T #i; CALL G (m := #s); L #i; LOOP o; END_FUNCTION_BLOCK FUNCTION G : VOID VAR_IN_OUT m : INT; END_VAR VAR_TEMP i : INT; END_VAR BEGIN L 2; a: T #i; L #m; L 1; +I; T #m; L 3; b: LOOP b; L #i; LOOP a; END_FUNCTION~start;=1 6;=1 12|\
 a temporary that isn't written~0 16~~~FUNCTION_BLOCK Demo VAR_INPUT b : BOOL; END_VAR VAR q : BOOL; END_VAR VAR_TEMP t : BOOL; END_VAR BEGIN A #b; JCN e; SET; = #t; e: ^A #t; = #q; END_FUNCTION_BLOCK~start;1=1 1;0=Unset ^|\
 an index traps at the instruction's word~0 16~~~FUNCTION_BLOCK Demo VAR_INPUT i : INT; END_VAR VAR a : ARRAY[1..2] OF INT; END_VAR BEGIN L 7; ^T #a[#i]; END_FUNCTION_BLOCK~start;2=2 0 7;1=1 7 7;3=Index ^|\
-the index of an output traps at CALL~0 16~~~FUNCTION_BLOCK Demo VAR_INPUT i : INT; END_VAR VAR a : ARRAY[1..2] OF INT; END_VAR BEGIN ^CALL G (y := #a[#i]); END_FUNCTION_BLOCK $ FUNCTION G : VOID VAR_OUTPUT y : INT; END_VAR y := 4; END_FUNCTION~start;2=2 0 4;0=Index ^";
+the index of an output traps at CALL~0 16~~~FUNCTION_BLOCK Demo VAR_INPUT i : INT; END_VAR VAR a : ARRAY[1..2] OF INT; END_VAR BEGIN ^CALL G (y := #a[#i]); END_FUNCTION_BLOCK $ FUNCTION G : VOID VAR_OUTPUT y : INT; END_VAR y := 4; END_FUNCTION~start;2=2 0 4;0=Index ^|\
+a number of its own makes a numbered name, beside a variable of that text~0 16~~~FUNCTION_BLOCK Demo VAR_INPUT a : INT; END_VAR VAR FC1_0 : INT; END_VAR BEGIN CALL FC 1_0 (x := #a, y := #FC1_0); L #FC1_0; L 1; +I; T #FC1_0; END_FUNCTION_BLOCK FUNCTION FC 1_0 : VOID VAR_INPUT x : INT; END_VAR VAR_OUTPUT y : INT; END_VAR BEGIN L #x; L 2; *I; T #y; END_FUNCTION~start;4=4 9;-1=-1 -1";
 
 #[test]
 fn scans_of_each_word(rt: HostRuntime) -> Result<(), Fail> {

@@ -114,7 +114,10 @@ INT; END_VAR IF b THEN t := 3; END_IF; G(m := ^t); q := t; END_FUNCTION_BLOCK FU
 END_FUNCTION~start;1=1 4;0=Unset ^|\
 an output to a temporary of the caller~0 16~~~FUNCTION_BLOCK Demo VAR_INPUT b : BOOL; END_VAR VAR_OUTPUT q : INT; END_VAR VAR_TEMP t : \
 ARRAY[1..2] OF INT; END_VAR IF b THEN G(y => t[2]); ELSE G(y := t[1]); END_IF; q := q + ^t[2]; END_FUNCTION_BLOCK FUNCTION G : VOID \
-VAR_OUTPUT y : INT; END_VAR y := 6; END_FUNCTION~start;1=1 6;1=1 12;0=Unset ^";
+VAR_OUTPUT y : INT; END_VAR y := 6; END_FUNCTION~start;1=1 6;1=1 12;0=Unset ^|\
+a number of its own makes a numbered name, beside a variable of that text~0 16~~~FUNCTION_BLOCK Demo VAR_INPUT a : INT; END_VAR VAR \
+FC1_0 : INT; END_VAR FC 1_0(x := a, y => FC1_0); FC1_0 := FC1_0 + 1; END_FUNCTION_BLOCK FUNCTION FC 1_0 : VOID VAR_INPUT x : INT; \
+END_VAR VAR_OUTPUT y : INT; END_VAR y := x * 2; END_FUNCTION~start;4=4 9;-1=-1 -1";
 
 #[test]
 fn calls_copy_in_and_out(rt: HostRuntime) -> Result<(), Fail> {
