@@ -1,10 +1,10 @@
 -- What works bit by bit, on 0 and 1 alone.
-use Rattle.std.proofs.Common.{◌≡◌, ℕ, zero, suc, ◌≤◌, ◌-◌, ◌+◌, ◌^◌, ap, sym, refl, ◌∙◌, arith}
-use Rattle.std.specs.Prelude.{ℤ, pos, negsuc, ◌≤ℤ◌, ◌-ℤ◌, bit_and, bit_or}
+use Rattle.std.proofs.Common.{◌≡◌, ℕ, zero, suc, ◌≤◌, ◌-◌, ◌+◌, ap, sym, refl, ◌∙◌, arith}
+use Rattle.std.specs.Prelude.{ℤ, pos, negsuc, ◌-ℤ◌, bit_and, bit_or}
 use Rattle.std.proofs.lemmas.Int.{ints}
 use Rattle.pv_word.specs.declared.types.Ty.{Ty}
 use Rattle.pv_word.specs.declared.types.Ty.TheVariants.{Bool, Byte, Word, Dword, Int, Dint, Time}
-use Rattle.pv_word.specs.Types.{width_of, InRange, wrap_of, pattern_of, and_of, or_of, not_of}
+use Rattle.pv_word.specs.Types.{InRange, wrap_of, pattern_of, and_of, or_of, not_of}
 use Rattle.pv_mean.specs.Values.{lesser, greater}
 use Rattle.pv_eval.specs.Operators.{IsBit}
 use Rattle.pv_eval.proofs.OperatorLaws.{own, own_pattern}

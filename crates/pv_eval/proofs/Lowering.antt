@@ -5,7 +5,7 @@ use Rattle.std.proofs.Common.{◌⊎◌, inl, inr}
 use Rattle.std.proofs.lemmas.Bool.{cases_lt}
 use Rattle.std.proofs.lemmas.List.{get_or_append_left, get_or_at, get_or-set_same, get_or-set_other}
 use Rattle.pv_machine.specs.declared.place.Place.{Place}
-use Rattle.pv_mean.specs.Frames.{Frame, visible_value}
+use Rattle.pv_mean.specs.Frames.{Frame}
 use Rattle.pv_mean.specs.Endings.{Tried, Value, got, trap, and_then}
 use Rattle.pv_mean.specs.Spots.{read_spot}
 use Rattle.pv_eval.specs.declared.node.Spot.{Spot}
@@ -16,16 +16,15 @@ use Rattle.pv_eval.specs.declared.node.Node.{Node}
 use Rattle.pv_eval.specs.declared.node.Node.TheVariants as node
 use Rattle.pv_eval.specs.declared.op.Arg.{Arg}
 use Rattle.pv_eval.specs.declared.op.Arg.TheVariants as arg
-use Rattle.pv_eval.specs.declared.op.Access.{Access}
 use Rattle.pv_eval.specs.declared.op.Access.TheVariants as access
 use Rattle.pv_eval.specs.declared.op.Deed.{Deed}
 use Rattle.pv_eval.specs.declared.op.Deed.TheVariants as deed
 use Rattle.pv_eval.specs.declared.op.Op.{Op}
 use Rattle.pv_eval.specs.Operators.{one_result, two_result, three_result}
-use Rattle.pv_eval.specs.Operands.{at, spot_of, spot_in, spot_at, span, IsOperand}
+use Rattle.pv_eval.specs.Operands.{at, spot_of, spot_in, spot_at, IsOperand}
 use Rattle.pv_eval.specs.Nodes.{node_value, run}
-use Rattle.pv_eval.specs.Order.{AreBelow, most_of, most_at, MayFollow, AreNodes, AreWithin, IsRoomFor}
-use Rattle.pv_eval.specs.Ops.{fetched, accessed, done, cell_number, run_ops, IsAccess, HasSpot, AreOps}
+use Rattle.pv_eval.specs.Order.{AreBelow, most_of, MayFollow, AreNodes, AreWithin, IsRoomFor}
+use Rattle.pv_eval.specs.Ops.{fetched, done, cell_number, run_ops, IsAccess, HasSpot, AreOps}
 use Rattle.pv_eval.specs.Lowered.{copied_spot, copied_operand, copied, arg_of, access_of, read_of, deed_of, with_op, ops_of}
 use Rattle.pv_eval.proofs.Numbers.{room_for, most_value, within_push, number_same}
 

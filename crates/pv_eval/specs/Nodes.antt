@@ -1,11 +1,10 @@
 -- What nodes do: one after the other, each adds its value to those of the nodes before it, and the first trap decides.
-use Rattle.std.specs.Prelude.{ℕ, ◌+◌, ℤ, pos, unsigned_abs, int_le, List, [], ◌∷◌, ◌++◌, take, ◌&&◌, if◌then◌else◌, Result, Ok, Err}
+use Rattle.std.specs.Prelude.{ℕ, ◌+◌, ℤ, pos, unsigned_abs, int_le, List, [], ◌∷◌, ◌++◌, ◌&&◌, if◌then◌else◌}
 use Rattle.pv_machine.specs.declared.place.Place.{Place}
 use Rattle.pv_machine.specs.declared.trap.TrapKind.TheVariants.{Index}
 use Rattle.pv_mean.specs.Frames.{Frame}
 use Rattle.pv_mean.specs.Endings.{Tried, Value, got, trap, and_then}
 use Rattle.pv_mean.specs.Spots.{read_spot}
-use Rattle.pv_eval.specs.declared.trap.Trap.{Trap}
 use Rattle.pv_eval.specs.declared.node.Node.{Node}
 use Rattle.pv_eval.specs.declared.node.Node.TheVariants.{Constant, Read, One, Two, Three, Element}
 use Rattle.pv_eval.specs.Operators.{one_result, two_result, three_result}
@@ -35,8 +34,3 @@ run first frame [] values = got values
 run first frame (node ∷ more) values =
     and_then (node_value first frame values node)
     (λ v. run first frame more (values ++ v ∷ []))
-
--- what is left of a run of so many nodes
-abbrev pub left_by : Result Unit Trap → ℕ → List ℤ → Tried (List ℤ)
-left_by (Ok done) n values = got (take n values)
-left_by (Err t) n values = trap t.kind t.place

@@ -1,21 +1,17 @@
 -- That operations read spots has one proof at most, as a struct's invariant must.
-use Rattle.std.specs.Prelude.{ℕ, List, Option, Some, None}
-use Rattle.std.specs.Coded.{×_prop}
+use Rattle.std.specs.Prelude.{List}
 use Rattle.std.proofs.Props.{props}
 use Rattle.pv_eval.specs.declared.node.Spot.{Spot}
 use Rattle.pv_eval.specs.declared.node.Spot.TheVariants.{Visible, Brief, Bit, Bytes, Fixed, Nowhere}
-use Rattle.pv_eval.specs.declared.node.Operand.{Operand}
 use Rattle.pv_eval.specs.declared.node.Operand.TheVariants as operand
-use Rattle.pv_eval.specs.declared.node.Node.{Node}
-use Rattle.pv_eval.specs.declared.node.Node.TheVariants.{Constant, Read, One, Two, Three, Element}
-use Rattle.pv_eval.specs.Operands.{span, IsSpot, IsOperand}
+use Rattle.pv_eval.specs.declared.node.Node.TheVariants.{Read, One, Two, Three, Element}
+use Rattle.pv_eval.specs.Operands.{IsSpot}
 use Rattle.pv_eval.specs.declared.op.Access.{Access}
 use Rattle.pv_eval.specs.declared.op.Access.TheVariants as access
 use Rattle.pv_eval.specs.declared.op.Deed.{Deed}
 use Rattle.pv_eval.specs.declared.op.Deed.TheVariants as deed
 use Rattle.pv_eval.specs.declared.op.Op.{Op}
 use Rattle.pv_eval.specs.Ops.{IsAccess, HasSpot, AreOps}
-use Rattle.pv_eval.specs.Order.{AreBelow, IsMost, most_at, HasMost, MayFollow, AreNodes}
 
 IsSpot-prop : (s : Spot) → IsProp (IsSpot s)
 IsSpot-prop (Visible n) = hlevel props

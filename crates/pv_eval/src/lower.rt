@@ -1,8 +1,5 @@
 //! Nodes lowered to operations.
 ghost use Rattle.std.specs.Prelude.{◌≡◌, IfOk};
-ghost use Rattle.pv_eval.specs.Order.{AreNodes};
-ghost use Rattle.pv_eval.specs.Operands.{IsOperand};
-ghost use Rattle.pv_eval.specs.Ops.{AreOps, IsAccess};
 ghost use Rattle.pv_eval.specs.Lowered.{copied_spot, copied_operand, copied, arg_of, access_of, read_of, deed_of, ops_of};
 
 use crate::node::{Node, Operand, Spot};

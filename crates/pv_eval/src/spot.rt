@@ -1,5 +1,5 @@
 //! Reads and writes of spots.
-ghost use Rattle.std.specs.Prelude.{◌≡◌, ◌+◌, ◌<◌, ◌≤◌, ◌^◌, length};
+ghost use Rattle.std.specs.Prelude.{◌≡◌, ◌+◌, ◌<◌, ◌≤◌, ◌^◌};
 ghost use Rattle.pv_word.specs.Types.{pattern_of};
 ghost use Rattle.pv_word.specs.declared.types.Ty.TheVariants.{Byte};
 ghost use Rattle.pv_mean.specs.Spots.{read_spot, told, number_of_bytes};

@@ -19,7 +19,7 @@ use crate::making::{only, pair, triple};
 use crate::term::term_of;
 use pv_case::PatternKind;
 use pv_mean::Sizes;
-use pv_names::{Entry, Scope, Tables, entries};
+use pv_names::{Scope, Tables, entries};
 use pv_pattern::{Pattern, Term};
 use pv_resolve::{AreaBytes, Context, context_of};
 use pv_tree::Project;

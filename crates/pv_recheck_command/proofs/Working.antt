@@ -9,7 +9,7 @@ use Rattle.pv_tree.specs.declared.expr.Expr.{Expr}
 use Rattle.pv_tree.specs.declared.kept.Project.{Project}
 use Rattle.pv_tree.specs.Tree.{ExprTree, OperandTree, BlockTree}
 use Rattle.pv_tree.specs.View.{block_tree, expr_tree}
-use Rattle.pv_tree.specs.Scopes.{SymbolTree, ProjectTree, Scope}
+use Rattle.pv_tree.specs.Scopes.{SymbolTree, ProjectTree}
 use Rattle.pv_bool.specs.declared.program.Program.{Program}
 use Rattle.pv_bool.specs.Programs.{program_tree}
 use Rattle.pv_mean.specs.ProjectSizes.{project_tree}

@@ -1,8 +1,7 @@
 //! Images: what is stored from scan to scan, and the visible cells at a scan's beginning.
-ghost use Rattle.std.specs.Prelude.{◌≡◌, ◌≤◌, length, slice_index_or, pos, All};
-ghost use Rattle.std.specs.List.{AllByRecursion};
+ghost use Rattle.std.specs.Prelude.{◌≡◌, length, slice_index_or, pos, All};
 ghost use Rattle.pv_mean.specs.Frames.{image_len, start_image, is_free};
-ghost use Rattle.pv_replay.specs.Images.{IsLong, AreLong, BeginLong, BeginsLong, stored_count, begun, begin_by_roles, left_of, started};
+ghost use Rattle.pv_replay.specs.Images.{IsLong, AreLong, BeginLong, BeginsLong, stored_count, begin_by_roles, left_of, started};
 ghost use Rattle.pv_replay.specs.Images as images;
 
 use pv_machine::Role;

@@ -1,5 +1,5 @@
 -- What the code of an instruction means: the row of the table that it has.
-use Rattle.std.specs.Prelude.{◌≡◌, ℕ, suc, ◌-◌, ◌<◌, ◌≤◌, List, [], length, slice_get, Option, Some, None, Bool as Truth, Result, Ok, Err}
+use Rattle.std.specs.Prelude.{◌≡◌, ℕ, suc, ◌-◌, ◌<◌, ◌≤◌, List, slice_get, Option, Some, None, Bool as Truth, Result, Ok, Err}
 use Rattle.pv_word.specs.declared.types.Ty.{Ty}
 use Rattle.pv_tree.specs.Tree.{OperandTree, InstrTree, BlockTree}
 use Rattle.pv_mean.specs.Sources.{Source}

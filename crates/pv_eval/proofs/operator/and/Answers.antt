@@ -1,4 +1,4 @@
-use Rattle.std.proofs.Common.{refl, ◌≡◌, ◌∙◌, ap, subst, to_z, of_z}
+use Rattle.std.proofs.Common.{refl, ◌∙◌, ap, subst, to_z, of_z}
 use Rattle.std.specs.Int.{w64}
 use Rattle.std.proofs.lemmas.Int.{to_z-of_z}
 use Rattle.pv_mean.specs.Values.{lesser}
