@@ -1,5 +1,5 @@
 -- Bytes are of one case at most.
-use Rattle.std.proofs.Common.{◌≡◌, ℕ, pos, List, [], ◌∷◌, Some, unwrap_or, refl, sym, ap, ◌∙◌, subst}
+use Rattle.std.proofs.Common.{Bool, ◌≡◌, ℕ, pos, List, [], ◌∷◌, Some, unwrap_or, refl, sym, ap, ◌∙◌, subst}
 use Rattle.std.specs.Prelude.{codes}
 use Rattle.pv_word.specs.declared.types.Ty.{Ty}
 use Rattle.pv_machine.specs.declared.place.Place.{Place}
