@@ -6,7 +6,7 @@ use crate::fault::{Kind, RecheckFault};
 use pv_log::LineFault;
 use std::alloc::AllocError;
 
-/// Why a log isn't accepted.
+/// Why the step that judges the log stops.
 #[derive(Clone, Copy)]
 pub(crate) enum LogStop {
     /// The step circuit, whose formula the log is for, has more gates than the limit.
@@ -29,10 +29,10 @@ impl From<AllocError> for LogStop {
     }
 }
 
-/// Why the proofs of a certificate aren't accepted.
+/// Why the step that judges a certificate's proofs stops.
 #[derive(Clone, Copy)]
 pub(crate) enum ProofStop {
-    /// The first proof's log isn't.
+    /// At the first proof's log.
     Log(LogStop),
     /// The first proof isn't the verdict's, or one stands behind it: the line in the file.
     WrongQuery(u64),

@@ -19,7 +19,7 @@ use pv_pattern_read::{TextFault, said};
 use pv_tree::{Expr, Project};
 use std::alloc::Global;
 
-/// Why a command stops at a requirement whose first text is at fault so.
+/// Why a command stops at a requirement whose one text is at fault so.
 fn stop_of(fault: TextFault) -> FitStop
     ensures { result ≡ of_text fault }
 {

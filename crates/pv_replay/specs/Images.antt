@@ -25,7 +25,7 @@ stored_count roles = length (filter is_stored roles)
 
 -- ---- a scan's beginning
 
--- a stored cell takes the next value of the image, and an input of the input
+-- a stored cell takes the next value of the image, any other the next one of the scan's input
 abbrev pub begun : Bool → ℤ → ℤ → ℤ
 begun true stored given = stored
 begun false stored given = given

@@ -37,7 +37,7 @@ fn long(v: i128) -> i64
     }
 }
 
-/// The visible cells at a scan's beginning: the stored ones take the values of the image, and the inputs those of the input.
+/// The visible cells at a scan's beginning: stored cells take the image's values, input cells those of the scan's input.
 pub(crate) fn begin(roles: &[Role], image: &[i64], input: &[i128], values: &mut [i64])
     requires { length values.old ≡ length roles.now }
     ensures { AreLong input.now → values.new ≡ begin_by_roles roles.now image.now input.now }

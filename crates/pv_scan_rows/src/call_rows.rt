@@ -41,6 +41,10 @@ instances within data blocks~0 16~~~FUNCTION_BLOCK Demo VAR_INPUT a : INT; END_V
 FUNCTION_BLOCK Outer VAR_INPUT x : INT; END_VAR VAR n : Inner; END_VAR n(x := x + 1); END_FUNCTION_BLOCK FUNCTION_BLOCK Inner VAR_INPUT \
 x : INT; END_VAR VAR c : INT; END_VAR c := c + x; END_FUNCTION_BLOCK DATA_BLOCK D Outer END_DATA_BLOCK DATA_BLOCK E Outer BEGIN n.c := \
 50; x := 2; END_DATA_BLOCK~start;4=4 4 5 5 2 3 53;1=1 1 2 7 2 3 56|\
+numbered names of an FB and its data block, beside variables of those texts~0 16~~~FUNCTION_BLOCK Demo VAR_INPUT a : INT; END_VAR VAR \
+FB1_0, DB1_0 : INT; END_VAR FB 1_0.DB 1_0(x := a); DB 1_0(); FB1_0 := DB 1_0.n; DB1_0 := FB1_0 + 1; END_FUNCTION_BLOCK FUNCTION_BLOCK \
+FB 1_0 VAR_INPUT x : INT; END_VAR VAR n : INT; END_VAR n := n + x; END_FUNCTION_BLOCK DATA_BLOCK DB 1_0 FB 1_0 END_DATA_BLOCK~start;3=3 \
+6 7 3 6;1=1 8 9 1 8|\
 an instance that calls a function in a loop~0 3~~~FUNCTION_BLOCK Demo VAR q : INT; k : K; END_VAR k(y => q); END_FUNCTION_BLOCK \
 FUNCTION_BLOCK K VAR_OUTPUT y : INT; END_VAR VAR_TEMP i, r : INT; END_VAR r := 0; FOR i := 1 TO 3 DO r := Sum(a := r, b := i); END_FOR; \
 y := y + r; END_FUNCTION_BLOCK FUNCTION Sum : INT VAR_INPUT a, b : INT; END_VAR VAR_TEMP i : INT; END_VAR i := a + b; Sum := i; \
@@ -115,9 +119,9 @@ END_FUNCTION~start;1=1 4;0=Unset ^|\
 an output to a temporary of the caller~0 16~~~FUNCTION_BLOCK Demo VAR_INPUT b : BOOL; END_VAR VAR_OUTPUT q : INT; END_VAR VAR_TEMP t : \
 ARRAY[1..2] OF INT; END_VAR IF b THEN G(y => t[2]); ELSE G(y := t[1]); END_IF; q := q + ^t[2]; END_FUNCTION_BLOCK FUNCTION G : VOID \
 VAR_OUTPUT y : INT; END_VAR y := 6; END_FUNCTION~start;1=1 6;1=1 12;0=Unset ^|\
-a number of its own makes a numbered name, beside a variable of that text~0 16~~~FUNCTION_BLOCK Demo VAR_INPUT a : INT; END_VAR VAR \
-FC1_0 : INT; END_VAR FC 1_0(x := a, y => FC1_0); FC1_0 := FC1_0 + 1; END_FUNCTION_BLOCK FUNCTION FC 1_0 : VOID VAR_INPUT x : INT; \
-END_VAR VAR_OUTPUT y : INT; END_VAR y := x * 2; END_FUNCTION~start;4=4 9;-1=-1 -1";
+a number of its own makes a numbered name, beside variables of that text~0 16~~~FUNCTION_BLOCK Demo VAR_INPUT a : INT; END_VAR VAR \
+FC1_0 : INT; END_VAR FC1_0 := FC 1_0(a); FC1_0 := FC1_0 + 1; END_FUNCTION_BLOCK FUNCTION FC 1_0 : INT VAR_INPUT x : INT; END_VAR \
+VAR_TEMP FC1_0 : INT; END_VAR FC1_0 := x; FC 1_0 := FC1_0 * 2; END_FUNCTION~start;4=4 9;-1=-1 -1";
 
 #[test]
 fn calls_copy_in_and_out(rt: HostRuntime) -> Result<(), Fail> {

@@ -1,4 +1,4 @@
-//! Laws of texts: each is that of one trace, and has one fault.
+//! Laws of texts: a text is that of at most one trace, and has at most one line at fault.
 ghost use Rattle.std.specs.Prelude.{◌≡◌, ℕ, List};
 ghost use Rattle.std.specs.List.{AllByRecursion};
 ghost use Rattle.pv_cert.specs.declared.trace.Trace.{Trace};
