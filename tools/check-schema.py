@@ -1,6 +1,6 @@
 #!/usr/bin/env python3
 """Holds docs/case.schema.json against the cases that the repository has: the examples', those of docs/FORMATS.md, where each row of
-the block 'cases' changes the whole case above it and says what is answered, and the rows of pv_reader_rows. Needs Debian's
+the block 'cases' changes the whole case above it and says what is answered, and the rows of pv_rows_readers. Needs Debian's
 python3-jsonschema."""
 import glob
 import json
@@ -13,8 +13,8 @@ FORMATS = "docs/FORMATS.md"
 # what the schema can't say stands in such rows
 BEYOND = "(beyond the schema)"
 
-# the tables of pv_reader_rows, each with what stands before and behind its rows
-ROWS = "crates/pv_reader_rows/src/"
+# the tables of pv_rows_readers, each with what stands before and behind its rows
+ROWS = "crates/pv_rows_readers/src/"
 FRONT = '{"version":1,"name":"t",'
 ENTRY = '"entry":"Demo",'
 TABLES = [
@@ -59,7 +59,7 @@ def literal(file, name):
 
 
 def rows():
-    """The rows of pv_reader_rows: the table, the row, the case's text and its answer."""
+    """The rows of pv_rows_readers: the table, the row, the case's text and its answer."""
     parts = {name: literal("case_rows.rt", name) for name in ("SOURCES", "PATTERN", "LIMITS")}
     for file, table, front, back in TABLES:
         front, back = (re.sub("<([A-Z]+)>", lambda m: parts[m.group(1)], t) for t in (front, back))

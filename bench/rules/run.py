@@ -2,7 +2,7 @@
 """Times the rules of the language on sources of n and 2n parts: variables each of which is assigned, assignments, blocks with four
 calls each, and a chain of named types whose last one contains itself.
 
-Usage: run.py [name ..] (all). Builds bench/rules/main.rt.txt over pv_check in a temporary copy, and needs `rt`. Prints the answer, the
+Usage: run.py [name ..] (all). Builds bench/rules/main.rt.txt over pv_rules in a temporary copy, and needs `rt`. Prints the answer, the
 processor time and the peak memory of both runs and their ratios; then the times of the check alone, which are those of whole runs less
 that of a run which only reads the source. Where `valgrind` is there also the instructions of the check alone, a part, and their ratio,
 which no load changes; for the assignments at n/16 and n/8. Ends with status 1 where an answer is another than it should be."""
@@ -18,7 +18,7 @@ sys.dont_write_bytecode = True
 from build import built  # noqa: E402
 from measure import compare, machine, measured  # noqa: E402
 
-LIBRARIES = ["pv_lex", "pv_tree", "pv_scl_parse", "pv_rules", "pv_check"]
+LIBRARIES = ["pv_lex", "pv_tree", "pv_scl_parse", "pv_rules_decl", "pv_rules"]
 RUNS = 10
 LAYERS = 8
 

@@ -6,7 +6,7 @@ use Rattle.std.proofs.lemmas.List.{take-append-drop, take_more, take_all, map-ap
 use Rattle.std.proofs.lemmas.Option.{same_Some, slice_get_read, slice_get-map}
 use Rattle.pv_tree.specs.Tree.{ExprTree, BlockTree}
 use Rattle.pv_tree.specs.Scopes.{SymbolTree, ProjectTree, Scope}
-use Rattle.pv_rules.specs.Names.{rule_of}
+use Rattle.pv_rules_decl.specs.Names.{rule_of}
 use Rattle.pv_mean.specs.Sources.{Source}
 use Rattle.pv_resolve.specs.declared.context.Context.{Context}
 use Rattle.pv_resolve.specs.Contexts.{IsContext, block_in}

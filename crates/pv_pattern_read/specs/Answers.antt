@@ -4,7 +4,7 @@ use Rattle.pv_tree.specs.declared.expr.Expr.{Expr}
 use Rattle.pv_tree.specs.Tree.{ExprTree}
 use Rattle.pv_tree.specs.View.{expr_tree}
 use Rattle.pv_tree.specs.Scopes.{Scope}
-use Rattle.pv_rules.specs.Names.{rule_of}
+use Rattle.pv_rules_decl.specs.Names.{rule_of}
 use Rattle.pv_mean.specs.Sources.{Source}
 use Rattle.pv_mean.specs.Scans.{entry_activation}
 use Rattle.pv_mean.specs.Activations.{scope_in}

@@ -3,7 +3,7 @@ use Rattle.std.specs.Prelude.{◌≡◌, ℕ, List, [], ◌∷◌, Result, Ok, E
 use Rattle.pv_tree.specs.Tree.{ExprTree}
 use Rattle.pv_tree.specs.Scopes.{Scope}
 use Rattle.pv_names.specs.InScope.{scope_of}
-use Rattle.pv_rules.specs.Names.{rule_of}
+use Rattle.pv_rules_decl.specs.Names.{rule_of}
 use Rattle.pv_mean.specs.Sources.{Source}
 use Rattle.pv_resolve.specs.declared.context.Context.{Context}
 use Rattle.pv_resolve.specs.Contexts.{IsContext, block_in}

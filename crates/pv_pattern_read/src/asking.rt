@@ -14,7 +14,7 @@ use crate::fault::TextFault;
 use crate::operands::operands_in;
 use crate::text::expression_of;
 use pv_names::{Scope, Want, is_bool};
-use pv_rules::pattern_breach;
+use pv_rules_decl::pattern_breach;
 use pv_tree::Expr;
 use pv_word::Ty;
 use std::alloc::{AllocError, Global};

@@ -2,7 +2,7 @@
 ghost use Rattle.std.specs.Prelude.{◌≡◌};
 
 use pv_resolve::ResolveFault;
-use pv_rules::Rule;
+use pv_rules_decl::Rule;
 use std::alloc::{AllocError, AllocFailed};
 use thiserror::Error;
 

@@ -1,14 +1,9 @@
 -- what public clauses cite
-pub mod Names
-pub mod Least
-pub mod Patterns
-pub mod Answers
-pub mod StartPieces
+pub mod NoInstructions
 -- what only private clauses cite
-pub mod BlockLists
-pub mod Declarations
-pub mod Doubles
-pub mod OnDeclarations
-pub mod Starts
-pub mod TypeNames
-pub mod TypeNumbers
+pub mod Codes
+pub mod Found
+pub mod Outputs
+pub mod Reads
+pub mod Statements
+pub mod Values

@@ -1,32 +1,17 @@
-//! The rules of the language, tested on a project.
-//!
-//! A rule of pv_tree's `specs/Rules` says at which places a project breaks it. What is answered is the first breach: the
-//! least place, and of the rules that are broken there the least. `specs/Least` says this of any family of rules, and `lesser`
-//! puts two answers together, so that each rule is looked for by a function of its own, on each part of a block by itself.
+//! The rules of the language over whole projects: a project of blocks and symbols, or the first breach.
 #![tactic(auto)]
 
-mod declarations;
-mod doubled;
-mod fault;
-mod gathered;
-mod joining;
-mod least;
-mod on_declarations;
-mod on_starts;
-mod pattern_expression;
-mod starts;
-mod types;
+mod checked;
+mod code;
+mod found;
+mod laws;
+mod outputs;
+mod plain;
+mod project_rules;
+mod reads;
+mod statements;
+mod values;
 
-pub use fault::{Breach, Rule, RuleFault};
-pub use joining::answered;
-pub use least::{Found, make_found};
-pub use on_declarations::{doubled_name, misplaced_date, wrong_array};
-pub use on_starts::{
-    address_in_values, beyond_in_values, misfit_in_values, misfit_start, missing_in_values,
-    outside_in_values, outside_start, wrong_value,
-};
-pub use pattern_expression::{
-    beyond_in, check_expression, misfit_in, no_pattern_in, pattern_breach,
-};
-pub use starts::StartLook;
-pub use types::missing_type;
+pub use checked::check;
+pub use laws::scl_blocks_have_no_instructions;
+pub use plain::has_no_instructions;

@@ -7,7 +7,7 @@ use Rattle.pv_ll.specs.Meaning.DoesAll.{nil, tok, val}
 use Rattle.pv_parse.specs.CodeItems.{of_expr, of_call, value, statement}
 use Rattle.pv_parse.specs.Items.{code}
 use Rattle.pv_parse.proofs.ForCallers.{Sure, lexemes, Holds, walks, leads, codes, Goal, for_value, for_stmt, Made, Means, Called, a_call_of, a_bare_call, reads, goes_word, goes_second, goes_dot, goes_prefix, goes_hash, goes_hash_prefix, marks_plain_hash, marks_quoted_hash, marks_numbered_hash, marks_plain_second, marks_quoted_second, marks_numbered_second, assigns, last, single}
-use Rattle.pv_stmt_parse.proofs.ForCallers.{target_to, target_field, hash_target, hash_callee, callee_second}
+use Rattle.pv_parse_stmt.proofs.ForCallers.{target_to, target_field, hash_target, hash_callee, callee_second}
 use Rattle.pv_scl_parse.specs.OwnNames as n
 use Rattle.pv_scl_parse.specs.OwnBodies as b
 use Rattle.pv_scl_parse.proofs.SclSorts.{Lawful}

@@ -15,7 +15,7 @@ use Rattle.pv_parse.specs.FrontNames as name
 use Rattle.pv_parse.specs.Items as i
 use Rattle.pv_parse.specs.Deeds.{expression_actions, declaration_actions, call_actions}
 use Rattle.pv_parse.proofs.ForCallers.{Sort, code_of, codes, decls, a_list, list, begins_data, are_values, a_body, a_data_body, expression_sorts, declaration_sorts, call_sorts, body_sorts, sure_making, meaning, lexemes, single, led, joined}
-use Rattle.pv_source_parse.proofs.ForCallers.{moved, beside, begin_word_is}
+use Rattle.pv_parse_source.proofs.ForCallers.{moved, beside, begin_word_is}
 use Rattle.pv_scl_parse.specs.OwnBodies as b
 use Rattle.pv_scl_parse.specs.SclActions.{body_actions}
 

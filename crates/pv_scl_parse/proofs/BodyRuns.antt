@@ -15,7 +15,7 @@ use Rattle.pv_parse.specs.Items as i
 use Rattle.pv_parse.specs.Items.{Stack}
 use Rattle.pv_parse.specs.Deeds.{call_actions}
 use Rattle.pv_parse.proofs.ForCallers.{empty, on, to, then, by, pass}
-use Rattle.pv_source_parse.proofs.ForCallers.{Makes, Bodies, begin_word_serves, begun_values_run}
+use Rattle.pv_parse_source.proofs.ForCallers.{Makes, Bodies, begin_word_serves, begun_values_run}
 use Rattle.pv_scl_parse.specs.OwnNames as own
 use Rattle.pv_scl_parse.specs.OwnBodies as b
 use Rattle.pv_scl_parse.specs.SclActions.{body_actions}

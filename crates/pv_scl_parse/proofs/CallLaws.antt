@@ -16,7 +16,7 @@ use Rattle.pv_parse.specs.ExprDeeds.{stepped, operand_of}
 use Rattle.pv_parse.specs.CallDeeds.{unnamed, call_of}
 use Rattle.pv_parse.specs.StmtDeeds.{assigned}
 use Rattle.pv_parse.proofs.ForCallers.{Sure, lexemes, Holds, weaker, a_word, a_firm, walks, an_expr, leads, codes, bare, top_token, top_path, IsWordPath, Called, Valued, Unended, an_args, a_first_arg, adds_args, goes_arg, a_call_of, a_bare_call, reads, a_right_side, goes_word, goes_hash, marks_plain_second, marks_quoted_second, marks_numbered_second, a_second, a_second_number, assigns, last, parted, single, single_at, led, joined, on_path, one_step, steps_append, formed_append, on_lexemes}
-use Rattle.pv_stmt_parse.proofs.ForCallers.{argument_of, target_to, target_read, word_target, firm_target, word_callee, firm_callee, callee_second, word_path, called_by}
+use Rattle.pv_parse_stmt.proofs.ForCallers.{argument_of, target_to, target_read, word_target, firm_target, word_callee, firm_callee, callee_second, word_path, called_by}
 use Rattle.pv_scl_parse.specs.OwnNames as n
 use Rattle.pv_scl_parse.specs.OwnBodies as b
 use Rattle.pv_scl_parse.proofs.SclSorts.{Lawful}

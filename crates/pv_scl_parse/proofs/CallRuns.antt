@@ -23,7 +23,7 @@ use Rattle.pv_parse.specs.Items.{Stack, PathTree, path, token, expr, code}
 use Rattle.pv_parse.specs.ExprDeeds.{rooted, stepped}
 use Rattle.pv_parse.specs.CallDeeds.{unnamed, call_of}
 use Rattle.pv_parse.proofs.ForCallers.{empty, on, to, then, by, pass, Steps, can, can_steps, name_made, firm_made, hash_read_made, firm_read_made, area_made, read_back}
-use Rattle.pv_stmt_parse.proofs.ForCallers.{Fronts, a_read, a_firm_one, Split, split, Named as NamedArg, named, first_made, more_made}
+use Rattle.pv_parse_stmt.proofs.ForCallers.{Fronts, a_read, a_firm_one, Split, split, Named as NamedArg, named, first_made, more_made}
 use Rattle.pv_scl_parse.specs.OwnNames as o
 use Rattle.pv_scl_parse.specs.OwnBodies as b
 use Rattle.pv_scl_parse.proofs.Serving as kind

@@ -15,7 +15,7 @@ use Rattle.pv_parse.specs.CodeItems.{BranchTree, statements, otherwise, choice, 
 use Rattle.pv_parse.specs.Items.{code}
 use Rattle.pv_parse.specs.CallDeeds.{named_of}
 use Rattle.pv_parse.proofs.ForCallers.{Sure, lexemes, a_word, a_literal_of, codes, bare, top_token, top_path, top_stmts, top_choice, top_choices, top_branches, Ended, Listed, Labelled, Cased, closed, an_ended, goes_item, a_list, an_else_of, a_colon, a_choice_of, marks_choice, a_first_range, a_next_range, adds_choices, goes_label, a_label_of, a_branching, goes_case, goes_case_word, last, parted, single, led, joined}
-use Rattle.pv_stmt_parse.proofs.ForCallers.{word_path, word_target, word_callee, behind_append, one_behind}
+use Rattle.pv_parse_stmt.proofs.ForCallers.{word_path, word_target, word_callee, behind_append, one_behind}
 use Rattle.pv_scl_parse.specs.OwnNames as n
 use Rattle.pv_scl_parse.specs.OwnBodies as b
 use Rattle.pv_scl_parse.proofs.SclSorts.{Lawful}

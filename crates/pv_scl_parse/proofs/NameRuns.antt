@@ -15,7 +15,7 @@ use Rattle.pv_parse.specs.FrontBodies as fb
 use Rattle.pv_parse.specs.Items.{ItemTree, Stack, PathTree, path, code}
 use Rattle.pv_parse.specs.ExprDeeds.{rooted, stepped}
 use Rattle.pv_parse.proofs.ForCallers.{empty, on, to, then, by, pass, word_marks, kind-free-word, kind-free-prefix, kind-free-numbered, kind-quoted}
-use Rattle.pv_stmt_parse.proofs.ForCallers.{behind_mark}
+use Rattle.pv_parse_stmt.proofs.ForCallers.{behind_mark}
 use Rattle.pv_scl_parse.specs.OwnNames as o
 use Rattle.pv_scl_parse.specs.OwnBodies as b
 use Rattle.pv_scl_parse.proofs.Serving as kind

@@ -16,7 +16,7 @@ use Rattle.pv_parse.specs.Shades.{Shade}
 use Rattle.pv_parse.specs.StmtShades.{places_of_stmts}
 use Rattle.pv_parse.specs.ItemShades.{shade_of}
 use Rattle.pv_parse.proofs.ForCallers.{followed_among, merged-nil}
-use Rattle.pv_source_parse.proofs.ForCallers.{begin_word_serves, above, no_cast, cast_on, cast_to, cast_then, cast_by, cast_pass, Dims, group, begun_values_cast, BodyCast, BodyCasts, marks-stmts, all_followed}
+use Rattle.pv_parse_source.proofs.ForCallers.{begin_word_serves, above, no_cast, cast_on, cast_to, cast_then, cast_by, cast_pass, Dims, group, begun_values_cast, BodyCast, BodyCasts, marks-stmts, all_followed}
 use Rattle.pv_scl_parse.specs.OwnNames as own
 use Rattle.pv_scl_parse.specs.OwnBodies as b
 use Rattle.pv_scl_parse.specs.SclActions.{body_actions, statement_actions, scl_actions}

@@ -7,10 +7,10 @@ use Rattle.pv_ll.specs.Meaning.{Each}
 use Rattle.pv_parse.specs.declared.action.Action.{Action}
 use Rattle.pv_parse.specs.Front.{declaration_productions}
 use Rattle.pv_parse.specs.Deeds.{call_actions}
-use Rattle.pv_source_parse.specs.SourceAnswers.{ReadsSources}
+use Rattle.pv_parse_source.specs.SourceAnswers.{ReadsSources}
 use Rattle.pv_parse.proofs.ForCallers.{Sort, body_sorts}
-use Rattle.pv_stmt_parse.proofs.ForCallers.{plain_hash_1, quoted_hash_1, numbered_hash_1, first_argument_1, argument_value_1, argument_value_2, more_arguments_1, more_arguments_2, next_argument_1}
-use Rattle.pv_source_parse.proofs.ForCallers.{literal_runs}
+use Rattle.pv_parse_stmt.proofs.ForCallers.{plain_hash_1, quoted_hash_1, numbered_hash_1, first_argument_1, argument_value_1, argument_value_2, more_arguments_1, more_arguments_2, next_argument_1}
+use Rattle.pv_parse_source.proofs.ForCallers.{literal_runs}
 use Rattle.pv_scl_parse.specs.SclActions.{body_actions, statement_actions, scl_actions}
 use Rattle.pv_scl_parse.specs.SclGrammar.{statement_productions, scl_grammar}
 use Rattle.pv_scl_parse.proofs.SclSorts.{statement_sorts}

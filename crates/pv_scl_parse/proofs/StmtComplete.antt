@@ -17,7 +17,7 @@ use Rattle.pv_parse.specs.CodeItems.{statement, statements, conditions, stepping
 use Rattle.pv_parse.specs.Items.{Stack, path, token, expr, code}
 use Rattle.pv_parse.specs.ExprDeeds.{rooted}
 use Rattle.pv_parse.proofs.ForCallers.{on, to, then, by, pass, can, name_made}
-use Rattle.pv_stmt_parse.proofs.ForCallers.{single-exit, single-continue, single-return}
+use Rattle.pv_parse_stmt.proofs.ForCallers.{single-exit, single-continue, single-return}
 use Rattle.pv_scl_parse.specs.OwnNames as o
 use Rattle.pv_scl_parse.specs.OwnBodies as b
 use Rattle.pv_scl_parse.proofs.Serving as kind

@@ -12,7 +12,7 @@ use Rattle.pv_parse.specs.CodeItems.{ArmTree, statement, statements, conditions,
 use Rattle.pv_parse.specs.Items.{code}
 use Rattle.pv_parse.specs.StmtDeeds.{single_of}
 use Rattle.pv_parse.proofs.ForCallers.{Sure, lexemes, a_word, a_firm, a_root, walks, an_expr, a_literal_of, codes, bare, top_stmts, top_arms, Unended, Ended, Listed, goes_word, goes_hash, assigns, an_unended, an_ended, goes_item, a_list, adds_stmts, an_arm, adds_arms, an_else_of, a_by_of, a_branching, last, parted, single, single_at, led, joined}
-use Rattle.pv_stmt_parse.proofs.ForCallers.{target_to, area_target, word_target, firm_target, word_callee, firm_callee, single-exit, single-continue, single-return}
+use Rattle.pv_parse_stmt.proofs.ForCallers.{target_to, area_target, word_target, firm_target, word_callee, firm_callee, single-exit, single-continue, single-return}
 use Rattle.pv_scl_parse.specs.OwnNames as n
 use Rattle.pv_scl_parse.specs.OwnBodies as b
 use Rattle.pv_scl_parse.proofs.SclSorts.{Lawful}

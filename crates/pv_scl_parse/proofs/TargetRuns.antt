@@ -21,7 +21,7 @@ use Rattle.pv_parse.specs.Items.{Stack, PathTree, path, token, expr, code}
 use Rattle.pv_parse.specs.ExprDeeds.{rooted, stepped, operand_of}
 use Rattle.pv_parse.specs.StmtDeeds.{assigned}
 use Rattle.pv_parse.proofs.ForCallers.{empty, on, to, then, by, pass, name_made, firm_made, area_made, area_rooted, steps_back, joined}
-use Rattle.pv_stmt_parse.proofs.ForCallers.{Fronts, a_read, a_firm_one, Split, split}
+use Rattle.pv_parse_stmt.proofs.ForCallers.{Fronts, a_read, a_firm_one, Split, split}
 use Rattle.pv_scl_parse.specs.OwnNames as o
 use Rattle.pv_scl_parse.specs.OwnBodies as b
 use Rattle.pv_scl_parse.proofs.Serving as kind

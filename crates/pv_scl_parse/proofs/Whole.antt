@@ -21,9 +21,9 @@ use Rattle.pv_parse.specs.FrontNames as name
 use Rattle.pv_parse.specs.Front.{expression_productions, declaration_productions, front}
 use Rattle.pv_parse.specs.Items.{Stack, blocks}
 use Rattle.pv_parse.specs.Deeds.{expression_actions, declaration_actions, call_actions, making, kinded}
-use Rattle.pv_source_parse.specs.SourceAnswers.{ReadBlocks, ReadsSources}
+use Rattle.pv_parse_source.specs.SourceAnswers.{ReadBlocks, ReadsSources}
 use Rattle.pv_parse.proofs.ForCallers.{Sort, code_of, list, decls, a_source, Sure, lexemes, sure_making, meaning, shaping, keeps, expression_sorts, declaration_sorts, call_sorts, body_sorts, expression_laws, bare, last, sure_of, sure_lexemes, sure_kinds, Inside, inside}
-use Rattle.pv_source_parse.proofs.ForCallers.{declaration_laws, source_run, BodyCasts, shaded_source}
+use Rattle.pv_parse_source.proofs.ForCallers.{declaration_laws, source_run, BodyCasts, shaded_source}
 use Rattle.pv_scl_parse.specs.SclActions.{body_actions, scl_actions}
 use Rattle.pv_scl_parse.specs.SclGrammar.{statement_productions, scl_grammar}
 use Rattle.pv_scl_parse.proofs.BodyLaws.{BodyLawful, body_1, body_2, data_body_1, data_body_2}

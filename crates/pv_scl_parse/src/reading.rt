@@ -9,7 +9,7 @@ use crate::actions::scl_actions;
 use crate::table::scl_expression;
 use pv_lex::{Language, Token};
 use pv_parse::{ParseFault, ReadFault, first_outside};
-use pv_source_parse::read_expression;
+use pv_parse_source::read_expression;
 use pv_tree::Expr;
 use std::alloc::Global;
 

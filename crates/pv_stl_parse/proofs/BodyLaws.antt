@@ -9,7 +9,7 @@ use Rattle.pv_parse.specs.FrontNames as name
 use Rattle.pv_parse.specs.Items as i
 use Rattle.pv_parse.specs.InstrStack.{instrs_of}
 use Rattle.pv_parse.proofs.ForCallers.{Sure, lexemes, decls, instrs, begins_code, adds_instrs, begins_data, are_values, a_body, a_data_body, single, led, last}
-use Rattle.pv_source_parse.proofs.ForCallers.{moved, beside, begin_word_is}
+use Rattle.pv_parse_source.proofs.ForCallers.{moved, beside, begin_word_is}
 use Rattle.pv_stl_parse.specs.OwnBodies as b
 use Rattle.pv_stl_parse.proofs.StlSorts.{Lawful}
 

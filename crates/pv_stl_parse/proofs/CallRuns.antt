@@ -20,7 +20,7 @@ use Rattle.pv_parse.specs.Items.{Stack, PathTree, token, path, code}
 use Rattle.pv_parse.specs.ExprDeeds.{rooted, stepped}
 use Rattle.pv_parse.specs.CallDeeds.{call_of}
 use Rattle.pv_parse.proofs.ForCallers.{empty, on, to, then, by, pass, word_marks, number_serves, kind-free-word, kind-free-prefix, kind-free-numbered, kind-quoted, name_made, firm_made}
-use Rattle.pv_stmt_parse.proofs.ForCallers.{Named as NamedArg, named, behind_mark, first_made, more_made}
+use Rattle.pv_parse_stmt.proofs.ForCallers.{Named as NamedArg, named, behind_mark, first_made, more_made}
 use Rattle.pv_stl_parse.specs.OwnNames as o
 use Rattle.pv_stl_parse.specs.OwnBodies as b
 use Rattle.pv_stl_parse.specs.StlGrammar.{instruction_productions}

@@ -20,7 +20,7 @@ use Rattle.pv_parse.specs.ExprDeeds.{rooted, stepped}
 use Rattle.pv_parse.specs.CallDeeds.{named_of, call_of}
 use Rattle.pv_parse.specs.InstrDeeds.{number_behind}
 use Rattle.pv_parse.proofs.ForCallers.{Sure, lexemes, bare, top_token, top_path, a_word, a_firm, a_root, walks, codes, instrs, a_first_arg, adds_args, marks_plain_hash, marks_quoted_hash, marks_numbered_hash, IsCalleeStl, an_operand, a_hashed_word, a_value_literal, a_callee, a_callee_alone, a_callee_hash, a_callee_prefix, adds_base, a_call_behind, a_bare_one, last, parted, single, led, joined, minus_is, number_is, truth_said}
-use Rattle.pv_stmt_parse.proofs.ForCallers.{argument_of, area_target, firm_target, hash_target, target_to, word_target}
+use Rattle.pv_parse_stmt.proofs.ForCallers.{argument_of, area_target, firm_target, hash_target, target_to, word_target}
 use Rattle.pv_stl_parse.specs.OwnNames as n
 use Rattle.pv_stl_parse.specs.OwnBodies as b
 use Rattle.pv_stl_parse.proofs.StlSorts.{Lawful}

@@ -26,7 +26,7 @@ use Rattle.pv_parse.specs.Items.{Stack, PathTree, token, path, literal}
 use Rattle.pv_parse.specs.ExprDeeds.{rooted, operand_of}
 use Rattle.pv_parse.specs.InstrDeeds.{type_behind, number_behind}
 use Rattle.pv_parse.proofs.ForCallers.{SpellsBehindOp, is_load, empty, on, to, then, by, pass, word_marks, kind-free-word, name_made, firm_made, area_rooted, steps_back, Steps, can_steps, minus_serves, number_serves, truth_serves, truth_is}
-use Rattle.pv_stmt_parse.proofs.ForCallers.{behind_mark}
+use Rattle.pv_parse_stmt.proofs.ForCallers.{behind_mark}
 use Rattle.pv_stl_parse.specs.OwnNames as o
 use Rattle.pv_stl_parse.specs.OwnBodies as b
 use Rattle.pv_stl_parse.proofs.Serving as kind

@@ -20,7 +20,7 @@ use Rattle.pv_tree.specs.Reading.{ReadAsBlocks, IsTooDeep, IsSyntaxFault, IsSynt
 use Rattle.pv_tree.proofs.ForCallers.{agrees-blocks}
 use Rattle.pv_parse.specs.declared.action.Action.{Action}
 use Rattle.pv_parse.specs.declared.fault.ReadFault.{ReadFault}
-use Rattle.pv_source_parse.specs.SourceAnswers.{ReadsSources, IsOnlySource, IsDeepSource, AnswersSource}
+use Rattle.pv_parse_source.specs.SourceAnswers.{ReadsSources, IsOnlySource, IsDeepSource, AnswersSource}
 use Rattle.pv_stl_parse.specs.StlGrammar.{stl_grammar}
 use Rattle.pv_stl_parse.specs.StlActions.{stl_actions}
 use Rattle.pv_stl_parse.specs.Answers.{AreOnlyBlocks}

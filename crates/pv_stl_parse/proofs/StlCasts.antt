@@ -12,7 +12,7 @@ use Rattle.pv_parse.specs.Shades.{Shade}
 use Rattle.pv_parse.specs.InstrShades.{places_of_instrs}
 use Rattle.pv_parse.specs.ItemShades.{shade_of}
 use Rattle.pv_parse.proofs.ForCallers.{followed_among}
-use Rattle.pv_source_parse.proofs.ForCallers.{above, cast_by, Dims, group, begun_values_cast, BodyCast, BodyCasts, marks-instrs, all_followed}
+use Rattle.pv_parse_source.proofs.ForCallers.{above, cast_by, Dims, group, begun_values_cast, BodyCast, BodyCasts, marks-instrs, all_followed}
 use Rattle.pv_stl_parse.specs.OwnBodies as b
 use Rattle.pv_stl_parse.specs.StlActions.{stl_actions}
 use Rattle.pv_stl_parse.specs.StlGrammar.{instruction_productions, stl_grammar}

@@ -20,10 +20,10 @@ use Rattle.pv_parse.specs.FrontNames as name
 use Rattle.pv_parse.specs.Front.{expression_productions, declaration_productions, front}
 use Rattle.pv_parse.specs.Items.{Stack, blocks}
 use Rattle.pv_parse.specs.Deeds.{declaration_actions, call_actions, making, kinded}
-use Rattle.pv_source_parse.specs.SourceAnswers.{ReadBlocks, ReadsSources}
+use Rattle.pv_parse_source.specs.SourceAnswers.{ReadBlocks, ReadsSources}
 use Rattle.pv_parse.proofs.ForCallers.{Sort, decls, a_source, Sure, lexemes, sure_making, meaning, shaping, keeps, declaration_sorts, call_sorts, body_sorts, expression_laws, bare, last, sure_of, sure_lexemes, sure_kinds, Inside, inside}
-use Rattle.pv_stmt_parse.proofs.ForCallers.{plain_hash_1, quoted_hash_1, numbered_hash_1, first_argument_1, argument_value_1, argument_value_2, more_arguments_1, more_arguments_2, next_argument_1}
-use Rattle.pv_source_parse.proofs.ForCallers.{declaration_laws, source_run, shaded_source}
+use Rattle.pv_parse_stmt.proofs.ForCallers.{plain_hash_1, quoted_hash_1, numbered_hash_1, first_argument_1, argument_value_1, argument_value_2, more_arguments_1, more_arguments_2, next_argument_1}
+use Rattle.pv_parse_source.proofs.ForCallers.{declaration_laws, source_run, shaded_source}
 use Rattle.pv_stl_parse.specs.StlActions.{stl_actions}
 use Rattle.pv_stl_parse.specs.StlGrammar.{instruction_productions, stl_grammar}
 use Rattle.pv_stl_parse.proofs.StlSorts.{instruction_sorts, stl_sorts, Lawful}

@@ -6,14 +6,14 @@ ghost use Rattle.pv_lex.specs.Tokens.{AreTokens};
 ghost use Rattle.pv_tree.specs.Lexemes.{lexemes_of};
 ghost use Rattle.pv_parse.specs.InOrder.{LieInOrder};
 ghost use Rattle.pv_parse.specs.Kinds.{kinds_of, HaveKinds};
-ghost use Rattle.pv_source_parse.specs.SourceAnswers.{AnswersSource};
+ghost use Rattle.pv_parse_source.specs.SourceAnswers.{AnswersSource};
 ghost use Rattle.pv_stl_parse.specs.Answers.{AnswersParse};
 
 use crate::actions::stl_actions;
 use crate::table::stl;
 use pv_lex::{Language, Token};
 use pv_parse::{ParseFault, ReadFault, first_outside};
-use pv_source_parse::read_source;
+use pv_parse_source::read_source;
 use pv_tree::Blocks;
 use std::alloc::{AllocError, Global};
 

@@ -8,22 +8,22 @@ use Rattle.std.specs.Prelude.{codes}
 use Rattle.pv_edge.specs.Faults.{HasRisen}
 use Rattle.pv_edge.specs.Files.{FileMap}
 use Rattle.pv_edge.specs.Sink.{Takes, TakesLess}
-use Rattle.pv_load.specs.declared.subject.SubjectStop.{SubjectStop}
-use Rattle.pv_load.specs.declared.subject.SubjectStop.TheVariants as subject_stop
-use Rattle.pv_load.specs.Held.{Counts}
-use Rattle.pv_load.specs.Refusals.{TableRefusal, no_entry, too_many_cells, table_status}
-use Rattle.pv_load.specs.Stopped.{Stopped, unread, refused, no_memory, stopped_status}
-use Rattle.pv_load.specs.Stops.{case_stopped, source_stopped, project_stopped, table_stopped, fit_stopped, subject_status}
-use Rattle.pv_replay_command.specs.declared.replay.ReplayStop.{ReplayStop}
-use Rattle.pv_replay_command.specs.declared.replay.Replayed.{Replayed}
-use Rattle.pv_replay_command.specs.Replays.{SaysReplay, replay_status, replay_text, ReplaysExactly}
-use Rattle.pv_replay_command.proofs.ForCallers.{Laws as ReplayLaws, Came, by_result, one_came, replays_exactly, never_five}
-use Rattle.pv_recheck_command.specs.declared.recheck.RecheckStop.{RecheckStop}
-use Rattle.pv_recheck_command.specs.declared.recheck.RecheckStop.TheVariants as recheck_stop
-use Rattle.pv_recheck_command.specs.declared.recheck.Rechecked.{Rechecked}
-use Rattle.pv_recheck_command.specs.Certificates.{CertificateRefusal, unbuilt, too_many_gates, faulty, certificate_status, certificate_stopped}
-use Rattle.pv_recheck_command.specs.Correct.{FilesDecideOneRecheck}
-use Rattle.pv_recheck_command.specs.Rechecks.{HoldsSatisfied, SaysRecheck, recheck_stop_status, recheck_status, recheck_text, RechecksExactly}
+use Rattle.pv_command_load.specs.declared.subject.SubjectStop.{SubjectStop}
+use Rattle.pv_command_load.specs.declared.subject.SubjectStop.TheVariants as subject_stop
+use Rattle.pv_command_load.specs.Held.{Counts}
+use Rattle.pv_command_load.specs.Refusals.{TableRefusal, no_entry, too_many_cells, table_status}
+use Rattle.pv_command_load.specs.Stopped.{Stopped, unread, refused, no_memory, stopped_status}
+use Rattle.pv_command_load.specs.Stops.{case_stopped, source_stopped, project_stopped, table_stopped, fit_stopped, subject_status}
+use Rattle.pv_command_replay.specs.declared.replay.ReplayStop.{ReplayStop}
+use Rattle.pv_command_replay.specs.declared.replay.Replayed.{Replayed}
+use Rattle.pv_command_replay.specs.Replays.{SaysReplay, replay_status, replay_text, ReplaysExactly}
+use Rattle.pv_command_replay.proofs.ForCallers.{Laws as ReplayLaws, Came, by_result, one_came, replays_exactly, never_five}
+use Rattle.pv_command_recheck.specs.declared.recheck.RecheckStop.{RecheckStop}
+use Rattle.pv_command_recheck.specs.declared.recheck.RecheckStop.TheVariants as recheck_stop
+use Rattle.pv_command_recheck.specs.declared.recheck.Rechecked.{Rechecked}
+use Rattle.pv_command_recheck.specs.Certificates.{CertificateRefusal, unbuilt, too_many_gates, faulty, certificate_status, certificate_stopped}
+use Rattle.pv_command_recheck.specs.Correct.{FilesDecideOneRecheck}
+use Rattle.pv_command_recheck.specs.Rechecks.{HoldsSatisfied, SaysRecheck, recheck_stop_status, recheck_status, recheck_text, RechecksExactly}
 use Rattle.pv_top.specs.declared.outcome.Outcome.{Outcome}
 use Rattle.pv_top.specs.declared.outcome.Outcome.TheVariants.{NoCommand, Replay, Recheck}
 use Rattle.pv_top.specs.Outcomes.{status_of, text_of}

@@ -10,16 +10,16 @@ use Rattle.pv_recheck.specs.declared.fault.RecheckFault.TheVariants.{Unbuilt, To
 use Rattle.pv_recheck.specs.declared.check.TheConstants.{MAX_STEP_GATES}
 use Rattle.pv_recheck.specs.Answers.{Answers, IsUnlessNoMemory}
 use Rattle.pv_recheck.proofs.ForCallers.{one_answer}
-use Rattle.pv_load.specs.Refusals.{Refusal, no_entry, too_many_cells, of_case, of_source, of_project, of_table, of_fit, form_line, refusal_status, refusal_line}
-use Rattle.pv_load.specs.Subjects.{SubjectData}
-use Rattle.pv_recheck_command.specs.declared.recheck.Rechecked.{Rechecked}
-use Rattle.pv_recheck_command.specs.declared.recheck.RecheckStop.{RecheckStop}
-use Rattle.pv_recheck_command.specs.declared.recheck.RecheckStop.TheVariants as recheck_stop
-use Rattle.pv_recheck_command.specs.Forms.{ReadsFirst, program_of}
-use Rattle.pv_recheck_command.specs.Refusals.{RecheckRefusal, as_any, case_form, source_form, recheck_refusal_status, recheck_refusal_line, RefusesAny, RefusesRecheck}
-use Rattle.pv_recheck_command.specs.Certificates.{HoldsAnswer, CertificateRefusal, unbuilt, too_many_gates, faulty, RefusesCertificate, certificate_status, gates_line, fault_line, certificate_line, certificate_stopped}
-use Rattle.pv_recheck_command.specs.Rechecks.{IsJudged, satisfied_text, SaysRecheck, recheck_status, recheck_text, Judges, IsRefusedWith, HasFault, RechecksExactly}
-use Rattle.pv_recheck_command.specs.Correct.{FilesDecideOneRecheck}
+use Rattle.pv_command_load.specs.Refusals.{Refusal, no_entry, too_many_cells, of_case, of_source, of_project, of_table, of_fit, form_line, refusal_status, refusal_line}
+use Rattle.pv_command_load.specs.Subjects.{SubjectData}
+use Rattle.pv_command_recheck.specs.declared.recheck.Rechecked.{Rechecked}
+use Rattle.pv_command_recheck.specs.declared.recheck.RecheckStop.{RecheckStop}
+use Rattle.pv_command_recheck.specs.declared.recheck.RecheckStop.TheVariants as recheck_stop
+use Rattle.pv_command_recheck.specs.Forms.{ReadsFirst, program_of}
+use Rattle.pv_command_recheck.specs.Refusals.{RecheckRefusal, as_any, case_form, source_form, recheck_refusal_status, recheck_refusal_line, RefusesAny, RefusesRecheck}
+use Rattle.pv_command_recheck.specs.Certificates.{HoldsAnswer, CertificateRefusal, unbuilt, too_many_gates, faulty, RefusesCertificate, certificate_status, gates_line, fault_line, certificate_line, certificate_stopped}
+use Rattle.pv_command_recheck.specs.Rechecks.{IsJudged, satisfied_text, SaysRecheck, recheck_status, recheck_text, Judges, IsRefusedWith, HasFault, RechecksExactly}
+use Rattle.pv_command_recheck.specs.Correct.{FilesDecideOneRecheck}
 use Rattle.pv_top.proofs.Refused.{IsRefusedAs, stopped_as, any_as}
 
 -- ---- what is said

@@ -2,12 +2,12 @@
 -- its status and its line.
 use Rattle.std.proofs.Common.{◌≡◌, ◌≢◌, ℕ, List, Option, Some, refl}
 use Rattle.pv_edge.specs.Files.{FileMap}
-use Rattle.pv_load.specs.declared.subject.SubjectStop.{SubjectStop}
-use Rattle.pv_load.specs.declared.subject.SubjectStop.TheVariants as subject_stop
-use Rattle.pv_load.specs.Refusals.{Refusal, of_case, of_source, of_project, of_table, of_fit, table_status, case_refusal_line, source_line, project_line, table_line, fit_line, refusal_status, refusal_line}
-use Rattle.pv_load.specs.Stopped.{Stopped, unread, refused, no_memory, StopsAt, stopped_status, stopped_text}
-use Rattle.pv_load.specs.Stops.{case_stopped, source_stopped, project_stopped, table_stopped, fit_stopped, subject_status, subject_text}
-use Rattle.pv_recheck_command.specs.Refusals.{RefusesAny, StopsAsAny}
+use Rattle.pv_command_load.specs.declared.subject.SubjectStop.{SubjectStop}
+use Rattle.pv_command_load.specs.declared.subject.SubjectStop.TheVariants as subject_stop
+use Rattle.pv_command_load.specs.Refusals.{Refusal, of_case, of_source, of_project, of_table, of_fit, table_status, case_refusal_line, source_line, project_line, table_line, fit_line, refusal_status, refusal_line}
+use Rattle.pv_command_load.specs.Stopped.{Stopped, unread, refused, no_memory, StopsAt, stopped_status, stopped_text}
+use Rattle.pv_command_load.specs.Stops.{case_stopped, source_stopped, project_stopped, table_stopped, fit_stopped, subject_status, subject_text}
+use Rattle.pv_command_recheck.specs.Refusals.{RefusesAny, StopsAsAny}
 
 -- a refusal that is so, with this status and this text
 pub record IsRefusedAs (R : Type 0) (Is : R → Type 0) (status_of : R → ℕ) (line_of : R → List ℕ) (status : ℕ) (text : Option (List ℕ))

@@ -3,9 +3,9 @@ use Rattle.std.specs.Prelude.{◌≡◌, ◌≢◌, ◌≤◌, ◌⊎◌, ◌↔
 use Rattle.pv_edge.specs.Faults.{HasRisen}
 use Rattle.pv_edge.specs.Files.{FileMap}
 use Rattle.pv_edge.specs.Sink.{Takes, TakesLess}
-use Rattle.pv_load.specs.Held.{Counts}
-use Rattle.pv_replay_command.specs.Replays.{SaysReplay, ReplaysExactly}
-use Rattle.pv_recheck_command.specs.Rechecks.{HoldsSatisfied, SaysRecheck, RechecksExactly}
+use Rattle.pv_command_load.specs.Held.{Counts}
+use Rattle.pv_command_replay.specs.Replays.{SaysReplay, ReplaysExactly}
+use Rattle.pv_command_recheck.specs.Rechecks.{HoldsSatisfied, SaysRecheck, RechecksExactly}
 use Rattle.pv_top.specs.declared.words.Command.{Command}
 use Rattle.pv_top.specs.declared.words.Command.TheVariants as command
 use Rattle.pv_top.specs.declared.outcome.Outcome.{Outcome}

@@ -1,7 +1,7 @@
 -- What the words come to, with the status and the text that go with it.
 use Rattle.std.specs.Prelude.{ℕ, List, codes, Option, Some}
-use Rattle.pv_replay_command.specs.Replays.{replay_status, replay_text}
-use Rattle.pv_recheck_command.specs.Rechecks.{recheck_status, recheck_text}
+use Rattle.pv_command_replay.specs.Replays.{replay_status, replay_text}
+use Rattle.pv_command_recheck.specs.Rechecks.{recheck_status, recheck_text}
 use Rattle.pv_top.specs.declared.outcome.Outcome.{Outcome}
 use Rattle.pv_top.specs.declared.outcome.Outcome.TheVariants.{NoCommand, Replay, Recheck}
 

@@ -5,9 +5,9 @@ ghost use Rattle.pv_top.specs.declared.outcome.Outcome.{Outcome};
 ghost use Rattle.pv_top.specs.Outcomes.{status_of, text_of};
 ghost use Rattle.pv_top.specs.Calls.{Says};
 
-use pv_load::laws::files_decide_one;
-use pv_recheck_command::laws::files_decide_one_recheck;
-use pv_replay_command::laws::{files_decide_one_trace, runs_end_in_one_way};
+use pv_command_load::laws::files_decide_one;
+use pv_command_recheck::laws::files_decide_one_recheck;
+use pv_command_replay::laws::{files_decide_one_trace, runs_end_in_one_way};
 
 /// By the same words on the same files one outcome is so: two that say what is so have one status and one text. A file that can't be read and
 /// want of memory are left out, for what the files hold doesn't tell which can be read, nor how much memory there is.

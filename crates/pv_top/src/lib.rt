@@ -6,7 +6,7 @@
 
 ghost use Rattle.std.specs.Prelude.{◌≡◌, ◌≢◌, map, string_bytes};
 ghost use Rattle.pv_edge.specs.Faults.{HasRisen};
-ghost use Rattle.pv_load.specs.Held.{Counts};
+ghost use Rattle.pv_command_load.specs.Held.{Counts};
 ghost use Rattle.pv_top.specs.Outcomes.{status_of};
 ghost use Rattle.pv_top.specs.Calls.{Says, Delivers, Promises};
 
@@ -15,14 +15,14 @@ mod outcome;
 mod words;
 
 use outcome::Outcome;
+pub use pv_command_load::Status;
+use pv_command_load::laws::files_decide_one;
+use pv_command_load::{NO_MEMORY, WRITE_FAULT};
+use pv_command_recheck::laws::files_decide_one_recheck;
+use pv_command_recheck::recheck_in;
+use pv_command_replay::laws::{files_decide_one_trace, runs_end_in_one_way};
+use pv_command_replay::replay_in;
 use pv_edge::{Files, Sink, SinkFault, Text};
-pub use pv_load::Status;
-use pv_load::laws::files_decide_one;
-use pv_load::{NO_MEMORY, WRITE_FAULT};
-use pv_recheck_command::laws::files_decide_one_recheck;
-use pv_recheck_command::recheck_in;
-use pv_replay_command::laws::{files_decide_one_trace, runs_end_in_one_way};
-use pv_replay_command::replay_in;
 use std::alloc::Global;
 use words::{Command, read_words};
 

@@ -2,9 +2,9 @@
 ghost use Rattle.std.specs.Prelude.{◌≡◌, Some, IfOk, string_bytes};
 ghost use Rattle.pv_top.specs.Outcomes.{status_of, text_of};
 
-use pv_load::{HOLDS, Status, WORDS_REFUSED};
-use pv_recheck_command::{RecheckStop, Rechecked};
-use pv_replay_command::{ReplayStop, Replayed};
+use pv_command_load::{HOLDS, Status, WORDS_REFUSED};
+use pv_command_recheck::{RecheckStop, Rechecked};
+use pv_command_replay::{ReplayStop, Replayed};
 use std::alloc::{AllocError, Global};
 
 /// What the words come to.

@@ -2,7 +2,7 @@ use Rattle.std.proofs.Common.{Err, subst}
 use Rattle.pv_lex.specs.declared.token.Language.TheVariants.{Scl}
 use Rattle.pv_tree.specs.View.{block_trees}
 use Rattle.pv_tree.specs.Lexemes.{lexemes_of}
-use Rattle.pv_source_parse.specs.SourceAnswers.{AnswersSource}
+use Rattle.pv_parse_source.specs.SourceAnswers.{AnswersSource}
 use Rattle.pv_scl_parse.proofs.Endings.{ends, kinds_before, order_before}
 use Rattle.pv_scl_parse.proofs.SourceEndings.{source_fault_at, only_blocks, blocks_too_deep}
 use Rattle.pv_scl_parse.proofs.source.parse.Goals as goal

@@ -1,7 +1,0 @@
-use Rattle.std.specs.Prelude.{None}
-use Rattle.pv_expr_rules.specs.Nearest.{Nears}
-use Rattle.pv_call_rules.specs.ByNumber.{links_graph, HasDeepLink}
-use Rattle.pv_call_rules.proofs.by_number.deep_call.Given as goal
-
-abbrev pub invariant-loop-i : goal.invariant-loop-i
-invariant-loop-i l = Nears (HasDeepLink (links_graph l.all) l.all 7 l.i) None l.nearest

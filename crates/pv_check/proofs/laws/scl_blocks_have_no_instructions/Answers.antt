@@ -1,5 +1,0 @@
-use Rattle.pv_check.proofs.Sources.{blocks_plain}
-use Rattle.pv_check.proofs.laws.scl_blocks_have_no_instructions.Goals as goal
-
-pub returns : goal.returns
-returns c = blocks_plain

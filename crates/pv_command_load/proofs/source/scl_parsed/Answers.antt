@@ -1,0 +1,7 @@
+use Rattle.pv_command_load.proofs.SourceLaws.{scl_word}
+use Rattle.pv_command_load.proofs.source.scl_parsed.Goals as goal
+
+pub of_parse-requires : goal.of_parse-requires
+of_parse-requires c =
+    scl_word c.args.number c.args.source.now.bytes.items c.as_slice.result.now c.args.tokens.now c.as_slice.ensures.value c.requires.cut
+    c.in-Err.fault c.in-Err.ensures

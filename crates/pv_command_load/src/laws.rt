@@ -1,0 +1,23 @@
+//! What files hold, said of all files.
+ghost use Rattle.std.specs.Prelude.{ℕ, List};
+ghost use Rattle.pv_edge.specs.Files.{FileMap};
+ghost use Rattle.pv_command_load.specs.Correct.{FilesDecideOne};
+
+use pv_case::{bytes_say_one_case, first_breach_is_one};
+use pv_laws_readings::laws::{sources_are_judged_in_one_way, texts_are_one_name};
+use pv_pattern_read::laws::{first_fault_is_one, texts_are_one_expression, texts_say_one_pattern};
+use pv_tree::least_fault_is_one;
+
+/// Files that tell what they hold have one thing at most that a command works on, one refusal at most, and not both.
+pub fn files_decide_one()
+    ensures { (files : FileMap) (file : List ℕ) → FilesDecideOne files file }
+{
+    bytes_say_one_case();
+    first_breach_is_one();
+    sources_are_judged_in_one_way();
+    least_fault_is_one();
+    texts_are_one_name();
+    texts_are_one_expression();
+    texts_say_one_pattern();
+    first_fault_is_one();
+}

@@ -1,0 +1,23 @@
+-- What laws say of a replay's end and of its trace.
+use Rattle.std.specs.Prelude.{◌≡◌, ℕ, List, Some}
+use Rattle.pv_edge.specs.Files.{FileMap}
+use Rattle.pv_mean.specs.Sources.{Source}
+use Rattle.pv_mean.specs.Frames.{Input, Params}
+use Rattle.pv_mean.specs.Runs.{run}
+use Rattle.pv_pattern.specs.Patterns.{Pattern}
+use Rattle.pv_cert.specs.declared.trace.Trace.{Trace}
+use Rattle.pv_command_replay.specs.declared.end.End.{End}
+use Rattle.pv_command_replay.specs.Ends.{IsEnd}
+use Rattle.pv_command_replay.specs.Traces.{HoldsTrace, HoldsNoTrace}
+
+-- each run ends in one way
+pub record RunsEndInOneWay (source : Source) (p : Pattern) (params : Params) (inputs : List Input) : Type 0 where
+  pub some : (end : End) × IsEnd source p (run source params inputs) end
+  pub one : (end other : End) → IsEnd source p (run source params inputs) end
+      → IsEnd source p (run source params inputs) other → end ≡ other
+
+-- where the files tell what they hold, a trace's file holds one trace of the source at most, or has one line at fault at most, and not both
+pub record FilesDecideOneTrace (files : FileMap) (file : List ℕ) (source : Source) : Type 0 where
+  pub one_trace : (t u : Trace) → HoldsTrace (Some files) file source t → HoldsTrace (Some files) file source u → t ≡ u
+  pub one_line : (n m : ℕ) → HoldsNoTrace (Some files) file source n → HoldsNoTrace (Some files) file source m → n ≡ m
+  pub apart : (t : Trace) (n : ℕ) → HoldsTrace (Some files) file source t → HoldsNoTrace (Some files) file source n → ⊥

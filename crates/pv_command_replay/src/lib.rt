@@ -1,0 +1,14 @@
+//! The command `replay CASE TRACE`. It goes through the stages of `pv_command_load`, then its trace, then the trace's scans. What it says and what
+//! its types mean stands in `specs/`.
+#![tactic(auto)]
+
+mod end;
+pub mod laws;
+mod replay;
+mod report;
+mod scans;
+mod trace;
+
+pub use end::{Cause, End};
+pub use replay::{ReplayStop, Replayed, replay_in};
+pub use trace::TraceStop;

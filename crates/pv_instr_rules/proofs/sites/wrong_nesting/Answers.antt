@@ -1,7 +1,0 @@
-use Rattle.pv_names.specs.Tables.{project_of}
-use Rattle.pv_expr_rules.proofs.ForCallers.{if_ok}
-use Rattle.pv_instr_rules.proofs.ProjectLaws.{nestings_in_project}
-use Rattle.pv_instr_rules.proofs.sites.wrong_nesting.Goals as goal
-
-pub returns : goal.returns
-returns c = if_ok c.nearest_site.result (λ o is. nestings_in_project (project_of c.args.tables.now) o is) c.nearest_site.ensures

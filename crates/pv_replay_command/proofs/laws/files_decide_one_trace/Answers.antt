@@ -1,5 +1,0 @@
-use Rattle.pv_replay_command.proofs.TraceLaws.{one_trace_held}
-use Rattle.pv_replay_command.proofs.laws.files_decide_one_trace.Goals as goal
-
-pub returns : goal.returns
-returns c = one_trace_held

@@ -1,0 +1,99 @@
+//! What rows are read as.
+use pv_lex::{Language, MAX_SOURCE, tokens};
+use pv_rules::{check, has_no_instructions};
+use pv_scl_parse::{expression, parse};
+use pv_tree::{Blocks, Expr, Operand, Project};
+use pv_types::Name;
+use pv_word::Ty;
+use std::alloc::{AllocError, Global};
+use std::test::Fail;
+
+/// The number that places have for the file of a source.
+pub const FILE: u32 = 1;
+
+/// Whether a byte of a row's source is a mark: it shows a place and isn't of the source.
+fn is_mark(byte: u8) -> bool {
+    matches!(byte, b'^' | b'!' | b'?')
+}
+
+/// The bytes of a text without its marks.
+pub fn unmarked(alloc: Global, text: &str) -> Result<Vec<u8>, AllocError> {
+    let mut out = Vec::new(alloc);
+    for byte in text.as_bytes() {
+        if !is_mark(*byte) {
+            out.push(*byte)?;
+        }
+    }
+    Ok(out)
+}
+
+/// The blocks that a source reads as.
+fn blocks_of(alloc: Global, bytes: &[u8]) -> Result<Blocks, Fail> {
+    if bytes.len() > MAX_SOURCE {
+        return Ok(Blocks {
+            list: Vec::new(alloc),
+        });
+    }
+    let cut = tokens(alloc, FILE, Language::Scl, bytes)?;
+    Ok(parse(alloc, bytes, cut.as_slice())?)
+}
+
+/// The operand that a text reads as.
+fn operand_of(alloc: Global, text: &str) -> Result<Option<Operand>, Fail> {
+    let bytes = text.as_bytes();
+    if bytes.len() > MAX_SOURCE {
+        return Ok(None);
+    }
+    let cut = tokens(alloc, 0, Language::Scl, bytes)?;
+    match expression(alloc, bytes, cut.as_slice())? {
+        Expr::Read(operand) => Ok(Some(operand)),
+        _ => Ok(None),
+    }
+}
+
+/// The type of a word.
+fn type_of(word: &str) -> Ty {
+    match word {
+        "BOOL" => Ty::Bool,
+        "BYTE" => Ty::Byte,
+        "WORD" => Ty::Word,
+        "DWORD" => Ty::Dword,
+        "INT" => Ty::Int,
+        "DINT" => Ty::Dint,
+        _ => Ty::Time,
+    }
+}
+
+/// The symbols of a text, which has commas between them: the quoted name, the type and the address, with a blank between them.
+fn symbols_of(alloc: Global, text: &str) -> Result<Vec<(Name, Operand, Ty)>, Fail> {
+    let mut symbols = Vec::new(alloc);
+    for part in text.split(',') {
+        let (name, more) = part.split_once(' ').unwrap_or((part, ""));
+        let (word, at) = more.split_once(' ').unwrap_or((more, ""));
+        if at.is_empty() {
+            continue;
+        }
+        if let Some(operand) = operand_of(alloc, at)? {
+            symbols.push((
+                Name::quoted(alloc, name.as_bytes())?,
+                operand,
+                type_of(word),
+            ))?;
+        }
+    }
+    Ok(symbols)
+}
+
+/// The project of the blocks that a row's source reads as, with these symbols, where no rule of the language is broken.
+pub fn project_of(alloc: Global, symbols: &str, source: &str) -> Result<Option<Project>, Fail> {
+    let bytes = unmarked(alloc, source)?;
+    let Blocks { list } = blocks_of(alloc, bytes.as_slice())?;
+    if !has_no_instructions(list.as_slice()) {
+        return Ok(None);
+    }
+    let symbols = symbols_of(alloc, symbols)?;
+    match check(alloc, Blocks { list }, symbols) {
+        Ok(project) => Ok(Some(project)),
+        Err(_) => Ok(None),
+    }
+}

@@ -1,7 +1,0 @@
-use Rattle.pv_names.specs.Tables.{project_of}
-use Rattle.pv_expr_rules.proofs.ForCallers.{if_ok}
-use Rattle.pv_rules.proofs.NearPieces.{misfit_piece}
-use Rattle.pv_rules.proofs.on_starts.misfit_start.Goals as goal
-
-pub returns : goal.returns
-returns c = if_ok c.nearest_piece.result (λ o is. misfit_piece (project_of c.args.tables.now) o is) c.nearest_piece.ensures

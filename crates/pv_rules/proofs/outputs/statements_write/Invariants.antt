@@ -1,0 +1,12 @@
+use Rattle.std.proofs.Common.{◌≡◌, map, drop}
+use Rattle.std.specs.Prelude.{flat_map}
+use Rattle.pv_tree.specs.Parts.{calls_of_stmt}
+use Rattle.pv_tree.specs.View.{operand_tree, stmt_tree}
+use Rattle.pv_names.specs.InScope.{scope_of}
+use Rattle.pv_rules.specs.Outputs.{is_written}
+use Rattle.pv_rules.proofs.outputs.statements_write.Given as goal
+
+abbrev pub invariant-loop-stmt : goal.invariant-loop-stmt
+invariant-loop-stmt l =
+    is_written (scope_of l.scope) (flat_map calls_of_stmt (map (λ s. stmt_tree s.now) (drop l.stmt-index l.statements))) (operand_tree l.operand)
+    ≡ is_written (scope_of l.scope) (flat_map calls_of_stmt (map (λ s. stmt_tree s.now) l.statements)) (operand_tree l.operand)

@@ -1,0 +1,206 @@
+//! Of each rule the nearest place at which a project breaks it, group by group.
+ghost use Rattle.std.specs.Prelude.{◌≡◌, IfOk, map};
+ghost use Rattle.pv_tree.specs.View.{block_tree};
+ghost use Rattle.pv_tree.specs.Projects.{project_tree};
+ghost use Rattle.pv_tree.specs.Scopes.{ProjectTree};
+ghost use Rattle.pv_names.specs.Tables.{project_of};
+ghost use Rattle.pv_rules.specs.Found.{AreDeclared, AreStated, AreWhole, AreChained, AreInstructed, AreAll};
+
+use crate::project_rules::{beyond_bounds, misfit, missing_name, out_of_range, wrong_address};
+use crate::values::not_callable;
+use pv_machine::Place;
+use pv_names::{Tables, entries};
+use pv_rules_call::{call_cycle, call_too_deep};
+use pv_rules_code::{
+    fixed_output, fixed_target, outside_loop, wrong_argument, wrong_case, wrong_condition,
+    wrong_counter, wrong_step,
+};
+use pv_rules_decl::{doubled_name, missing_type, wrong_array};
+use pv_rules_instr::{refused_operand_or_literal, wrong_label, wrong_nesting, wrong_range};
+use pv_tree::{Block, Operand};
+use pv_types::Name;
+use pv_word::Ty;
+use std::alloc::{AllocError, Global};
+
+/// The rules on declarations alone.
+#[derive(Clone, Copy)]
+pub(crate) struct Declared {
+    pub(crate) doubled: Option<Place>,
+    pub(crate) untyped: Option<Place>,
+    pub(crate) array: Option<Place>,
+}
+
+/// The rules on statements and calls alone.
+#[derive(Clone, Copy)]
+pub(crate) struct Stated {
+    pub(crate) condition: Option<Place>,
+    pub(crate) target: Option<Place>,
+    pub(crate) counter: Option<Place>,
+    pub(crate) step: Option<Place>,
+    pub(crate) leave: Option<Place>,
+    pub(crate) choice: Option<Place>,
+    pub(crate) argument: Option<Place>,
+    pub(crate) output: Option<Place>,
+}
+
+/// The rules that code, declarations and the values of data blocks can break.
+#[derive(Clone, Copy)]
+pub(crate) struct Whole {
+    pub(crate) missing: Option<Place>,
+    pub(crate) misfit: Option<Place>,
+    pub(crate) outside: Option<Place>,
+    pub(crate) beyond: Option<Place>,
+    pub(crate) uncallable: Option<Place>,
+    pub(crate) address: Option<Place>,
+}
+
+/// The rules on which block calls which.
+#[derive(Clone, Copy)]
+pub(crate) struct Chained {
+    pub(crate) cycle: Option<Place>,
+    pub(crate) deep: Option<Place>,
+}
+
+/// The rules on instructions alone.
+#[derive(Clone, Copy)]
+pub(crate) struct Instructed {
+    pub(crate) label: Option<Place>,
+    pub(crate) range: Option<Place>,
+    pub(crate) nesting: Option<Place>,
+    pub(crate) operand: Option<Place>,
+}
+
+/// All rules.
+#[derive(Clone, Copy)]
+pub(crate) struct Nearest {
+    pub(crate) declared: Declared,
+    pub(crate) stated: Stated,
+    pub(crate) whole: Whole,
+    pub(crate) chained: Chained,
+    pub(crate) instructed: Instructed,
+}
+
+/// Those of declarations.
+fn declarations_near(alloc: Global, blocks: &[Block]) -> Result<Declared, AllocError>
+    ensures { (project : ProjectTree) → project.blocks ≡ map block_tree blocks.now
+        → IfOk result (λ d. AreDeclared project d) }
+{
+    let doubled = doubled_name(alloc, blocks)?;
+    let untyped = missing_type(alloc, blocks)?;
+    let array = wrong_array(alloc, blocks)?;
+    Ok(Declared {
+        doubled,
+        untyped,
+        array,
+    })
+}
+
+/// Those of statements and calls.
+fn statements_near<'p>(alloc: Global, tables: &'p Tables<'p>) -> Result<Stated, AllocError>
+    ensures { IfOk result (λ s. AreStated (project_of tables.now) s) }
+{
+    let condition = wrong_condition(alloc, tables)?;
+    let target = fixed_target(alloc, tables)?;
+    let counter = wrong_counter(alloc, tables)?;
+    let step = wrong_step(alloc, tables)?;
+    let leave = outside_loop(alloc, tables)?;
+    let choice = wrong_case(alloc, tables)?;
+    let argument = wrong_argument(alloc, tables)?;
+    let output = fixed_output(alloc, tables)?;
+    Ok(Stated {
+        condition,
+        target,
+        counter,
+        step,
+        leave,
+        choice,
+        argument,
+        output,
+    })
+}
+
+/// Those of all together.
+fn whole_near<'p>(
+    alloc: Global,
+    tables: &'p Tables<'p>,
+    blocks: &[Block],
+) -> Result<Whole, AllocError>
+    requires { (project_of tables.now).blocks ≡ map block_tree blocks.now }
+    ensures { IfOk result (λ w. AreWhole (project_of tables.now) w) }
+{
+    let missing = missing_name(alloc, tables)?;
+    let misfit = misfit(alloc, tables, blocks)?;
+    let outside = out_of_range(alloc, tables)?;
+    let beyond = beyond_bounds(alloc, tables)?;
+    let uncallable = not_callable(alloc, tables)?;
+    let address = wrong_address(alloc, tables)?;
+    Ok(Whole {
+        missing,
+        misfit,
+        outside,
+        beyond,
+        uncallable,
+        address,
+    })
+}
+
+/// Those of chains of calls.
+fn chains_near<'p>(alloc: Global, tables: &'p Tables<'p>) -> Result<Chained, AllocError>
+    ensures { IfOk result (λ c. AreChained (project_of tables.now) c) }
+{
+    let cycle = call_cycle(alloc, tables)?;
+    let deep = call_too_deep(alloc, tables)?;
+    Ok(Chained { cycle, deep })
+}
+
+/// Those of instructions.
+fn instructions_near<'p>(alloc: Global, tables: &'p Tables<'p>) -> Result<Instructed, AllocError>
+    ensures { IfOk result (λ i. AreInstructed (project_of tables.now) i) }
+{
+    let label = wrong_label(alloc, tables)?;
+    let range = wrong_range(alloc, tables)?;
+    let nesting = wrong_nesting(alloc, tables)?;
+    let operand = refused_operand_or_literal(alloc, tables)?;
+    Ok(Instructed {
+        label,
+        range,
+        nesting,
+        operand,
+    })
+}
+
+/// Those of all rules, of the tables of these blocks.
+fn all_near<'p>(
+    alloc: Global,
+    tables: &'p Tables<'p>,
+    blocks: &[Block],
+) -> Result<Nearest, AllocError>
+    requires { (project_of tables.now).blocks ≡ map block_tree blocks.now }
+    ensures { IfOk result (λ n. AreAll (project_of tables.now) n) }
+{
+    let declared = declarations_near(alloc, blocks)?;
+    let stated = statements_near(alloc, tables)?;
+    let whole = whole_near(alloc, tables, blocks)?;
+    let chained = chains_near(alloc, tables)?;
+    let instructed = instructions_near(alloc, tables)?;
+    Ok(Nearest {
+        declared,
+        stated,
+        whole,
+        chained,
+        instructed,
+    })
+}
+
+/// Of each rule that blocks and symbols can break the nearest place.
+pub(crate) fn nearest_of(
+    alloc: Global,
+    blocks: &[Block],
+    symbols: &[(Name, Operand, Ty)],
+) -> Result<Nearest, AllocError>
+    ensures { IfOk result (λ n. AreAll (project_tree blocks.now symbols.now) n) }
+{
+    let all = entries(alloc, blocks)?;
+    let tables = Tables::of(alloc, all.as_slice(), symbols)?;
+    all_near(alloc, &tables, blocks)
+}

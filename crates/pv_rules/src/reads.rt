@@ -1,0 +1,291 @@
+//! Operands that an expression or a statement reads: the nearest one that is the name of a function without a value, and that no call
+//! writes.
+ghost use Rattle.std.specs.Prelude.{◌≡◌, ◌++◌, [], map, flat_map, option_to_list};
+ghost use Rattle.pv_tree.specs.InstructionGroups as groups;
+ghost use Rattle.pv_tree.specs.Parts.{conditions_of};
+ghost use Rattle.pv_tree.specs.View.{arg_tree, call_tree, expr_tree, exprs_of, operand_tree, step_tree, stmt_tree, instr_tree, start_tree};
+ghost use Rattle.pv_names.specs.InScope.{scope_of};
+ghost use Rattle.pv_rules_expr.specs.NearestIn.{nearest_in};
+ghost use Rattle.pv_rules_expr.specs.Operands.{void_at};
+ghost use Rattle.pv_rules.specs.Codes.{calls_of_code};
+ghost use Rattle.pv_rules.specs.Reads.{reads_in, reads_in_operand, reads_in_step, reads_of_call, reads_of_instruction, reads_of_stmt, reads_of_starts};
+ghost use Rattle.pv_rules.specs.Values.{value_at};
+
+use crate::code::Code;
+use crate::outputs::is_written;
+use pv_machine::Place;
+use pv_names::{Scope, Thing, is_void, root_place};
+use pv_rules_expr::nearer_of;
+use pv_rules_instr::{operand_of_instruction, read_operand};
+use pv_tree::{Arg, Expr, Instr, Operand, Step, Stmt};
+use pv_types::Literal;
+
+/// The name of a function without a value that an operand is.
+fn void_name(scope: &Scope, operand: &Operand) -> Option<Place>
+    ensures { result ≡ void_at (scope_of scope.now) (operand_tree operand.now) }
+{
+    match scope.thing_of(operand) {
+        Thing::Block(entry) => {
+            if is_void(entry.block) {
+                Some(root_place(&operand.root, operand.place))
+            } else {
+                None
+            }
+        }
+        Thing::Part(_) => None,
+        Thing::Constant(_) => None,
+        Thing::NoName(_) => None,
+        Thing::NoArray(_) => None,
+        Thing::ADate(_) => None,
+        Thing::Untold => None,
+    }
+}
+
+/// The same, unless a call writes the operand.
+fn value_name(scope: &Scope, code: Code, operand: &Operand) -> Option<Place>
+    ensures { result ≡ value_at (scope_of scope.now) (calls_of_code code.entry)
+        (operand_tree operand.now) }
+{
+    match void_name(scope, operand) {
+        Some(place) => {
+            if is_written(scope, code, operand) {
+                None
+            } else {
+                Some(place)
+            }
+        }
+        None => None,
+    }
+}
+
+/// The nearest one, with those of an expression.
+#[cycle(reading)]
+fn value_in(scope: &Scope, code: Code, e: &Expr, nearest: Option<Place>) -> Option<Place>
+    ensures { let f = value_at (scope_of scope.now) (calls_of_code code.entry) in
+        result ≡ nearest_in f (reads_in (expr_tree e.now)) nearest }
+{
+    match e {
+        Expr::Lit { .. } => nearest,
+        Expr::Read(operand) => {
+            let so_far = nearer_of(nearest, value_name(scope, code, operand));
+            value_in_operand(scope, code, operand, so_far)
+        }
+        Expr::Unary { arg, .. } => value_in(scope, code, arg, nearest),
+        Expr::Binary { left, right, .. } => {
+            let so_far = value_in(scope, code, left, nearest);
+            value_in(scope, code, right, so_far)
+        }
+        Expr::Std { args, .. } => {
+            let mut best = nearest;
+            for arg in args {
+                best = value_in(scope, code, arg, best);
+            }
+            best
+        }
+        Expr::Paren(_, inner) => value_in(scope, code, inner, nearest),
+    }
+}
+
+/// The nearest one, with those of a step's index.
+#[cycle(reading)]
+fn value_in_step(scope: &Scope, code: Code, step: &Step, nearest: Option<Place>) -> Option<Place>
+    ensures { let f = value_at (scope_of scope.now) (calls_of_code code.entry) in
+        result ≡ nearest_in f (reads_in_step (step_tree step.now)) nearest }
+{
+    match step {
+        Step::Field(..) => nearest,
+        Step::Index(e, _) => value_in(scope, code, e, nearest),
+    }
+}
+
+/// The nearest one, with those of an operand's indexes.
+#[cycle(reading)]
+fn value_in_operand(
+    scope: &Scope,
+    code: Code,
+    operand: &Operand,
+    nearest: Option<Place>,
+) -> Option<Place>
+    ensures { let f = value_at (scope_of scope.now) (calls_of_code code.entry) in
+        result ≡ nearest_in f (reads_in_operand (operand_tree operand.now)) nearest }
+{
+    let mut best = nearest;
+    for step in &operand.steps {
+        best = value_in_step(scope, code, step, best);
+    }
+    best
+}
+
+/// The nearest one, with those of arguments.
+fn value_in_args(scope: &Scope, code: Code, args: &[Arg], nearest: Option<Place>) -> Option<Place>
+    ensures { let f = value_at (scope_of scope.now) (calls_of_code code.entry) in
+        result ≡ nearest_in f (flat_map (λ a. reads_in a.value) (map arg_tree args.now)) nearest }
+{
+    let mut best = nearest;
+    for arg in args {
+        best = value_in(scope, code, &arg.value, best);
+    }
+    best
+}
+
+/// The nearest one, with those of the conditions of an IF.
+fn value_in_conditions(
+    scope: &Scope,
+    code: Code,
+    arms: &[(Expr, Vec<Stmt>)],
+    nearest: Option<Place>,
+) -> Option<Place>
+    ensures { let f = value_at (scope_of scope.now) (calls_of_code code.entry) in
+        result ≡ nearest_in f (flat_map reads_in (map (λ a. expr_tree a.0) arms.now)) nearest }
+{
+    let mut best = nearest;
+    for arm in arms {
+        best = value_in(scope, code, &arm.0, best);
+    }
+    best
+}
+
+/// The nearest one, with those of a target and the value that it takes.
+fn value_in_assignment(
+    scope: &Scope,
+    code: Code,
+    target: &Operand,
+    value: &Expr,
+    nearest: Option<Place>,
+) -> Option<Place>
+    ensures { let f = value_at (scope_of scope.now) (calls_of_code code.entry) in
+        result ≡ nearest_in f (reads_in_operand (operand_tree target.now)
+        ++ reads_in (expr_tree value.now)) nearest }
+{
+    let so_far = value_in_operand(scope, code, target, nearest);
+    value_in(scope, code, value, so_far)
+}
+
+/// The nearest one, with those of a target and the call whose value it takes.
+fn value_in_assigned(
+    scope: &Scope,
+    code: Code,
+    target: &Operand,
+    args: &[Arg],
+    nearest: Option<Place>,
+) -> Option<Place>
+    ensures { let f = value_at (scope_of scope.now) (calls_of_code code.entry) in
+        result ≡ nearest_in f (reads_in_operand (operand_tree target.now)
+        ++ flat_map (λ a. reads_in a.value) (map arg_tree args.now)) nearest }
+{
+    let so_far = value_in_operand(scope, code, target, nearest);
+    value_in_args(scope, code, args, so_far)
+}
+
+/// The nearest one, with those of two expressions.
+fn value_in_bounds(
+    scope: &Scope,
+    code: Code,
+    first: &Expr,
+    last: &Expr,
+    nearest: Option<Place>,
+) -> Option<Place>
+    ensures { let f = value_at (scope_of scope.now) (calls_of_code code.entry) in
+        result ≡ nearest_in f (reads_in (expr_tree first.now)
+        ++ reads_in (expr_tree last.now)) nearest }
+{
+    let so_far = value_in(scope, code, first, nearest);
+    value_in(scope, code, last, so_far)
+}
+
+/// The nearest one, with those of a statement by itself.
+pub(crate) fn value_in_stmt(
+    scope: &Scope,
+    code: Code,
+    stmt: &Stmt,
+    nearest: Option<Place>,
+) -> Option<Place>
+    ensures { let f = value_at (scope_of scope.now) (calls_of_code code.entry) in
+        result ≡ nearest_in f (reads_of_stmt (stmt_tree stmt.now)) nearest }
+{
+    match stmt {
+        Stmt::Assign { target, value, .. } => {
+            value_in_assignment(scope, code, target, value, nearest)
+        }
+        Stmt::AssignCall { target, call, .. } => {
+            value_in_assigned(scope, code, target, call.args.as_slice(), nearest)
+        }
+        Stmt::If { arms, .. } => value_in_conditions(scope, code, arms.as_slice(), nearest),
+        Stmt::Case { selector, .. } => value_in(scope, code, selector, nearest),
+        Stmt::For { first, last, .. } => value_in_bounds(scope, code, first, last, nearest),
+        Stmt::While { cond, .. } => value_in(scope, code, cond, nearest),
+        Stmt::Repeat { cond, .. } => value_in(scope, code, cond, nearest),
+        Stmt::Call(call) => value_in_args(scope, code, call.args.as_slice(), nearest),
+        Stmt::Exit(_) => nearest,
+        Stmt::Continue(_) => nearest,
+        Stmt::Return(_) => nearest,
+        Stmt::Empty(_) => nearest,
+    }
+}
+
+/// The nearest one, with those in an instruction's operand.
+fn value_in_named(scope: &Scope, code: Code, instr: &Instr, nearest: Option<Place>) -> Option<Place>
+    ensures { let f = value_at (scope_of scope.now) (calls_of_code code.entry) in
+        result ≡ nearest_in f (flat_map reads_in_operand (option_to_list
+        (groups.operand_of_instruction (instr_tree instr.now)))) nearest }
+{
+    match operand_of_instruction(instr) {
+        Some(operand) => value_in_operand(scope, code, operand, nearest),
+        None => nearest,
+    }
+}
+
+/// The nearest one, with those in the arguments of an instruction's call.
+fn value_in_called(
+    scope: &Scope,
+    code: Code,
+    instr: &Instr,
+    nearest: Option<Place>,
+) -> Option<Place>
+    ensures { let f = value_at (scope_of scope.now) (calls_of_code code.entry) in
+        result ≡ nearest_in f (flat_map reads_of_call (option_to_list
+        (instr_tree instr.now).call)) nearest }
+{
+    match &instr.call {
+        Some(call) => value_in_args(scope, code, call.args.as_slice(), nearest),
+        None => nearest,
+    }
+}
+
+/// The nearest one, with those of an instruction.
+pub(crate) fn value_in_instr(
+    scope: &Scope,
+    code: Code,
+    instr: &Instr,
+    nearest: Option<Place>,
+) -> Option<Place>
+    ensures { let f = value_at (scope_of scope.now) (calls_of_code code.entry) in
+        result ≡ nearest_in f (reads_of_instruction (instr_tree instr.now)) nearest }
+{
+    let named = value_in_named(scope, code, instr, nearest);
+    let called = value_in_called(scope, code, instr, named);
+    match read_operand(instr) {
+        Some(operand) => nearer_of(called, value_name(scope, code, operand)),
+        None => called,
+    }
+}
+
+/// The nearest one, with those of the indexes in the parts of a data block that are given values; no call writes them.
+pub(crate) fn value_in_starts(
+    scope: &Scope,
+    starts: &[(Operand, Literal)],
+    nearest: Option<Place>,
+) -> Option<Place>
+    ensures { let f = value_at (scope_of scope.now) [] in
+        result ≡ nearest_in f (reads_of_starts (map start_tree starts.now)) nearest }
+{
+    let none = Code {
+        statements: &[],
+        instructions: &[],
+    };
+    let mut best = nearest;
+    for start in starts {
+        best = value_in_operand(scope, none, &start.0, best);
+    }
+    best
+}

@@ -1,0 +1,113 @@
+-- Statements of the code as plain data, form by form, and the walk over lists of them, one element more.
+use Rattle.std.proofs.Common.{◌≡◌, ℕ, ◌<◌, ◌+◌, suc, refl, sym, ap, ◌∙◌, List, [], ◌∷◌, ◌++◌, map, drop, get_or, length, arith, append_assoc, Option, None, Some}
+use Rattle.std.specs.Prelude.{option_map, option_to_list}
+use Rattle.std.proofs.Math.Seq.{drop-cons}
+use Rattle.std.proofs.lemmas.Simd.{map-map}
+use Rattle.pv_machine.specs.declared.place.Place.{Place}
+use Rattle.pv_tree.specs.declared.stmt.Choice.{Choice}
+use Rattle.pv_tree.specs.declared.stmt.Stmt.{Stmt, fold-roll-Stmt}
+use Rattle.pv_tree.specs.declared.stmt.Stmt.TheViews as form
+use Rattle.pv_tree.specs.declared.stmt.Stmt.TheVariants.{rolls-If, rolls-Case, rolls-For}
+use Rattle.pv_tree.specs.declared.stmt.Stmt.TheOpen.{Stmt-F}
+use Rattle.pv_tree.specs.Tree.{ExprTree, Choices, StmtTree, StmtTrees, if_, case_, for_, ArmTrees, BranchTrees, ElseTree, no_else, else_}
+use Rattle.pv_tree.specs.View.{expr_tree, stmt_tree, stmt_step, stmts_of, arms_of, branches_of, else_of}
+use Rattle.pv_tree.specs.Parts.{Loop, Spot, spots_of, spots_of_stmts, spots_of_arms, spots_of_branches, spots_of_else, conditions_of}
+use Rattle.pv_tree.specs.Rules.MissingNames.{values_of_choices, values_of_branches}
+use Rattle.pv_rules_expr.specs.Looks.{nearer_of}
+use Rattle.pv_rules_expr.specs.NearestIn.{nearest_in}
+use Rattle.pv_rules_code.specs.Spots.{spot}
+use Rattle.pv_rules_expr.proofs.ForCallers.{in_append}
+pub use Rattle.pv_names.proofs.ForCallers.{stmt-for, stmt-if, stmt-case}
+
+-- ---- conditions
+
+pub conditions_seen : {X : Type 0} (g : X → ExprTree × StmtTrees) (xs : List X) → conditions_of (arms_of (map g xs)) ≡ map (λ x. (g x).0) xs
+conditions_seen g [] = refl
+conditions_seen g (x ∷ xs) = ap (λ l. (g x).0 ∷ l) (conditions_seen g xs)
+
+-- ---- the walk
+
+pub if_begun : (f : Spot → Option Place) (loops : List Loop) (s : StmtTree) (all : ArmTrees) (other : ElseTree) (place : Place) (n m : Option Place)
+    → s ≡ if_ all other place → m ≡ nearer_of n (f (spot loops s))
+    → nearest_in f (spots_of_arms loops all ++ spots_of_else loops other) m ≡ nearest_in f (spots_of loops s) n
+if_begun f loops s all other place n m is begun =
+    ap (nearest_in f (spots_of_arms loops all ++ spots_of_else loops other)) (begun ∙ ap (λ t. nearer_of n (f (spot loops t))) is)
+    ∙ ap (λ t. nearest_in f (spots_of loops t) n) (sym is)
+
+pub case_begun : (f : Spot → Option Place) (loops : List Loop) (s : StmtTree) (e : ExprTree) (all : BranchTrees) (other : ElseTree) (place : Place)
+    (n m : Option Place) → s ≡ case_ e all other place → m ≡ nearer_of n (f (spot loops s))
+    → nearest_in f (spots_of_branches loops all ++ spots_of_else loops other) m ≡ nearest_in f (spots_of loops s) n
+case_begun f loops s e all other place n m is begun =
+    ap (nearest_in f (spots_of_branches loops all ++ spots_of_else loops other)) (begun ∙ ap (λ t. nearer_of n (f (spot loops t))) is)
+    ∙ ap (λ t. nearest_in f (spots_of loops t) n) (sym is)
+
+module _ {X : Type 0} (f : Spot → Option Place) (loops : List Loop) (xs : List X) (i j : ℕ) (x : X) (n m total : Option Place) where
+  pub next_stmt : (g : X → StmtTree) → i < length xs → x ≡ get_or xs i x → j ≡ i + 1 → m ≡ nearest_in f (spots_of loops (g x)) n
+      → nearest_in f (spots_of_stmts loops (stmts_of (map g (drop i xs)))) n ≡ total
+      → nearest_in f (spots_of_stmts loops (stmts_of (map g (drop j xs)))) m ≡ total
+  next_stmt g inside is next looked left =
+      let k : j ≡ suc i = omega (arith, next) in
+      let rest = spots_of_stmts loops (stmts_of (map g (drop (suc i) xs))) in
+      ap (λ k. nearest_in f (spots_of_stmts loops (stmts_of (map g (drop k xs)))) m) k
+      ∙ ap (nearest_in f rest) looked
+      ∙ sym (in_append f (spots_of loops (g x)) rest n)
+      ∙ ap (λ l. nearest_in f (spots_of_stmts loops (stmts_of (map g l))) n) (sym (drop-cons xs i x inside ∙ ap (λ y. y ∷ drop (suc i) xs) (sym is)))
+      ∙ left
+
+  pub next_arm : (g : X → ExprTree × StmtTrees) (behind : List Spot) → i < length xs → x ≡ get_or xs i x → j ≡ i + 1
+      → m ≡ nearest_in f (spots_of_stmts loops (g x).1) n
+      → nearest_in f (spots_of_arms loops (arms_of (map g (drop i xs))) ++ behind) n ≡ total
+      → nearest_in f (spots_of_arms loops (arms_of (map g (drop j xs))) ++ behind) m ≡ total
+  next_arm g behind inside is next looked left =
+      let k : j ≡ suc i = omega (arith, next) in
+      let rest = spots_of_arms loops (arms_of (map g (drop (suc i) xs))) in
+      ap (λ k. nearest_in f (spots_of_arms loops (arms_of (map g (drop k xs))) ++ behind) m) k
+      ∙ ap (nearest_in f (rest ++ behind)) looked
+      ∙ sym (in_append f (spots_of_stmts loops (g x).1) (rest ++ behind) n)
+      ∙ ap (λ l. nearest_in f l n) (sym (append_assoc (spots_of_stmts loops (g x).1) rest behind))
+      ∙ ap (λ l. nearest_in f (spots_of_arms loops (arms_of (map g l)) ++ behind) n)
+      (sym (drop-cons xs i x inside ∙ ap (λ y. y ∷ drop (suc i) xs) (sym is)))
+      ∙ left
+
+  pub next_branch : (g : X → Choices × StmtTrees) (behind : List Spot) → i < length xs → x ≡ get_or xs i x → j ≡ i + 1
+      → m ≡ nearest_in f (spots_of_stmts loops (g x).1) n
+      → nearest_in f (spots_of_branches loops (branches_of (map g (drop i xs))) ++ behind) n ≡ total
+      → nearest_in f (spots_of_branches loops (branches_of (map g (drop j xs))) ++ behind) m ≡ total
+  next_branch g behind inside is next looked left =
+      let k : j ≡ suc i = omega (arith, next) in
+      let rest = spots_of_branches loops (branches_of (map g (drop (suc i) xs))) in
+      ap (λ k. nearest_in f (spots_of_branches loops (branches_of (map g (drop k xs))) ++ behind) m) k
+      ∙ ap (nearest_in f (rest ++ behind)) looked
+      ∙ sym (in_append f (spots_of_stmts loops (g x).1) (rest ++ behind) n)
+      ∙ ap (λ l. nearest_in f l n) (sym (append_assoc (spots_of_stmts loops (g x).1) rest behind))
+      ∙ ap (λ l. nearest_in f (spots_of_branches loops (branches_of (map g l)) ++ behind) n)
+      (sym (drop-cons xs i x inside ∙ ap (λ y. y ∷ drop (suc i) xs) (sym is)))
+      ∙ left
+
+-- ---- the values of branches
+
+module _ (f : Choice → Option Place) (i j : ℕ) (n m total : Option Place) where
+  pub next_values : {X : Type 0} (g : X → Choices × StmtTrees) (xs : List X) (x : X) → i < length xs → x ≡ get_or xs i x → j ≡ i + 1
+      → m ≡ nearest_in f (values_of_choices (g x).0) n
+      → nearest_in f (values_of_branches (branches_of (map g (drop i xs)))) n ≡ total
+      → nearest_in f (values_of_branches (branches_of (map g (drop j xs)))) m ≡ total
+  next_values g xs x inside is next looked left =
+      let k : j ≡ suc i = omega (arith, next) in
+      let rest = values_of_branches (branches_of (map g (drop (suc i) xs))) in
+      ap (λ k. nearest_in f (values_of_branches (branches_of (map g (drop k xs)))) m) k
+      ∙ ap (nearest_in f rest) looked
+      ∙ sym (in_append f (values_of_choices (g x).0) rest n)
+      ∙ ap (λ l. nearest_in f (values_of_branches (branches_of (map g l))) n) (sym (drop-cons xs i x inside ∙ ap (λ y. y ∷ drop (suc i) xs) (sym is)))
+      ∙ left
+
+  pub next_choice : (xs : List (Choice × Option Choice)) (x : Choice × Option Choice) → i < length xs → x ≡ get_or xs i x → j ≡ i + 1
+      → m ≡ nearest_in f (x.0 ∷ option_to_list x.1) n
+      → nearest_in f (values_of_choices (drop i xs)) n ≡ total → nearest_in f (values_of_choices (drop j xs)) m ≡ total
+  next_choice xs x inside is next looked left =
+      let k : j ≡ suc i = omega (arith, next) in
+      let rest = values_of_choices (drop (suc i) xs) in
+      ap (λ k. nearest_in f (values_of_choices (drop k xs)) m) k
+      ∙ ap (nearest_in f rest) looked
+      ∙ sym (in_append f (x.0 ∷ option_to_list x.1) rest n)
+      ∙ ap (λ l. nearest_in f (values_of_choices l) n) (sym (drop-cons xs i x inside ∙ ap (λ y. y ∷ drop (suc i) xs) (sym is)))
+      ∙ left

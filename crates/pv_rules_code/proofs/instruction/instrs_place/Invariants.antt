@@ -1,0 +1,11 @@
+use Rattle.std.proofs.Common.{◌≡◌, map, drop}
+use Rattle.pv_tree.specs.View.{instr_tree}
+use Rattle.pv_names.specs.InScope.{scope_of}
+use Rattle.pv_rules_expr.specs.NearestIn.{nearest_in}
+use Rattle.pv_rules_code.specs.Sites.{instr_place}
+use Rattle.pv_rules_code.proofs.instruction.instrs_place.Given as goal
+
+abbrev pub invariant-loop-instr : goal.invariant-loop-instr
+invariant-loop-instr l =
+    nearest_in (instr_place l.what (scope_of l.scope)) (map instr_tree (drop l.instr-index l.list)) l.best
+    ≡ nearest_in (instr_place l.what (scope_of l.scope)) (map instr_tree l.list) l.fn.nearest

@@ -1,0 +1,11 @@
+pub mod Doubling
+pub mod Entering
+pub mod FirstLaws
+pub mod NearPieces
+pub mod NearStarts
+pub mod PartsAppended
+pub mod PatternBreaches
+pub mod ProjectFirst
+pub mod Projecting
+pub mod StartWalks
+pub mod TypeCycles

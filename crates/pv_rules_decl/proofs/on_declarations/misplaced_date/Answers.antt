@@ -1,0 +1,18 @@
+use Rattle.std.proofs.Common.{map, length, arith, ◌≤◌}
+use Rattle.std.specs.Prelude.{None}
+use Rattle.pv_tree.specs.View.{block_tree}
+use Rattle.pv_rules_decl.specs.BlockLists.{MisplacesDateIn}
+use Rattle.pv_rules_expr.proofs.ForCallers.{near_more, near_all}
+use Rattle.pv_rules_decl.proofs.Projecting.{misplaced_date_is}
+use Rattle.pv_rules_decl.proofs.on_declarations.misplaced_date.Goals as goal
+
+pub loop-block-preserved : goal.loop-block-preserved
+loop-block-preserved c =
+    near_more (λ at b. MisplacesDateIn at b) block_tree c.args.blocks.now c.loop-block.block-index c.block-item.result None c.loop-block.nearest c.in_ok-nearest.nearest
+    c.loop-block-test.true c.block-item.is c.loop-block.invariant c.in_ok-nearest.ensures
+
+pub returns : goal.returns
+returns c = λ project same.
+    let le : length c.args.blocks.now ≤ c.loop-block.block-index = omega arith in
+    misplaced_date_is project (map block_tree c.args.blocks.now) c.loop-block.nearest same
+    (near_all (λ at b. MisplacesDateIn at b) block_tree c.args.blocks.now c.loop-block.block-index None c.loop-block.nearest le c.loop-block.invariant)

@@ -1,0 +1,12 @@
+use Rattle.std.proofs.Common.{refl, true, arith}
+use Rattle.pv_graph.specs.Steps.{steps_of}
+use Rattle.pv_rules_decl.proofs.TypeCycles.{no_number, number_below}
+use Rattle.pv_rules_decl.proofs.types.TypeGraph.is_wrong.Goals as goal
+
+pub returns-in-None : goal.returns-in-None
+returns-in-None c = λ bs g. no_number bs c.args.name.now.key true refl (c.in-None.ensures bs g.names)
+
+pub returns-then-number-len : goal.returns-then-number-len
+returns-then-number-len c = λ bs g.
+    let below = number_below bs (steps_of c.args.self.now.graph) c.args.name.now.key c.in-Some.number g.steps (c.in-Some.ensures bs g.names) in
+    absurd (omega (arith, below))

@@ -1,0 +1,7 @@
+use Rattle.pv_names.specs.Tables.{project_of}
+use Rattle.pv_rules_expr.proofs.ForCallers.{if_ok}
+use Rattle.pv_rules_instr.proofs.ProjectLaws.{nestings_in_project}
+use Rattle.pv_rules_instr.proofs.sites.wrong_nesting.Goals as goal
+
+pub returns : goal.returns
+returns c = if_ok c.nearest_site.result (λ o is. nestings_in_project (project_of c.args.tables.now) o is) c.nearest_site.ensures

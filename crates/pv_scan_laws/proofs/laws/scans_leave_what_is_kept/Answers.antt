@@ -1,8 +1,0 @@
-use Rattle.pv_scan_laws.proofs.Images.{kept_place, param_place}
-use Rattle.pv_scan_laws.proofs.laws.scans_leave_what_is_kept.Goals as goal
-
-pub returns-clause-kept : goal.returns-clause-kept
-returns-clause-kept c = kept_place
-
-pub returns-clause-param : goal.returns-clause-param
-returns-clause-param c = param_place

@@ -1,5 +1,0 @@
-use Rattle.pv_starts.proofs.Tables.{table_starts}
-use Rattle.pv_starts.proofs.laws.cells_begin_in_their_types.Goals as goal
-
-pub returns : goal.returns
-returns c = table_starts
