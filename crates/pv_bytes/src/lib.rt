@@ -4,12 +4,14 @@
 //! a table of the whole area, and the numbers are read off the table.
 #![tactic(auto)]
 
+mod areas;
 mod bytes;
 mod marks;
 mod named;
 mod operands;
 mod statements;
 
+pub use areas::AreaBytes;
 pub use bytes::Bytes;
 pub use named::named_bytes;
 pub use statements::statements_of;

@@ -7,3 +7,4 @@ pub mod Graphs
 pub mod Drawn
 pub mod Calls
 pub mod Answered
+pub mod Named

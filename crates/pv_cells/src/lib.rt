@@ -11,13 +11,16 @@ mod data;
 mod fault;
 mod graph;
 mod made;
+mod named;
 mod node;
 mod nodes;
 mod own;
 mod plan;
+mod project_table;
 mod table;
 mod types;
 mod variables;
 
 pub use fault::CellFault;
+pub use project_table::Table;
 pub use table::cells;

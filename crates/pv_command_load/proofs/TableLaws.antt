@@ -8,8 +8,8 @@ use Rattle.pv_mean.specs.declared.cell.Cell.{Cell}
 use Rattle.pv_mean.specs.AreaBytes.{bytes_of}
 use Rattle.pv_mean.specs.Cells.{table_of}
 use Rattle.pv_pattern.specs.Texts.{AreNamed}
-use Rattle.pv_table.specs.declared.table.Table.{Table}
-use Rattle.pv_table.specs.Named.{wide_bytes}
+use Rattle.pv_cells.specs.declared.project_table.Table.{Table}
+use Rattle.pv_cells.specs.Named.{wide_bytes}
 use Rattle.pv_case_fit.specs.declared.fault.EntryFault.{EntryFault}
 use Rattle.pv_case_fit.specs.declared.fault.EntryFault.TheVariants.{NoEntry, NoMemory}
 use Rattle.pv_case_fit.specs.Entries.{IsEntry}

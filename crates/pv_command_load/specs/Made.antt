@@ -15,8 +15,8 @@ use Rattle.pv_mean.specs.Sources.{Source, source_of}
 use Rattle.pv_pattern.specs.declared.pattern.Pattern.{Pattern as Found}
 use Rattle.pv_pattern.specs.Patterns.{Pattern}
 use Rattle.pv_pattern.specs.Found.{IsPatternOf}
-use Rattle.pv_table.specs.declared.table.Table.{Table}
-use Rattle.pv_table.specs.Named.{wide_bytes}
+use Rattle.pv_cells.specs.declared.project_table.Table.{Table}
+use Rattle.pv_cells.specs.Named.{wide_bytes}
 use Rattle.pv_case.specs.declared.case.Case.{Case}
 use Rattle.pv_case.specs.declared.case.Symbol.{Symbol}
 use Rattle.pv_case.specs.Cases.{CaseData, bound_data, symbol_data}

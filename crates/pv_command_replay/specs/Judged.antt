@@ -17,8 +17,8 @@ use Rattle.pv_pattern.specs.Patterns.{Pattern, judge, asks_for_goal}
 use Rattle.pv_pattern.specs.Failing.{mark_of}
 use Rattle.pv_replay.specs.declared.replay.Replay.{Replay}
 use Rattle.pv_replay.specs.Replays.{image_of, end_of, is_ready}
-use Rattle.pv_table.specs.declared.table.Table.{Table}
-use Rattle.pv_table.specs.Named.{wide_bytes}
+use Rattle.pv_cells.specs.declared.project_table.Table.{Table}
+use Rattle.pv_cells.specs.Named.{wide_bytes}
 use Rattle.pv_cert.specs.declared.trace.Trace.{Trace}
 use Rattle.pv_command_replay.specs.declared.end.Cause.TheVariants as cause
 use Rattle.pv_command_replay.specs.declared.end.End.{End}

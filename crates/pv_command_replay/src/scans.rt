@@ -15,14 +15,14 @@ ghost use Rattle.pv_command_replay.specs.Ends.{IsEnd};
 ghost use Rattle.pv_command_replay.specs.Judged.{is_goal, judged_at, trapped_behind, finished_behind, stopped_by, end_behind, GoesOn, IsSourceOf, HasValuesOf};
 
 use crate::end::{Cause, End};
+use pv_cells::Table;
 use pv_cert::{CellValues, Trace};
 use pv_command_load::Subject;
 use pv_machine::{Place, TrapKind};
 use pv_mean::CaseView;
 use pv_pattern::Pattern;
+use pv_program::make;
 use pv_replay::{Replay, ScanEnd};
-use pv_replay_make::make;
-use pv_table::Table;
 use pv_tree::Project;
 use std::alloc::{AllocError, Global};
 

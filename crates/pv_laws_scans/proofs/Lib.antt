@@ -9,3 +9,8 @@ pub mod LaidOut
 pub mod Naming
 pub mod Tables
 pub mod Bytes
+pub mod Stopping
+pub mod Values
+pub mod Statements
+pub mod Instructions
+pub mod Calls

@@ -2,3 +2,4 @@ pub mod Parts
 pub mod Areas
 pub mod Leaving
 pub mod Naming
+pub mod Places

@@ -8,3 +8,4 @@ pub mod laws;
 pub mod name_laws;
 pub mod run_laws;
 pub mod step_laws;
+pub mod stop_laws;

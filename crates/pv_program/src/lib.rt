@@ -17,6 +17,7 @@ mod label;
 mod placed;
 mod project;
 mod reach;
+mod replay;
 mod slot;
 mod stmt;
 mod value;
@@ -24,3 +25,4 @@ mod word;
 
 pub use fault::ProgramFault;
 pub use project::program_of;
+pub use replay::make;

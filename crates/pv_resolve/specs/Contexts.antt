@@ -7,21 +7,17 @@ use Rattle.pv_tree.specs.Tree.{BlockTree}
 use Rattle.pv_names.specs.Entries.{block_of}
 use Rattle.pv_names.specs.Tables.{project_of}
 use Rattle.pv_mean.specs.Layout.{entry_size, data_size}
-use Rattle.pv_mean.specs.AreaBytes.{Bytes}
+use Rattle.pv_bytes.specs.Lent.{bytes_tree}
 use Rattle.pv_mean.specs.Sources.{Source}
 use Rattle.pv_mean.specs.Spots.{Spot, bit, bytes, nowhere}
 use Rattle.pv_mean.specs.Activations.{address_spot}
 use Rattle.pv_mean.specs.Sized.{sized_project}
 use Rattle.pv_resolve.specs.declared.context.Context.{Context}
-use Rattle.pv_resolve.specs.declared.context.AreaBytes.{AreaBytes}
 use Rattle.pv_resolve.specs.Firsts.{AreFirsts}
 
 -- the block whose names are found
 abbrev pub block_in : Context → BlockTree
 block_in c = block_of c.scope.entry.now
-
-abbrev pub bytes_tree : AreaBytes → Bytes
-bytes_tree b = record { inputs = b.inputs.now; outputs = b.outputs.now; flags = b.flags.now }
 
 -- the context is one of a block of this source
 pub record IsContext (c : Context) (source : Source) : Type 0 where

@@ -19,12 +19,14 @@ ghost use Rattle.pv_mean.specs.Sized.{sized_project};
 ghost use Rattle.pv_eval.specs.Operands.{spot_of, IsSpot};
 ghost use Rattle.pv_eval.specs.Means.{activation};
 ghost use Rattle.pv_resolve.specs.Laying.{laid_tree};
-ghost use Rattle.pv_resolve.specs.Contexts.{IsContext, block_in, bytes_tree, address_spot_at, area_spot};
+ghost use Rattle.pv_bytes.specs.Lent.{bytes_tree};
+ghost use Rattle.pv_resolve.specs.Contexts.{IsContext, block_in, address_spot_at, area_spot};
 ghost use Rattle.pv_resolve.specs.Begins.{begin_at, begins_found, cells_begin, undeclared_begins, HasSpot, type_held};
 
-use crate::context::{AreaBytes, Context};
+use crate::context::Context;
 use crate::fault::ResolveFault;
 use crate::laid::{Laid, exact};
+use pv_bytes::AreaBytes;
 use pv_eval::Spot;
 use pv_mean::{BEYOND, Laid as Found, Part, activation_part};
 use pv_names::{Entry, Held, is_const};

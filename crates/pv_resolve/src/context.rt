@@ -7,22 +7,16 @@ ghost use Rattle.pv_names.specs.Tables.{project_of};
 ghost use Rattle.pv_mean.specs.Layout as layout;
 ghost use Rattle.pv_mean.specs.Sources.{Source};
 ghost use Rattle.pv_mean.specs.Sized.{sized_project};
-ghost use Rattle.pv_resolve.specs.Contexts.{IsContext, bytes_tree, block_in};
+ghost use Rattle.pv_bytes.specs.Lent.{bytes_tree};
+ghost use Rattle.pv_resolve.specs.Contexts.{IsContext, block_in};
 ghost use Rattle.pv_resolve.specs.Firsts.{AreFirsts};
 
 use crate::fault::ResolveFault;
 use crate::firsts::Firsts;
+use pv_bytes::AreaBytes;
 use pv_mean::{BEYOND, Sizes};
 use pv_names::Scope;
 use pv_tree::Block;
-
-/// The numbers of the bytes of each area that have cells, in the order of the table.
-#[derive(Clone, Copy)]
-pub struct AreaBytes<'p> {
-    pub inputs: &'p [u64],
-    pub outputs: &'p [u64],
-    pub flags: &'p [u64],
-}
 
 /// A block of a project, and where its cells lie.
 #[derive(Clone, Copy)]

@@ -17,7 +17,7 @@ mod resolve;
 mod walk;
 
 pub use begin::{Begin, Where, number_of, start_of};
-pub use context::{AreaBytes, Context, context_of, with_firsts};
+pub use context::{Context, context_of, with_firsts};
 pub use fault::ResolveFault;
 pub use firsts::Firsts;
 pub use laid::Laid;

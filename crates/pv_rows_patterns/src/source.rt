@@ -3,9 +3,9 @@
 //! The visible cells of `Demo` are, from 0: `a` BOOL, `i` INT, `q` BOOL, `io` BOOL, `d` DINT, `y` BYTE, `w` WORD, `dw` DWORD, `t` TIME,
 //! `m[1]`, `m[2]`, `m[3]` INT, `s.z` BOOL, `s.k` INT, `inst.x` BOOL, `inst.y` INT, `e.u` INT, `e.v` BOOL; from 18 those of the data block:
 //! `n` INT, `f` BOOL; from 20 the bytes 0 to 3 of I, 4 of Q and 10 to 13 of M. Those of `OB1` are the same from 18 on.
+use pv_bytes::AreaBytes;
 use pv_case::read;
 use pv_lex::{Language, MAX_SOURCE, tokens};
-use pv_resolve::AreaBytes;
 use pv_rules::{check, has_no_instructions};
 use pv_scl_parse::parse;
 use pv_tree::{Blocks, Operand, Project};

@@ -10,10 +10,10 @@
 ghost use Rattle.std.specs.Prelude.{◌<◌, All, IsTrue, length};
 
 use crate::reading::{FILE, project_of, unmarked};
+use pv_cells::Table;
 use pv_mean::CaseView;
+use pv_program::make;
 use pv_replay::{Replay, ScanEnd};
-use pv_replay_make::make;
-use pv_table::Table;
 use pv_tree::Project;
 use std::alloc::{AllocError, Global};
 use std::test::Fail;

@@ -7,13 +7,14 @@ ghost use Rattle.pv_mean.specs.AreaBytes.{bytes_of};
 ghost use Rattle.pv_mean.specs.Cells.{with_view};
 ghost use Rattle.pv_mean.specs.Cells as table;
 ghost use Rattle.pv_mean.specs.ProjectSizes.{project_tree};
-ghost use Rattle.pv_resolve.specs.Contexts.{bytes_tree};
-ghost use Rattle.pv_table.specs.Named.{wide_bytes};
+ghost use Rattle.pv_bytes.specs.Lent.{bytes_tree};
+ghost use Rattle.pv_cells.specs.Named.{wide_bytes};
 
+use crate::fault::CellFault;
 use crate::named::NamedBytes;
-use pv_cells::{CellFault, cells};
+use crate::table::cells;
+use pv_bytes::AreaBytes;
 use pv_mean::{CaseView, Cell, set_params};
-use pv_resolve::AreaBytes;
 use pv_tree::{Operand, Project};
 use std::alloc::Global;
 

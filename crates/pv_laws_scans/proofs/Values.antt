@@ -16,8 +16,8 @@ use Rattle.pv_mean.specs.Endings.{got, trap, Value, and_then}
 use Rattle.pv_mean.specs.Spots.{Spot, visible, brief, bit, bytes, fixed, nowhere, told, read_spot}
 use Rattle.pv_mean.specs.Activations.{Activation, scope_in, Begins, in_visible, in_brief, at, root_begins, spot_of}
 use Rattle.pv_mean.specs.Values.{divided, binary_result, unary_result, function_result, result_type, element_where, element_begins, literal_or, value, values, locate, behind, step_behind}
-use Rattle.pv_places.specs.Places.{InExpr, InExprs, InOperand, InSteps, InStep}
-use Rattle.pv_places.proofs.Stopping.{TrapsIn, traps_wider, traps_then}
+use Rattle.pv_laws_scans.specs.Places.{InExpr, InExprs, InOperand, InSteps, InStep}
+use Rattle.pv_laws_scans.proofs.Stopping.{TrapsIn, traps_wider, traps_then}
 
 abbrev At : Place → Place → Type 0
 At place p = p ≡ place

@@ -10,9 +10,9 @@ use Rattle.pv_mean.specs.Spots.{Spot, told, read_spot, write_spot}
 use Rattle.pv_mean.specs.Activations.{Activation}
 use Rattle.pv_mean.specs.Values.{is_true, value, locate}
 use Rattle.pv_mean.specs.Statements.{Returned, Calls, is_chosen, after_turn, while_turns, repeat_turns, Counting, is_on_the_way, for_turns, counter, step_of, store, run_stmt, run_stmts, run_arms, run_branches, run_else}
-use Rattle.pv_places.specs.Places.{InExpr, InOperand, InCall, Besides, InStmt, InStmts, InArms, InBranches, InElse, StopsIn}
-use Rattle.pv_places.proofs.Stopping.{TrapsIn, EndsIn, traps_wider, ends_wider, stops_wider, ends_got, ends_ended, ends_on, ends_turn, ends_either}
-use Rattle.pv_places.proofs.Values.{told_at, read_at, value_in, located_in}
+use Rattle.pv_laws_scans.specs.Places.{InExpr, InOperand, InCall, Besides, InStmt, InStmts, InArms, InBranches, InElse, StopsIn}
+use Rattle.pv_laws_scans.proofs.Stopping.{TrapsIn, EndsIn, traps_wider, ends_wider, stops_wider, ends_got, ends_ended, ends_on, ends_turn, ends_either}
+use Rattle.pv_laws_scans.proofs.Values.{told_at, read_at, value_in, located_in}
 
 -- each call of the activation stops at a place of its own or at one besides
 abbrev pub CallsStopIn : Calls → Activation → Besides → Type 0

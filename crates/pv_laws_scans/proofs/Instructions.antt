@@ -12,9 +12,9 @@ use Rattle.pv_mean.specs.Placed.{call_placed}
 use Rattle.pv_mean.specs.Registers.{Working, fresh}
 use Rattle.pv_mean.specs.Instructions.{Next, onward, at_label, left, Effect, effect, site_of, makes_call, at_word, step}
 use Rattle.pv_mean.specs.InstructionRuns.{Sought, here, label, is_named, is_jumped_to, again, turns, arrives, follow, run_instructions, run_stl}
-use Rattle.pv_places.specs.Places.{InCall, Besides, InInstruction, InInstructions, StopsIn}
-use Rattle.pv_places.proofs.Stopping.{stops_wider, stops_then}
-use Rattle.pv_places.proofs.Statements.{CallsStopIn}
+use Rattle.pv_laws_scans.specs.Places.{InCall, Besides, InInstruction, InInstructions, StopsIn}
+use Rattle.pv_laws_scans.proofs.Stopping.{stops_wider, stops_then}
+use Rattle.pv_laws_scans.proofs.Statements.{CallsStopIn}
 
 word_in : (place : Place) (e : Ended Next) → StopsIn (λ p. p ≡ place) (at_word place e)
 word_in place (ended next) = tt

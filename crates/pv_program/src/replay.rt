@@ -1,16 +1,14 @@
 //! The replay of a project: its program made, and what runs it scan by scan.
-#![tactic(auto)]
-
 ghost use Rattle.std.specs.Prelude.{◌≡◌, IfOk, Some, false, slice_get};
 ghost use Rattle.pv_mean.specs.Sources.{Source};
 ghost use Rattle.pv_mean.specs.ProjectSizes.{project_tree};
 ghost use Rattle.pv_replay.specs.Replays.{HasStarts, IsReplayOf, cells_of, is_ready, view_of};
-ghost use Rattle.pv_table.specs.Named.{wide_bytes};
+ghost use Rattle.pv_cells.specs.Named.{wide_bytes};
 
+use crate::project::program_of;
+use pv_cells::Table;
 use pv_mean::CaseView;
-use pv_program::program_of;
 use pv_replay::Replay;
-use pv_table::Table;
 use pv_tree::Project;
 use std::alloc::{AllocError, Global};
 

@@ -15,11 +15,11 @@ use Rattle.pv_mean.specs.Values.{value, locate}
 use Rattle.pv_mean.specs.Statements.{Calls, run_stmts}
 use Rattle.pv_mean.specs.Calls.{Linked, outside, inside, with_outside, with_inside, instance_first, Passed, passed_in, passed_out, is_for, argument_for, copy_in, copy_all_in, hand_over, copy_out, copy_all_out, linked, run_call, run_code, run_body, run_callee, calls_within}
 use Rattle.pv_mean.specs.Scans.{entry_activation, entry_frame, visible_end, scan}
-use Rattle.pv_places.specs.Places.{InExpr, InOperand, InArgs, InCall, Besides, InBody, InCallee, IsPlaceWithin, StopsIn}
-use Rattle.pv_places.proofs.Stopping.{TrapsIn, traps_wider, traps_then, stops_wider, stops_then, stops_tried, stops_body}
-use Rattle.pv_places.proofs.Values.{read_at, value_in, located_in}
-use Rattle.pv_places.proofs.Statements.{CallsStopIn, stmts_in}
-use Rattle.pv_places.proofs.Instructions.{stl_in}
+use Rattle.pv_laws_scans.specs.Places.{InExpr, InOperand, InArgs, InCall, Besides, InBody, InCallee, IsPlaceWithin, StopsIn}
+use Rattle.pv_laws_scans.proofs.Stopping.{TrapsIn, traps_wider, traps_then, stops_wider, stops_then, stops_tried, stops_body}
+use Rattle.pv_laws_scans.proofs.Values.{read_at, value_in, located_in}
+use Rattle.pv_laws_scans.proofs.Statements.{CallsStopIn, stmts_in}
+use Rattle.pv_laws_scans.proofs.Instructions.{stl_in}
 
 -- ---- arguments
 

@@ -5,7 +5,7 @@ use Rattle.pv_machine.specs.declared.place.Place.{Place}
 use Rattle.pv_mean.specs.Frames.{Frame}
 use Rattle.pv_mean.specs.Endings.{Tried, got, trap, and_then, Ended, ended, trapped, over, and_end, end_of, Ending, normal, at_exit, at_continue, at_return, by_trap, by_over, go_on, when_got, when_ended, body_end}
 use Rattle.pv_mean.specs.Statements.{after_turn}
-use Rattle.pv_places.specs.Places.{StopsIn}
+use Rattle.pv_laws_scans.specs.Places.{StopsIn}
 
 abbrev pub TrapsIn : {A : Type 0} → (Place → Type 0) → Tried A → Type 0
 TrapsIn P (got a) = ⊤

@@ -4,7 +4,7 @@ ghost use Rattle.pv_mean.specs.Sources.{Source};
 ghost use Rattle.pv_mean.specs.Frames.{Image, Input};
 ghost use Rattle.pv_mean.specs.Scans.{Visible, scan_from, scan};
 ghost use Rattle.pv_mean.specs.Cells.{most_calls};
-ghost use Rattle.pv_places.specs.Places.{IsPlaceWithin, StopsIn};
+ghost use Rattle.pv_laws_scans.specs.Places.{IsPlaceWithin, StopsIn};
 
 /// A scan is done, or stops at a place of the entered block's statements or instructions, or of those of
 /// a block to which calls lead from it, of which no more than seven stand behind one another.

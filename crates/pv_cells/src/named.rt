@@ -3,11 +3,10 @@ ghost use Rattle.std.specs.Prelude.{◌≡◌, IfOk, map};
 ghost use Rattle.pv_tree.specs.View.{operand_tree};
 ghost use Rattle.pv_mean.specs.AreaBytes as areas;
 ghost use Rattle.pv_mean.specs.ProjectSizes.{project_tree};
-ghost use Rattle.pv_resolve.specs.Contexts.{bytes_tree};
-ghost use Rattle.pv_table.specs.Named.{wide_bytes};
+ghost use Rattle.pv_bytes.specs.Lent.{bytes_tree};
+ghost use Rattle.pv_cells.specs.Named.{wide_bytes};
 
-use pv_bytes::Bytes;
-use pv_resolve::AreaBytes;
+use pv_bytes::{AreaBytes, Bytes};
 use pv_tree::{Operand, Project};
 use std::alloc::{AllocError, Global};
 

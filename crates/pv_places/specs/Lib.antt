@@ -1,2 +1,0 @@
--- cited by public contracts
-pub mod Places
