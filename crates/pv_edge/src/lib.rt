@@ -18,8 +18,3 @@ pub use memory::{MemFiles, MemSink};
 pub use offer::write_all;
 pub use outside::{FileFault, Files, Sink, SinkFault};
 pub use words::Text;
-
-#[cfg(test)]
-mod slow;
-#[cfg(test)]
-mod tests;

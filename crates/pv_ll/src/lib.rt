@@ -5,8 +5,6 @@ mod laws;
 mod machine;
 mod sample;
 mod table;
-#[cfg(test)]
-mod tests;
 mod visit;
 
 pub use laws::{

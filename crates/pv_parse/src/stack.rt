@@ -62,9 +62,10 @@ pub fn pop_item<'a>(stack: &mut Vec<Item<'a>>) -> Result<Item<'a>, Stop>
 }
 
 /// An item is another than what was asked for. It is dropped here, so that no proof above has a case for each part of it.
-pub fn mistyped(_item: Item) -> Stop
+pub fn mistyped(item: Item) -> Stop
     ensures { result ≡ Stop.Mistyped }
 {
+    drop(item);
     Stop::Mistyped
 }
 

@@ -26,16 +26,18 @@ pub struct Front<'a> {
 }
 
 /// A part is another than what was asked for. It is dropped here, so that no proof has a case for each part of it.
-fn other_part(_part: DeclItem) -> Stop
+fn other_part(part: DeclItem) -> Stop
     ensures { result ≡ Stop.Mistyped }
 {
+    drop(part);
     Stop::Mistyped
 }
 
 /// So is a part of a call.
-fn other_code(_part: CodeItem) -> Stop
+fn other_code(part: CodeItem) -> Stop
     ensures { result ≡ Stop.Mistyped }
 {
+    drop(part);
     Stop::Mistyped
 }
 

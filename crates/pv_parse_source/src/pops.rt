@@ -31,9 +31,10 @@ pub fn pop_word(stack: &mut Vec<Item>) -> Result<(Name, Place), Stop>
 }
 
 /// A part is another than what was asked for. It is dropped here, so that no proof has a case for each part of it.
-fn other_part(_part: DeclItem) -> Stop
+fn other_part(part: DeclItem) -> Stop
     ensures { result ≡ Stop.Mistyped }
 {
+    drop(part);
     Stop::Mistyped
 }
 

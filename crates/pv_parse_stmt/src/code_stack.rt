@@ -1,5 +1,5 @@
 //! Parts of statements and calls, taken off the stack.
-ghost use Rattle.std.specs.Prelude.{◌≡◌};
+ghost use Rattle.std.specs.Prelude.{◌≡◌, Ok, Err};
 ghost use Rattle.pv_tree.specs.View.{call_tree, stmt_tree};
 ghost use Rattle.pv_parse.specs.CodeItems.{code_of, arg_list, value_tree, stmt_list, arm_list, else_list, choice_list, branch_list};
 ghost use Rattle.pv_parse.specs.Items.{stack_of, item_of, literal_in, literal_on, code_in, code_on, Pops, Finds};
@@ -46,10 +46,22 @@ fn pop_code<'a>(stack: &mut Vec<Item<'a>>) -> Result<CodeItem, Stop>
 }
 
 /// A part is another than what was asked for.
-fn mistyped_part(_part: CodeItem) -> Stop
+fn mistyped_part(part: CodeItem) -> Stop
     ensures { result ≡ Stop.Mistyped }
 {
+    drop(part);
     Stop::Mistyped
+}
+
+/// The value beside what the result holds; where it holds none, the value is let go.
+pub(crate) fn with<A: Drop, B, E>(first: A, second: Result<B, E>) -> Result<(A, B), E>
+    ensures ok { (b : _) → second ≡ Ok b → result ≡ Ok (first, b) }
+    ensures err { (e : _) → second ≡ Err e → result ≡ Err e }
+{
+    match second {
+        Ok(second) => Ok((first, second)),
+        Err(stop) => Err(stop),
+    }
 }
 
 fn args_in(item: CodeItem) -> Result<Vec<Arg>, Stop>

@@ -11,7 +11,7 @@ ghost use Rattle.pv_parse.specs.StmtDeeds.{single_of, drop_deed, empty_deed, sin
 use crate::calls::root_name;
 use crate::code_stack::{
     pop_arms, pop_branches, pop_by, pop_call, pop_choice, pop_choices, pop_else, pop_literal,
-    pop_stmt, pop_stmts, pop_value, pop_whole,
+    pop_stmt, pop_stmts, pop_value, pop_whole, with,
 };
 use crate::making::{case_of, if_of};
 use pv_machine::Place;
@@ -117,7 +117,7 @@ fn add(stack: &mut Vec<Item>) -> Result<(), Stop>
     ensures { Leaves result (stack_of stack.new) (add_deed (stack_of stack.old)) }
 {
     let stmt = pop_stmt(stack)?;
-    let mut list = pop_stmts(stack)?;
+    let (stmt, mut list) = with(stmt, pop_stmts(stack))?;
     list.push(stmt)?;
     push(stack, Item::Code(CodeItem::Stmts(list)))?;
     Ok(())

@@ -15,6 +15,3 @@ mod stop;
 
 pub use check::{MAX_STEP_GATES, check_certificate};
 pub use fault::{Kind, RecheckFault};
-
-#[cfg(test)]
-mod tests;

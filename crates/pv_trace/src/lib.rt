@@ -4,8 +4,6 @@
 
 pub mod laws;
 mod read;
-#[cfg(test)]
-mod tests;
 mod values;
 mod write;
 

@@ -5,7 +5,7 @@
 //! over. The search takes each named type once: if none of those that were met has a leaf where at
 //! most n types stand inside each other, then by their variables none has one where one more does,
 //! and so none at all.
-ghost use Rattle.std.specs.Prelude.{◌≡◌, false, ℕ, IfOk, OnOk};
+ghost use Rattle.std.specs.Prelude.{◌≡◌, [], false, ℕ, IfOk, OnOk};
 ghost use Rattle.pv_types.specs.Named.{types_of};
 ghost use Rattle.pv_types.specs.View.{type_tree, var_trees, listed};
 ghost use Rattle.pv_types.specs.Walk.{around_view};
@@ -116,6 +116,26 @@ impl<'p> Search<'p> {
             Sought::Vars { vars, around } => self.add_vars(vars, around, named),
         }
     }
+
+    /// Whether a search that has met nothing comes upon a leaf of the type. `true` may also come where there is none, after very
+    /// many steps.
+    fn finds(&mut self, ty: &'p DeclType, named: &Types<'p>) -> Result<bool, AllocError>
+        requires { self.old.met.entries ≡ [] }
+        ensures { IfOk result (λ found. found ≡ false → HasNoLeaf (types_of named.now) (type_tree ty.now)) }
+    {
+        if self.add_type(ty, named)? {
+            return Ok(true);
+        }
+        for _ in 0..MAX_STEPS {
+            let Some(sought) = self.sought.pop() else {
+                return Ok(false);
+            };
+            if self.add_first(sought, named)? {
+                return Ok(true);
+            }
+        }
+        Ok(true)
+    }
 }
 
 /// Whether a type has a leaf. `true` may also come where it has none, after very many steps.
@@ -131,16 +151,5 @@ pub(crate) fn has_leaf<'p>(
         sought: Vec::new(alloc),
         met: IndexMap::new(alloc),
     };
-    if search.add_type(ty, named)? {
-        return Ok(true);
-    }
-    for _ in 0..MAX_STEPS {
-        let Some(sought) = search.sought.pop() else {
-            return Ok(false);
-        };
-        if search.add_first(sought, named)? {
-            return Ok(true);
-        }
-    }
-    Ok(true)
+    search.finds(ty, named)
 }
