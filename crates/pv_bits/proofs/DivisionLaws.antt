@@ -15,7 +15,8 @@ use Rattle.pv_word.specs.Bits.{pattern_at}
 use Rattle.pv_word.specs.Types.{width_of, is_signed_of, wrap_of, pattern_of}
 use Rattle.pv_word.proofs.ForCallers.{congruent-refl, congruent-difference, congruent-from_parts, congruent-trans, wide, wrap-congruent, wrap-congruent_same, pattern-not_negative}
 use Rattle.pv_bits.specs.Circuits.{Word, divide_unsigned}
-use Rattle.pv_bits.specs.Words.{number_of, IsWord, by_zero, quotient_of, remainder_of, Divides}
+use Rattle.pv_word.specs.Quotients.{by_zero, quotient_of, remainder_of}
+use Rattle.pv_bits.specs.Words.{number_of, IsWord, Divides}
 use Rattle.pv_bits.proofs.Bits.{Bits, weight-power, number-below}
 use Rattle.pv_bits.proofs.WordLaws.{word_of_congruent, bits-width, bits-same}
 use Rattle.pv_bits.proofs.Division.{Division, makes_divide_unsigned}

@@ -16,7 +16,8 @@ use Rattle.pv_word.specs.Bits.{pattern_at}
 use Rattle.pv_word.specs.Types.{width_of, is_signed_of, wrap_of, pattern_of}
 use Rattle.pv_word.proofs.ForCallers.{wide, double, zero-in_range, wrap-own, pattern-pos, pattern-wrap, pattern-not_negative, pattern-negative}
 use Rattle.pv_bits.specs.Circuits.{Word, falses, top, negate, negate_if, divide_magnitudes, put_back, divide_signed, divide}
-use Rattle.pv_bits.specs.Words.{number_of_bit, number_of, IsWord, by_zero, quotient_of, remainder_of, Divides}
+use Rattle.pv_word.specs.Quotients.{by_zero, quotient_of, remainder_of}
+use Rattle.pv_bits.specs.Words.{number_of_bit, number_of, IsWord, Divides}
 use Rattle.pv_bits.proofs.Bits.{number-falses}
 use Rattle.pv_bits.proofs.Values.{have_falses}
 use Rattle.pv_bits.proofs.TopBits.{top_bit, low_bits, has_top, number-top, low-below}

@@ -1,11 +1,11 @@
 -- What words stand for: numbers, and values of the elementary types.
-use Rattle.std.specs.Prelude.{◌≡◌, ◌↔◌, ℕ, ◌+◌, ◌*◌, ℤ, pos, negsuc, zero, suc, Bool, true, false, List, [], ◌∷◌, length}
+use Rattle.std.specs.Prelude.{◌≡◌, ◌↔◌, ℕ, ◌+◌, ◌*◌, ℤ, Bool, true, false, List, [], ◌∷◌, length}
 use Rattle.pv_gate.specs.declared.netlist.Node.{Node}
 use Rattle.pv_gate.specs.Netlist.{IsNetlist}
 use Rattle.pv_gate.specs.Building.{Building, Has, Have, Makes}
 use Rattle.pv_word.specs.declared.types.Ty.{Ty}
-use Rattle.pv_word.specs.Types.{width_of, is_signed_of, InRange, pattern_of, wrap_of}
-use Rattle.pv_word.specs.Division.{quotient, remainder}
+use Rattle.pv_word.specs.Types.{width_of, InRange, pattern_of}
+use Rattle.pv_word.specs.Quotients.{quotient_of, remainder_of}
 
 abbrev pub number_of_bit : Bool → ℕ
 number_of_bit true = 1
@@ -29,24 +29,6 @@ pub record Decides (inputs : ℕ → Bool) (nodes : List Node) (literal : ℤ) (
   pub truth : Bool
   pub has : Has inputs nodes literal truth
   pub is : (truth ≡ true) ↔ P
-
--- what the quotient by zero is before it is wrapped: -1, or 1 for a negative dividend; of a type
--- from 0 that is the greatest value
-abbrev pub by_zero : Bool → ℤ → ℤ
-by_zero true (negsuc n) = pos 1
-by_zero true (pos n) = negsuc 0
-by_zero false v = negsuc 0
-
-abbrev pub quotient_of : Ty → ℤ → ℤ → ℤ
-quotient_of ty v (pos zero) = wrap_of ty (by_zero (is_signed_of ty) v)
-quotient_of ty v (pos (suc n)) = wrap_of ty (quotient v (pos (suc n)))
-quotient_of ty v (negsuc n) = wrap_of ty (quotient v (negsuc n))
-
--- by zero the remainder is the dividend
-abbrev pub remainder_of : Ty → ℤ → ℤ → ℤ
-remainder_of ty v (pos zero) = v
-remainder_of ty v (pos (suc n)) = wrap_of ty (remainder v (pos (suc n)))
-remainder_of ty v (negsuc n) = wrap_of ty (remainder v (negsuc n))
 
 -- the words have the quotient and the remainder
 pub record Divides (ty : Ty) (v u : ℤ) (inputs : ℕ → Bool) (nodes : List Node) (words : List ℤ × List ℤ) : Type 0 where

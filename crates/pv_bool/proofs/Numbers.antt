@@ -2,7 +2,7 @@
 use Rattle.std.proofs.Common.{◌≡◌, ℕ, zero, suc, ℤ, pos, negsuc, Bool, true, false, List, [], ◌∷◌, length, replicate, refl, ◌∙◌, ap, subst}
 use Rattle.std.proofs.Common.{arith}
 use Rattle.std.proofs.lemmas.Int.{ints}
-use Rattle.pv_machine.specs.Ranges.{IsWithin, AreWithin}
+use Rattle.pv_place.specs.Ranges.{IsWithin, AreWithin}
 use Rattle.pv_machine.specs.Machines.{Values, done, IsLawful}
 use Rattle.pv_bool.specs.Tree.{ProgramTree}
 use Rattle.pv_bool.specs.Scans.{Bits, state_len, start, next_state}

@@ -1,6 +1,6 @@
 -- What is so of every Boolean program: the laws that callers cite.
 use Rattle.std.specs.Prelude.{◌≡◌, ℕ, ℤ, List, length, replicate}
-use Rattle.pv_machine.specs.Ranges.{AreWithin}
+use Rattle.pv_place.specs.Ranges.{AreWithin}
 use Rattle.pv_bool.specs.declared.program.Bit.{Bit}
 use Rattle.pv_bool.specs.Tree.{ProgramTree}
 use Rattle.pv_bool.specs.Scans.{Bits, state_len, input_len, start, begin, state_of, input_of, scan_end, next_state}

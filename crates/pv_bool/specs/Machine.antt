@@ -2,7 +2,7 @@
 -- and it fails where the requirement doesn't hold at its end.
 use Rattle.std.specs.Prelude.{ℤ, pos, Bool, true, false, not, List, [], map, replicate}
 use Rattle.std.specs.Ordering.{int_eq}
-use Rattle.pv_machine.specs.Ranges.{Range}
+use Rattle.pv_place.specs.Ranges.{Range}
 use Rattle.pv_machine.specs.Machines.{Machine, done}
 use Rattle.pv_bool.specs.Tree.{ProgramTree}
 use Rattle.pv_bool.specs.Scans.{Bits, state_len, input_len, start, next_state, keeps}

@@ -1,6 +1,6 @@
 //! Laws of Boolean programs, each the contract of a function that does nothing.
 ghost use Rattle.std.specs.Prelude.{◌≡◌, ℕ, ℤ, List, length, replicate};
-ghost use Rattle.pv_machine.specs.Ranges.{AreWithin};
+ghost use Rattle.pv_place.specs.Ranges.{AreWithin};
 ghost use Rattle.pv_machine.specs.Machines.{IsLawful};
 ghost use Rattle.pv_bool.specs.declared.program.Bit.{Bit};
 ghost use Rattle.pv_bool.specs.Tree.{ProgramTree};

@@ -1,7 +1,7 @@
 -- Bits as numbers: numbers within the range from 0 to 1 are those of bits.
 use Rattle.std.proofs.Common.{◌≡◌, ℕ, zero, suc, List, [], ◌∷◌, length, replicate, ℤ, pos, negsuc, Bool, true, false, refl, ap, ◌∙◌, arith}
 use Rattle.std.proofs.lemmas.Int.{ints}
-use Rattle.pv_machine.specs.Ranges.{IsWithin, AreWithin}
+use Rattle.pv_place.specs.Ranges.{IsWithin, AreWithin}
 use Rattle.pv_bool.specs.Scans.{Bits, first as first_bit, others as other_bits}
 use Rattle.pv_bool.specs.Machine.{bit_range, bit_of, number_of, bits_of, numbers_of}
 use Rattle.pv_mean.specs.Frames.{first, others}

@@ -6,9 +6,9 @@ use Rattle.std.proofs.lemmas.List.{append-nil}
 use Rattle.std.proofs.lemmas.List.Elements.{recursion_from_All}
 use Rattle.pv_word.specs.declared.types.Ty.{Ty}
 use Rattle.pv_word.specs.declared.types.Ty.TheVariants.{Bool as BoolType}
-use Rattle.pv_machine.specs.declared.role.Role.{Role}
-use Rattle.pv_machine.specs.declared.role.Role.TheVariants.{Input as InputRole, Kept}
-use Rattle.pv_machine.specs.Roles.{is_input, is_stored}
+use Rattle.pv_place.specs.declared.role.Role.{Role}
+use Rattle.pv_place.specs.declared.role.Role.TheVariants.{Input as InputRole, Kept}
+use Rattle.pv_place.specs.Roles.{is_input, is_stored}
 use Rattle.pv_types.specs.declared.name.Name.{Name}
 use Rattle.pv_types.specs.declared.declaration.Section.{Section}
 use Rattle.pv_types.specs.declared.declaration.Section.TheVariants.{Input, Output, Static}

@@ -4,7 +4,7 @@ use Rattle.std.specs.Prelude.{All}
 use Rattle.std.specs.List.{AllByRecursion}
 use Rattle.std.proofs.lemmas.List.{length-map}
 use Rattle.std.proofs.lemmas.List.Elements.{All-from_recursion}
-use Rattle.pv_machine.specs.Ranges.{Range, AreWithin}
+use Rattle.pv_place.specs.Ranges.{Range, AreWithin}
 use Rattle.pv_tree.specs.declared.expr.BinaryOp.{BinaryOp}
 use Rattle.pv_tree.specs.Tree.{ExprTree, lit, read, unary, binary, std, paren, OperandTree, assign, assign_call, if_, case_, for_, while_, repeat_, exit_, continue_, return_, call_, empty_, StmtTrees, no_stmts, stmts, BodyTree, scl, stl, starts, BlockTree}
 use Rattle.pv_bool.specs.Tree.{IsTermOver, IsAssignmentOver, IsProgram}

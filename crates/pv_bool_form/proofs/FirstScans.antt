@@ -10,8 +10,8 @@ use Rattle.pv_word.specs.declared.types.Ty.TheVariants.{Bool as BoolType, Byte, 
 use Rattle.pv_word.specs.Types.{wrap_of}
 use Rattle.pv_word.specs.Wrap.{wrap_at}
 use Rattle.pv_word.specs.Bits.{pattern_at}
-use Rattle.pv_machine.specs.declared.role.Role.{Role}
-use Rattle.pv_machine.specs.declared.place.Place.{Place}
+use Rattle.pv_place.specs.declared.role.Role.{Role}
+use Rattle.pv_place.specs.declared.place.Place.{Place}
 use Rattle.pv_tree.specs.declared.expr.UnaryOp.{UnaryOp}
 use Rattle.pv_tree.specs.declared.expr.UnaryOp.TheVariants.{Not}
 use Rattle.pv_tree.specs.declared.expr.BinaryOp.{BinaryOp}

@@ -1,8 +1,8 @@
 -- The Boolean program of a source of the first form with a requirement: a bit for each cell, in the cells' order, and the words as
 -- numbers of bits.
 use Rattle.std.specs.Prelude.{ℕ, List, [], ◌∷◌, ◌++◌, map, false}
-use Rattle.pv_machine.specs.declared.role.Role.{Role}
-use Rattle.pv_machine.specs.declared.role.Role.TheVariants.{Input, Param, Kept, Brief}
+use Rattle.pv_place.specs.declared.role.Role.{Role}
+use Rattle.pv_place.specs.declared.role.Role.TheVariants.{Input, Param, Kept, Brief}
 use Rattle.pv_tree.specs.declared.expr.BinaryOp.{BinaryOp}
 use Rattle.pv_tree.specs.declared.expr.BinaryOp.TheVariants.{And, Or}
 use Rattle.pv_tree.specs.Tree.{ExprTree, lit, read, unary, binary, std, paren, OperandTree, operand, StmtTree, assign, assign_call, if_, case_, for_, while_, repeat_, exit_, continue_, return_, call_, empty_, StmtTrees, no_stmts, stmts, BodyTree, scl, stl, starts, BlockTree}

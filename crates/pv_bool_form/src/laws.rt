@@ -1,7 +1,7 @@
 //! Laws of the first form: a scan of such a source is its Boolean program's. Each is the contract of a
 //! function that does nothing.
 ghost use Rattle.std.specs.Prelude.{◌≡◌, ℕ, List, All};
-ghost use Rattle.pv_machine.specs.Ranges.{AreWithin};
+ghost use Rattle.pv_place.specs.Ranges.{AreWithin};
 ghost use Rattle.pv_tree.specs.Tree.{ExprTree, OperandTree, BlockTree};
 ghost use Rattle.pv_bool.specs.Tree.{IsProgram};
 ghost use Rattle.pv_bool.specs.Scans.{start as program_start};

@@ -4,7 +4,7 @@ use Rattle.std.specs.Prelude.{flat_map, option_to_list, ◌||◌, nat_eq, IfOk, 
 use Rattle.std.specs.List.{list_any}
 use Rattle.std.proofs.lemmas.List.Folds.{flat_map-map}
 use Rattle.pv_tree.specs.declared.expr.Area.{Area}
-use Rattle.pv_machine.specs.declared.place.Place.{Place}
+use Rattle.pv_place.specs.declared.place.Place.{Place}
 use Rattle.pv_tree.specs.declared.expr.Expr.{Expr, fold-roll-Expr}
 use Rattle.pv_tree.specs.declared.expr.Expr.TheViews as form
 use Rattle.pv_tree.specs.declared.expr.Expr.TheVariants.{rolls-Binary, rolls-Std}

@@ -4,7 +4,7 @@ use Rattle.std.specs.Prelude.{option_map, OnOk, Result, Ok, Err}
 use Rattle.std.proofs.Math.Seq.{drop-cons}
 use Rattle.std.proofs.lemmas.Simd.{map-map}
 use Rattle.std.proofs.lemmas.List.{map-append, append-nil}
-use Rattle.pv_machine.specs.declared.place.Place.{Place}
+use Rattle.pv_place.specs.declared.place.Place.{Place}
 use Rattle.pv_tree.specs.declared.stmt.Stmt.{Stmt, size-Stmt, fold-roll-Stmt, the_lemmas}
 use Rattle.pv_tree.specs.declared.stmt.Stmt.TheViews as form
 use Rattle.pv_tree.specs.declared.stmt.Stmt.TheVariants.{rolls-If, rolls-Case, rolls-For}

@@ -1,7 +1,7 @@
 -- A text that is one address, by its tokens.
 use Rattle.std.proofs.Common.{◌≡◌, ℕ, ◌+◌, ◌<◌, ◌≤◌, List, [], ◌∷◌, length, slice_index_or, IsTrue, Option, Some, None, IfOk, IfSome, IfNone, Result, Ok, Err, sym, subst, ap, ◌∙◌, arith}
 use Rattle.std.specs.declared.alloc.AllocError.{AllocError}
-use Rattle.pv_machine.specs.declared.place.Place.{Place}
+use Rattle.pv_place.specs.declared.place.Place.{Place}
 use Rattle.pv_lex.specs.declared.token.Token.{Token}
 use Rattle.pv_lex.specs.declared.token.Kind.{Kind}
 use Rattle.pv_lex.specs.declared.fault.FaultKind.{FaultKind}

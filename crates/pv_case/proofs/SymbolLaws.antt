@@ -11,7 +11,7 @@ use Rattle.std.proofs.lemmas.Slice.Eq.{bytes_eq-Decides}
 use Rattle.std.proofs.lemmas.Map.Iter.{rest_more, rest_all, rest_so_far}
 use Rattle.indexmap.specs.IndexSet.{insert_key}
 use Rattle.pv_word.specs.declared.types.Ty.{Ty}
-use Rattle.pv_machine.specs.declared.place.Place.{Place}
+use Rattle.pv_place.specs.declared.place.Place.{Place}
 use Rattle.pv_tree.specs.declared.expr.Area.{Area}
 use Rattle.pv_tree.specs.Tree.{OperandTree}
 use Rattle.pv_tree.specs.View.{operand_tree}

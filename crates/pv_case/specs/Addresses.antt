@@ -1,6 +1,6 @@
 -- A text's tokens as one address. No public clause cites this.
 use Rattle.std.specs.Prelude.{◌≡◌, ℕ, List, [], ◌∷◌, take, drop, IsTrue}
-use Rattle.pv_machine.specs.declared.place.Place.{Place}
+use Rattle.pv_place.specs.declared.place.Place.{Place}
 use Rattle.pv_lex.specs.declared.token.Kind.TheVariants as kind
 use Rattle.pv_lex.specs.declared.token.Token.{Token}
 use Rattle.pv_tree.specs.declared.expr.Area.{Area}

@@ -1,6 +1,6 @@
 //! Texts that are one address.
 ghost use Rattle.std.specs.Prelude.{◌≡◌, ◌+◌, ◌≤◌, ℕ, length, IfOk, IfSome, IfNone};
-ghost use Rattle.pv_machine.specs.declared.place.Place.{Place as A_place};
+ghost use Rattle.pv_place.specs.declared.place.Place.{Place as A_place};
 ghost use Rattle.pv_lex.specs.declared.token.Language.TheVariants.{Scl as In_scl};
 ghost use Rattle.pv_lex.specs.Tokens.{AreTokens};
 ghost use Rattle.pv_tree.specs.declared.expr.Area.{Area as An_area};
@@ -10,7 +10,7 @@ ghost use Rattle.pv_case.specs.Addresses.{bytes_at, IsSpot, IsSpotAmong};
 
 use crate::members::is_short;
 use pv_lex::{Kind, Language, LexFault, Token, tokens};
-use pv_machine::Place;
+use pv_place::Place;
 use pv_parse::area_of;
 use pv_tree::{Area, Root};
 use pv_word::Ty;

@@ -3,7 +3,7 @@ use Rattle.std.proofs.Common.{◌≡◌, ℕ, suc, ◌+◌, ◌<◌, List, [], �
 use Rattle.std.proofs.lemmas.List.Elements.{All-nil, All-cons}
 use Rattle.std.specs.Prelude.{ℤ, option_map, option_and_then, slice_get}
 use Rattle.std.specs.List.{cons_option}
-use Rattle.pv_machine.specs.Roles.{is_input}
+use Rattle.pv_place.specs.Roles.{is_input}
 use Rattle.pv_mean.specs.declared.cell.Cell.{Cell}
 use Rattle.pv_mean.specs.Paths.{has_path, number_from, number_of_path}
 use Rattle.pv_case_fit.specs.Inputs.{input_where, number_of_input, numbers_of, bounds_of}

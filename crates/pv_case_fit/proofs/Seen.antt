@@ -1,7 +1,7 @@
 -- Operands of the code as plain data, and the name that one is alone.
 use Rattle.std.proofs.Common.{◌≡◌, List, [], ◌∷◌, map, length, true, false, true≢false, None, refl, ap, ◌∙◌, nat_eq, arith}
 use Rattle.std.proofs.lemmas.Bool.{eqb-true}
-use Rattle.pv_machine.specs.declared.place.Place.{Place}
+use Rattle.pv_place.specs.declared.place.Place.{Place}
 use Rattle.pv_tree.specs.declared.expr.Root.{Root}
 use Rattle.pv_tree.specs.declared.expr.Operand.{Operand}
 use Rattle.pv_tree.specs.declared.expr.Step.{Step}

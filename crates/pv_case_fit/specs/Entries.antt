@@ -1,7 +1,7 @@
 -- The block that a case's entry names.
 use Rattle.std.specs.Prelude.{◌≡◌, ℕ, List, length, nat_le, Bool, ◌&&◌, ◌||◌, IsTrue, Option, Some}
 use Rattle.std.specs.List.{position_from}
-use Rattle.pv_machine.specs.declared.place.Place.{Place}
+use Rattle.pv_place.specs.declared.place.Place.{Place}
 use Rattle.pv_types.specs.declared.name.Name.{Name}
 use Rattle.pv_lex.specs.declared.token.Token.{Token}
 use Rattle.pv_lex.specs.declared.token.Language.TheVariants.{Scl}

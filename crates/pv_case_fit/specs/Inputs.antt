@@ -2,7 +2,7 @@
 use Rattle.std.specs.Prelude.{◌≡◌, ℕ, ◌==◌, ℤ, int_le, List, [], ◌∷◌, ◌++◌, map, filter_map, find, slice_get, Bool, false, not, ◌&&◌, if◌then◌else◌, is_some, Option, Some, None, option_map, option_and_then}
 use Rattle.std.specs.List.{list_any}
 use Rattle.pv_word.specs.Types.{least_of, greatest_of}
-use Rattle.pv_machine.specs.Roles.{is_input}
+use Rattle.pv_place.specs.Roles.{is_input}
 use Rattle.pv_mean.specs.declared.cell.Cell.{Cell}
 use Rattle.pv_mean.specs.Paths.{number_of_path}
 

@@ -1,6 +1,6 @@
 -- The cells of leaves, by their parts.
 use Rattle.std.proofs.Common.{◌≡◌, List, ℕ, ℤ, None, ap, ◌∙◌}
-use Rattle.pv_machine.specs.declared.role.Role.{Role}
+use Rattle.pv_place.specs.declared.role.Role.{Role}
 use Rattle.pv_types.specs.declared.leaf.Leaf.{Leaf}
 use Rattle.pv_mean.specs.declared.cell.Cell.{Cell}
 use Rattle.pv_cells.specs.declared.variables.Form.{Form}

@@ -11,7 +11,7 @@ ghost use Rattle.pv_cells.specs.Forms.{own_formed};
 use crate::plan::Plan;
 use crate::variables::Form;
 use pv_edge::Text;
-use pv_machine::Role;
+use pv_place::Role;
 use pv_mean::{BEYOND, Cell, activation_part};
 use pv_tree::{Block, Body};
 use pv_word::Ty;

@@ -21,7 +21,7 @@ use crate::node::Node;
 use crate::own::sum;
 use crate::plan::Plan;
 use pv_bytes::Bytes;
-use pv_machine::Role;
+use pv_place::Role;
 use pv_mean::{BEYOND, Cell, laws};
 use pv_names::{Tables, entries};
 use pv_tree::{Operand, Project};

@@ -1,7 +1,7 @@
 //! Traces: the values that determine a stretch of scans, and how a failing scan ends.
 ghost use Rattle.std.specs.Prelude.{◌≡◌, List, ℤ, [], ◌∷◌, ◌++◌, OnOk, OnErr};
 
-use pv_machine::{Place, TrapKind};
+use pv_place::{Place, TrapKind};
 use std::alloc::{AllocError, Global};
 use std::marker::Model;
 

@@ -2,7 +2,7 @@
 use Rattle.std.proofs.Common.{◌≡◌, ◌↔◌, inl, inr, ℕ, ◌≤◌, List, [], ◌∷◌, ◌++◌, length, Option, Some, None, refl, ap, sym, ◌∙◌, subst, arith}
 use Rattle.std.proofs.lemmas.Option.{same_Some}
 use Rattle.std.specs.List.{slice_get}
-use Rattle.pv_machine.specs.declared.place.Place.{Place}
+use Rattle.pv_place.specs.declared.place.Place.{Place}
 use Rattle.pv_types.specs.declared.layout.TheConstants.{MAX_LEAVES}
 use Rattle.pv_types.specs.declared.name.Name.{Name}
 use Rattle.pv_tree.specs.Tree.{ExprTree, OperandTree, BlockTree}

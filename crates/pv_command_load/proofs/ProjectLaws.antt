@@ -1,6 +1,6 @@
 -- The project of what is given, and its first breach.
 use Rattle.std.proofs.Common.{◌≡◌, List, [], ◌∷◌, map, refl, sym, ap, subst, ◌∙◌}
-use Rattle.pv_machine.specs.declared.place.Place.{Place}
+use Rattle.pv_place.specs.declared.place.Place.{Place}
 use Rattle.pv_word.specs.declared.types.Ty.{Ty}
 use Rattle.pv_types.specs.declared.name.Name.{Name}
 use Rattle.pv_tree.specs.declared.expr.Operand.{Operand}

@@ -1,7 +1,7 @@
 -- A word outside the profile lies in its text, and is ASCII.
 use Rattle.std.proofs.Common.{◌≡◌, ◌≤◌, ◌<◌, ◌+◌, ℕ, zero, suc, List, [], ◌∷◌, length, take, drop, ap, sym, subst, ◌∙◌, arith, Err}
 use Rattle.std.specs.Prelude.{slice_index_or, IsAscii, Contains}
-use Rattle.pv_machine.specs.declared.place.Place.{Place}
+use Rattle.pv_place.specs.declared.place.Place.{Place}
 use Rattle.pv_lex.specs.declared.token.Language.{Language}
 use Rattle.pv_lex.specs.declared.token.Language.TheVariants.{Scl, Stl}
 use Rattle.pv_lex.specs.declared.token.Token.{Token}

@@ -1,6 +1,6 @@
 -- What private contracts cite: a stop that a stage passes on, and what a fault of tokens or of reading is as a stop.
 use Rattle.std.specs.Prelude.{ℕ, ◌+◌, ◌≤◌, List, length, take, drop, string_bytes, IsAscii}
-use Rattle.pv_machine.specs.declared.place.Place.{Place}
+use Rattle.pv_place.specs.declared.place.Place.{Place}
 use Rattle.pv_lex.specs.declared.token.Language.{Language}
 use Rattle.pv_lex.specs.declared.fault.LexFault.{LexFault}
 use Rattle.pv_lex.specs.declared.fault.LexFault.TheVariants as lex_fault

@@ -1,7 +1,7 @@
 -- The sources of a case, in their order: what each one's bytes read as, and why one is refused. A source is read whole before the
 -- next one's file is.
 use Rattle.std.specs.Prelude.{◌≡◌, ◌⊎◌, ◌<◌, ◌≤◌, ℕ, ◌+◌, List, [], ◌∷◌, length, Option}
-use Rattle.pv_machine.specs.declared.place.Place.{Place}
+use Rattle.pv_place.specs.declared.place.Place.{Place}
 use Rattle.pv_edge.specs.Files.{FileMap}
 use Rattle.pv_lex.specs.declared.fault.FaultKind.{FaultKind}
 use Rattle.pv_lex.specs.declared.token.Token.{Token}

@@ -2,7 +2,7 @@
 -- feed alone, and a column is a byte.
 use Rattle.std.specs.Prelude.{ℕ, ◌+◌, ◌==◌, List, [], ◌++◌, take, count_by, codes, decimal, Bool, not, Option, Some, None, slice_get}
 use Rattle.std.specs.List.{suffix_len}
-use Rattle.pv_machine.specs.declared.place.Place.{Place}
+use Rattle.pv_place.specs.declared.place.Place.{Place}
 
 -- a source: its file's name, and the bytes that the file holds
 pub record FileText : Type 0 where

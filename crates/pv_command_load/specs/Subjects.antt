@@ -1,7 +1,7 @@
 -- What a case and its sources say together: the project, the block that is entered, the cells, the parameters, and the requirement;
 -- and why they are refused. All of it hangs on the case and the sources' texts alone.
 use Rattle.std.specs.Prelude.{◌≡◌, ◌<◌, ◌≤◌, ℕ, List, length, map, flat_map, slice_get, Some}
-use Rattle.pv_machine.specs.declared.place.Place.{Place}
+use Rattle.pv_place.specs.declared.place.Place.{Place}
 use Rattle.pv_types.specs.declared.layout.TheConstants.{MAX_LEAVES}
 use Rattle.pv_tree.specs.Tree.{OperandTree, BlockTree}
 use Rattle.pv_tree.specs.Scopes.{SymbolTree, ProjectTree, Scope}

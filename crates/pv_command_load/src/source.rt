@@ -1,6 +1,6 @@
 //! A source: its blocks, or why it has none.
 ghost use Rattle.std.specs.Prelude.{◌≡◌, ◌++◌, ◌≤◌, ℕ, length, take, drop, codes, Some, IfOk, IfErr, string_bytes};
-ghost use Rattle.pv_machine.specs.declared.place.Place.{Place as A_place};
+ghost use Rattle.pv_place.specs.declared.place.Place.{Place as A_place};
 ghost use Rattle.pv_lex.specs.declared.lex.TheConstants.{MAX_SOURCE};
 ghost use Rattle.pv_lex.specs.declared.token.Language.TheVariants.{Scl, Stl};
 ghost use Rattle.pv_lex.specs.Tokens.{AreTokens};
@@ -18,7 +18,7 @@ use crate::reading::{ReadStop, read_line};
 use crate::spot::{SourceText, Spot};
 use crate::status::{NO_MEMORY, READ_FAULT, SOURCE_REFUSED, Status};
 use pv_lex::{FaultKind, Language, LexFault, MAX_SOURCE, Token, tokens};
-use pv_machine::Place;
+use pv_place::Place;
 use pv_parse::ParseFault;
 use pv_tree::Blocks;
 use std::alloc::{AllocError, Global};

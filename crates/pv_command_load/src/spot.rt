@@ -3,7 +3,7 @@ ghost use Rattle.std.specs.Prelude.{◌≡◌, IfOk, map, string_bytes};
 ghost use Rattle.pv_command_load.specs.Spots.{line_behind, column_behind, spot_text, place_text};
 ghost use Rattle.pv_command_load.specs.Stops.{at_text, text_tree};
 
-use pv_machine::Place;
+use pv_place::Place;
 use std::alloc::{AllocError, Global};
 
 /// A source: its file's name, and the bytes that the file held.

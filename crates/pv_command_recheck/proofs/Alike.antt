@@ -1,7 +1,7 @@
 -- Machines that have the same ranges and starts, and whose steps from states by inputs are the same, meet the same queries.
 use Rattle.std.proofs.Common.{◌≡◌, ◌↔◌, ℕ, List, [], ◌∷◌, sym, subst, ◌∙◌}
 use Rattle.std.specs.List.{AllByRecursion}
-use Rattle.pv_machine.specs.Ranges.{Range, AreWithin}
+use Rattle.pv_place.specs.Ranges.{Range, AreWithin}
 use Rattle.pv_machine.specs.Machines.{Machine, Values, IsState, IsInput, AreParams, IsLawful}
 use Rattle.pv_machine.specs.Queries.{FailsAtLast, MeetsBase, MeetsStep}
 

@@ -7,8 +7,8 @@ use Rattle.std.proofs.lemmas.List.{append-nil, take_all}
 use Rattle.pv_word.specs.declared.types.Ty.{Ty}
 use Rattle.pv_word.specs.declared.types.Ty.TheVariants.{Bool as BoolTy}
 use Rattle.pv_word.specs.Types.{InRange}
-use Rattle.pv_machine.specs.Roles.{is_input, is_stored}
-use Rattle.pv_machine.specs.Ranges.{Range, range_of, IsWithin, AreWithin}
+use Rattle.pv_place.specs.Roles.{is_input, is_stored}
+use Rattle.pv_place.specs.Ranges.{Range, range_of, IsWithin, AreWithin}
 use Rattle.pv_machine.specs.Machines.{Values, Step, done, IsLawful}
 use Rattle.pv_tree.specs.Tree.{ExprTree, OperandTree, BlockTree}
 use Rattle.pv_bool.specs.Roles.{is_kept, is_input as is_input_bit}

@@ -1,8 +1,8 @@
 -- Scans of runs, statuses and reports, found by hand.
 use Rattle.std.proofs.Common.{◌≡◌, codes, refl, List, [], ◌∷◌, pos, Some, None}
 use Rattle.std.specs.Fmt.{digits}
-use Rattle.pv_machine.specs.declared.place.Place.{Place}
-use Rattle.pv_machine.specs.declared.trap.TrapKind.TheVariants.{DivideByZero, Index}
+use Rattle.pv_place.specs.declared.place.Place.{Place}
+use Rattle.pv_place.specs.declared.trap.TrapKind.TheVariants.{DivideByZero, Index}
 use Rattle.pv_case.specs.declared.case.PatternKind.TheVariants.{Invariant, Between, Reach}
 use Rattle.pv_mean.specs.Endings.{ended, trapped, over}
 use Rattle.pv_mean.specs.Scans.{Scan, ScanEnd}

@@ -1,9 +1,9 @@
 -- A replay's scans, one by one, are those of the run.
 use Rattle.std.proofs.Common.{◌≡◌, ℕ, zero, suc, ◌+◌, ◌<◌, List, [], ◌∷◌, length, drop, get_or, Bool, true, Option, Some, None, refl, sym, ap, subst, ◌∙◌, arith}
 use Rattle.std.specs.List.{AllByRecursion}
-use Rattle.pv_machine.specs.declared.place.Place.{Place}
-use Rattle.pv_machine.specs.declared.trap.TrapKind.{TrapKind}
-use Rattle.pv_machine.specs.Ranges.{AreWithin}
+use Rattle.pv_place.specs.declared.place.Place.{Place}
+use Rattle.pv_place.specs.declared.trap.TrapKind.{TrapKind}
+use Rattle.pv_place.specs.Ranges.{AreWithin}
 use Rattle.pv_mean.specs.Sources.{Source}
 use Rattle.pv_mean.specs.Frames.{Image, Input, input_ranges}
 use Rattle.pv_mean.specs.Scans.{Visible, ScanEnd, scan, next_image}

@@ -1,8 +1,8 @@
 -- How a replay ends, by the scans of its run: no scan fails, or one is the first that does. Of a requirement that asks for a goal a scan
 -- fails where the goal is reached, and a trap ends the run without failing.
 use Rattle.std.specs.Prelude.{◌≡◌, ℕ, List, [], ◌∷◌, length, count_by, Bool, true, false, Option, Some, None}
-use Rattle.pv_machine.specs.declared.place.Place.{Place}
-use Rattle.pv_machine.specs.declared.trap.TrapKind.{TrapKind}
+use Rattle.pv_place.specs.declared.place.Place.{Place}
+use Rattle.pv_place.specs.declared.trap.TrapKind.{TrapKind}
 use Rattle.pv_mean.specs.Sources.{Source}
 use Rattle.pv_mean.specs.Endings.{ended, trapped, over as over_end}
 use Rattle.pv_mean.specs.Scans.{Scan, ScanEnd}

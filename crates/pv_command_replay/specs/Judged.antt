@@ -1,9 +1,9 @@
 -- How the scans of a run are judged one by one, with a count of those that are done. Private clauses cite this.
 use Rattle.std.specs.Prelude.{◌≡◌, ℕ, ◌+◌, List, [], ◌∷◌, Bool, true, false, Option, Some, None, slice_get}
 use Rattle.std.specs.List.{AllByRecursion}
-use Rattle.pv_machine.specs.declared.place.Place.{Place}
-use Rattle.pv_machine.specs.declared.trap.TrapKind.{TrapKind}
-use Rattle.pv_machine.specs.Ranges.{AreWithin}
+use Rattle.pv_place.specs.declared.place.Place.{Place}
+use Rattle.pv_place.specs.declared.trap.TrapKind.{TrapKind}
+use Rattle.pv_place.specs.Ranges.{AreWithin}
 use Rattle.pv_tree.specs.declared.kept.Project.{Project}
 use Rattle.pv_mean.specs.declared.view.CaseView.{CaseView}
 use Rattle.pv_mean.specs.ProjectSizes.{project_tree}

@@ -1,6 +1,6 @@
 -- The trace's ranges by the types of its cells, and stops that are passed on. Private clauses cite this.
 use Rattle.std.specs.Prelude.{ℕ}
-use Rattle.pv_machine.specs.Ranges.{range_of}
+use Rattle.pv_place.specs.Ranges.{range_of}
 use Rattle.pv_mean.specs.declared.cell.Cell.{Cell}
 use Rattle.pv_cert.specs.declared.fault.CertFault.{CertFault}
 use Rattle.pv_cert.specs.declared.fault.CertFault.TheVariants as cert_fault

@@ -1,8 +1,8 @@
 -- The report of a replay, and the status that goes with it.
 use Rattle.std.specs.Prelude.{ℕ, List, ◌++◌, codes, decimal, Some, None}
-use Rattle.pv_machine.specs.declared.place.Place.{Place}
-use Rattle.pv_machine.specs.declared.trap.TrapKind.{TrapKind}
-use Rattle.pv_machine.specs.declared.trap.TrapKind.TheVariants.{DivideByZero, Index, Unset}
+use Rattle.pv_place.specs.declared.place.Place.{Place}
+use Rattle.pv_place.specs.declared.trap.TrapKind.{TrapKind}
+use Rattle.pv_place.specs.declared.trap.TrapKind.TheVariants.{DivideByZero, Index, Unset}
 use Rattle.pv_case.specs.declared.case.PatternKind.{PatternKind}
 use Rattle.pv_case.specs.declared.case.PatternKind.TheVariants.{Invariant, Forbidden, Implication, Within, Between, Reach}
 use Rattle.pv_command_load.specs.Spots.{FileText, place_text}

@@ -1,7 +1,7 @@
 -- The trace of a replay: one of the source that is run, with a value for each parameter that isn't bound and, for each scan, one for each
 -- input cell, each in its type's range.
 use Rattle.std.specs.Prelude.{◌≡◌, ℕ, List, ◌++◌, map, codes, decimal, Option, string_bytes}
-use Rattle.pv_machine.specs.Ranges.{Range}
+use Rattle.pv_place.specs.Ranges.{Range}
 use Rattle.pv_edge.specs.Files.{FileMap}
 use Rattle.pv_mean.specs.Sources.{Source}
 use Rattle.pv_mean.specs.Frames.{param_ranges, input_ranges}

@@ -1,5 +1,5 @@
 //! How a replay ends.
-use pv_machine::{Place, TrapKind};
+use pv_place::{Place, TrapKind};
 
 /// Why a scan fails that isn't over the bound of a loop.
 #[derive(Clone, Copy, Debug, PartialEq, Eq)]

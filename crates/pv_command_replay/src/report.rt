@@ -9,7 +9,7 @@ ghost use Rattle.pv_command_replay.specs.declared.end.End.TheVariants.{Broken, O
 use crate::end::{Cause, End};
 use pv_case::PatternKind;
 use pv_command_load::{SourceText, Spot};
-use pv_machine::{Place, TrapKind};
+use pv_place::{Place, TrapKind};
 use std::alloc::{AllocError, Global};
 
 /// The name of a kind of requirements.

@@ -1,7 +1,7 @@
 //! The scans of a trace.
 ghost use Rattle.std.specs.Prelude.{◌≡◌, ◌+◌, ◌^◌, ◌<◌, true, None, IfOk};
 ghost use Rattle.std.specs.List.{AllByRecursion};
-ghost use Rattle.pv_machine.specs.Ranges.{AreWithin};
+ghost use Rattle.pv_place.specs.Ranges.{AreWithin};
 ghost use Rattle.pv_mean.specs.Sources.{Source};
 ghost use Rattle.pv_mean.specs.Frames.{input_ranges};
 ghost use Rattle.pv_mean.specs.Scans.{scan};
@@ -18,7 +18,7 @@ use crate::end::{Cause, End};
 use pv_cells::Table;
 use pv_cert::{CellValues, Trace};
 use pv_command_load::Subject;
-use pv_machine::{Place, TrapKind};
+use pv_place::{Place, TrapKind};
 use pv_mean::CaseView;
 use pv_pattern::Pattern;
 use pv_program::make;

@@ -4,7 +4,7 @@ use Rattle.std.specs.Prelude.{unsigned_abs, slice_get, slice_set, option_and_the
 use Rattle.std.proofs.Common.{◌⊎◌, inl, inr}
 use Rattle.std.proofs.lemmas.Bool.{cases_lt}
 use Rattle.std.proofs.lemmas.List.{get_or_append_left, get_or_at, get_or-set_same, get_or-set_other}
-use Rattle.pv_machine.specs.declared.place.Place.{Place}
+use Rattle.pv_place.specs.declared.place.Place.{Place}
 use Rattle.pv_mean.specs.Frames.{Frame}
 use Rattle.pv_mean.specs.Endings.{Tried, Value, got, trap, and_then}
 use Rattle.pv_mean.specs.Spots.{read_spot}

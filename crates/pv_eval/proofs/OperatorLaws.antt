@@ -13,7 +13,7 @@ use Rattle.pv_word.specs.declared.types.Ty.{Ty}
 use Rattle.pv_word.specs.declared.types.Ty.TheVariants.{Bool, Byte, Word, Dword, Int, Dint, Time}
 use Rattle.pv_word.specs.Types.{width_of, is_signed_of, InRange, wrap_of, pattern_of, shl_of, shr_of}
 use Rattle.pv_word.proofs.ForCallers.{wide, zero-in_range, wrap-own, wrap-in_range, wrap-congruent_same, congruent-from_parts, pattern-lt, pattern-wrap, pattern-not_negative, pattern-negative}
-use Rattle.pv_machine.specs.declared.place.Place.{Place}
+use Rattle.pv_place.specs.declared.place.Place.{Place}
 use Rattle.pv_mean.specs.Endings.{got}
 use Rattle.pv_mean.specs.Values.{divided}
 

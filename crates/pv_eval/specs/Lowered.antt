@@ -1,6 +1,6 @@
 -- The operations of nodes.
 use Rattle.std.specs.Prelude.{ℕ, suc, pos, List, [], ◌∷◌, Option, Some, None, slice_get, option_and_then, unwrap_or}
-use Rattle.pv_machine.specs.declared.place.Place.{Place}
+use Rattle.pv_place.specs.declared.place.Place.{Place}
 use Rattle.pv_eval.specs.declared.node.Spot.{Spot}
 use Rattle.pv_eval.specs.declared.node.Spot.TheVariants.{Visible, Brief, Bit, Bytes, Fixed, Nowhere}
 use Rattle.pv_eval.specs.declared.node.Operand.{Operand}

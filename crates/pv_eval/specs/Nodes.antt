@@ -1,7 +1,7 @@
 -- What nodes do: one after the other, each adds its value to those of the nodes before it, and the first trap decides.
 use Rattle.std.specs.Prelude.{ℕ, ◌+◌, ℤ, pos, unsigned_abs, int_le, List, [], ◌∷◌, ◌++◌, ◌&&◌, if◌then◌else◌}
-use Rattle.pv_machine.specs.declared.place.Place.{Place}
-use Rattle.pv_machine.specs.declared.trap.TrapKind.TheVariants.{Index}
+use Rattle.pv_place.specs.declared.place.Place.{Place}
+use Rattle.pv_place.specs.declared.trap.TrapKind.TheVariants.{Index}
 use Rattle.pv_mean.specs.Frames.{Frame}
 use Rattle.pv_mean.specs.Endings.{Tried, Value, got, trap, and_then}
 use Rattle.pv_mean.specs.Spots.{read_spot}

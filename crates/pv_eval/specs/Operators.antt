@@ -4,7 +4,7 @@ use Rattle.std.specs.Ordering.{int_eq}
 use Rattle.pv_word.specs.declared.types.Ty.{Ty}
 use Rattle.pv_word.specs.Types.{wrap_of, and_of, or_of, xor_of, not_of, shl_of, shr_of}
 use Rattle.pv_word.specs.Division.{quotient, remainder}
-use Rattle.pv_machine.specs.declared.place.Place.{Place}
+use Rattle.pv_place.specs.declared.place.Place.{Place}
 use Rattle.pv_mean.specs.Endings.{Value, got}
 use Rattle.pv_mean.specs.Values.{number_of, is_true, divided, lesser, greater}
 use Rattle.pv_eval.specs.declared.node.OneOp.{OneOp}

@@ -1,8 +1,8 @@
 -- Operations at work: one after the other, each leaves its value under its number, and the first trap decides.
 use Rattle.std.specs.Prelude.{ℕ, ◌+◌, ℤ, ◌+ℤ◌, ◌-ℤ◌, ◌*ℤ◌, unsigned_abs, int_le, List, [], ◌∷◌, ◌&&◌, if◌then◌else◌, slice_set, slice_get, Some, ◌≡◌, Result, Ok, Err}
 use Rattle.std.specs.Int.{w64, int_wrap}
-use Rattle.pv_machine.specs.declared.place.Place.{Place}
-use Rattle.pv_machine.specs.declared.trap.TrapKind.TheVariants.{Index}
+use Rattle.pv_place.specs.declared.place.Place.{Place}
+use Rattle.pv_place.specs.declared.trap.TrapKind.TheVariants.{Index}
 use Rattle.pv_mean.specs.Frames.{Frame, visible_value}
 use Rattle.pv_mean.specs.Endings.{Tried, Value, got, trap, and_then}
 use Rattle.pv_mean.specs.Spots as m

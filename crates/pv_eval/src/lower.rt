@@ -4,7 +4,7 @@ ghost use Rattle.pv_eval.specs.Lowered.{copied_spot, copied_operand, copied, arg
 
 use crate::node::{Node, Operand, Spot};
 use crate::op::{Access, Arg, Deed, Op};
-use pv_machine::Place;
+use pv_place::Place;
 use std::alloc::{AllocError, Global};
 
 fn copied_spot(spot: Spot) -> Option<Arg>

@@ -1,6 +1,6 @@
 //! Nodes: expressions, of which each part is a node that stands before it.
 
-use pv_machine::Place;
+use pv_place::Place;
 use pv_word::Ty;
 
 /// What is read and written at once. Cells go by their numbers.

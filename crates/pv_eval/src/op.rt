@@ -2,7 +2,7 @@
 //! fetches it there.
 
 use crate::node::{OneOp, Part, Spot, ThreeOp, TwoOp};
-use pv_machine::Place;
+use pv_place::Place;
 use pv_word::Ty;
 
 /// What is worked on.

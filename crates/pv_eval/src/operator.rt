@@ -10,7 +10,7 @@ ghost use Rattle.pv_eval.specs.Traps.{tried};
 
 use crate::node::{OneOp, ThreeOp, TwoOp};
 use crate::trap::Trap;
-use pv_machine::{Place, TrapKind};
+use pv_place::{Place, TrapKind};
 use pv_word::{Ty, width, wrap};
 
 /// Whether the number is a value of the type.

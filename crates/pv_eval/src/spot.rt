@@ -12,7 +12,7 @@ use crate::node::{Part, Spot};
 use crate::operator::{packed, pattern};
 use crate::room::Room;
 use crate::trap::Trap;
-use pv_machine::{Place, TrapKind};
+use pv_place::{Place, TrapKind};
 use pv_word::Ty;
 
 pub(crate) fn visible_value(room: &Room, n: usize) -> i64

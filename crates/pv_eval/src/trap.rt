@@ -1,6 +1,6 @@
 //! Why something has no value.
 
-use pv_machine::{Place, TrapKind};
+use pv_place::{Place, TrapKind};
 
 /// A trap, with its place.
 #[derive(Clone, Copy, PartialEq, Eq, Debug)]

@@ -14,7 +14,7 @@ use crate::operator::{one, three, two};
 use crate::room::Room;
 use crate::spot::{read, spot_in, visible_value};
 use crate::trap::Trap;
-use pv_machine::{Place, TrapKind};
+use pv_place::{Place, TrapKind};
 
 fn value_at(values: &[i64], n: u32) -> i64
     ensures { result ≡ at values.now n }

@@ -1,6 +1,6 @@
 -- A source is judged in one way.
 use Rattle.std.proofs.Common.{◌≡◌, ℕ, true, List, ap, sym, ◌∙◌, subst}
-use Rattle.pv_machine.specs.declared.place.Place.{Place}
+use Rattle.pv_place.specs.declared.place.Place.{Place}
 use Rattle.pv_lex.specs.declared.token.Token.{Token}
 use Rattle.pv_lex.specs.declared.token.Language.{Language as Of}
 use Rattle.pv_lex.specs.declared.token.Language.TheVariants.{Scl, Stl}

@@ -1,6 +1,6 @@
 -- What is said of a source by its tokens. A fault is told by the bytes before it.
 use Rattle.std.specs.Prelude.{◌≡◌, ℕ, List}
-use Rattle.pv_machine.specs.declared.place.Place.{Place}
+use Rattle.pv_place.specs.declared.place.Place.{Place}
 use Rattle.pv_lex.specs.declared.token.Language.{Language}
 use Rattle.pv_tree.specs.Tree.{BlockTree}
 use Rattle.pv_tree.specs.Lexemes.{Lexeme}

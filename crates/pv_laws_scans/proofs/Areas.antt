@@ -10,7 +10,7 @@ use Rattle.pv_word.specs.declared.types.Ty.{Ty}
 use Rattle.pv_word.specs.declared.types.Ty.TheVariants.{Bool as BoolTy, Byte, Word, Dword, Int, Dint, Time}
 use Rattle.pv_word.specs.Types.{width_of, is_signed_of, InRange, wrap_of, pattern_of}
 use Rattle.pv_word.proofs.ForCallers.{wide, wrap-own, wrap-congruent_same, pattern-lt, pattern-pos, pattern-wrap, pattern-congruent}
-use Rattle.pv_machine.specs.declared.place.Place.{Place}
+use Rattle.pv_place.specs.declared.place.Place.{Place}
 use Rattle.pv_mean.specs.Sources.{Source}
 use Rattle.pv_mean.specs.Frames.{Frame, visible_cells, type_of_visible, visible_value, with_visible}
 use Rattle.pv_mean.specs.Endings.{got}

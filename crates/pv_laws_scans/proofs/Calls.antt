@@ -1,7 +1,7 @@
 -- Where calls and scans stop.
 use Rattle.std.proofs.Common.{◌≡◌, ◌⊎◌, ℕ, zero, suc, ℤ, List, [], ◌∷◌, Bool, true, false, Option, Some, None, inl, inr, cond}
 use Rattle.std.specs.Prelude.{⊤, find}
-use Rattle.pv_machine.specs.declared.place.Place.{Place}
+use Rattle.pv_place.specs.declared.place.Place.{Place}
 use Rattle.pv_tree.specs.Tree.{ExprTree, lit, read, unary, binary, std, paren, ArgTree, BodyTree, scl, stl, starts}
 use Rattle.pv_tree.specs.Callees.{CallSite, Callee, runs, not_declared, not_callable, unknown, callee_of}
 use Rattle.pv_tree.specs.Parts.{operand_of}

@@ -3,9 +3,9 @@
 use Rattle.std.proofs.Common.{◌≡◌, ◌++◌, ℕ, suc, List, [], ◌∷◌, length, ℤ, pos, true, get_or, Option, refl, ap, sym, subst, ◌∙◌, arith}
 use Rattle.std.proofs.lemmas.Bool.{false≢true}
 use Rattle.pv_word.specs.declared.types.Ty.{Ty}
-use Rattle.pv_machine.specs.declared.role.Role.{Role}
-use Rattle.pv_machine.specs.declared.role.Role.TheVariants.{Input as InputRole, Param, Kept, Brief}
-use Rattle.pv_machine.specs.Roles.{is_input, is_stored}
+use Rattle.pv_place.specs.declared.role.Role.{Role}
+use Rattle.pv_place.specs.declared.role.Role.TheVariants.{Input as InputRole, Param, Kept, Brief}
+use Rattle.pv_place.specs.Roles.{is_input, is_stored}
 use Rattle.pv_mean.specs.declared.cell.Cell.{Cell}
 use Rattle.pv_mean.specs.Frames.{Image, Input, first, others, image_len, input_len, visible_len, begin_by, begin, left_by, image_after}
 use Rattle.pv_mean.proofs.ForCallers.{length-image_after}

@@ -1,6 +1,6 @@
 -- Where statements stop: at one of their places, or at one of what their calls run.
 use Rattle.std.proofs.Common.{◌≡◌, ◌⊎◌, ℕ, zero, suc, ℤ, ◌+ℤ◌, inl, inr, refl, subst, sym}
-use Rattle.pv_machine.specs.declared.place.Place.{Place}
+use Rattle.pv_place.specs.declared.place.Place.{Place}
 use Rattle.pv_tree.specs.Tree.{OperandTree, StmtTree, assign, assign_call, if_, case_, for_, while_, repeat_, exit_, continue_, return_, call_, empty_, StmtTrees, no_stmts, stmts, ArmTrees, no_arms, arms, BranchTrees, no_branches, branches, ElseTree, no_else, else_}
 use Rattle.pv_tree.specs.Callees.{as_statement, as_value, CallSite}
 use Rattle.pv_mean.specs.Sources.{Source}

@@ -3,7 +3,7 @@ use Rattle.std.proofs.Common.{◌≡◌, ◌≢◌, ℕ, ◌+◌, ℤ, List, [],
 use Rattle.std.specs.List.{AllByRecursion}
 use Rattle.std.proofs.lemmas.List.{length-map}
 use Rattle.std.proofs.lemmas.Bool.{true≢false}
-use Rattle.pv_machine.specs.Ranges.{Range, AreWithin}
+use Rattle.pv_place.specs.Ranges.{Range, AreWithin}
 use Rattle.pv_machine.specs.Machines.{Values, IsState, IsInput}
 use Rattle.pv_machine.specs.Queries.{FailsAtLast, MeetsStep}
 use Rattle.pv_mean.specs.Sources.{Source}

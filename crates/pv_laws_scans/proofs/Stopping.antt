@@ -1,7 +1,7 @@
 -- Where what can trap stops, and what follows for what goes on with it.
 use Rattle.std.proofs.Common.{Bool, true, false}
 use Rattle.std.specs.Prelude.{⊤}
-use Rattle.pv_machine.specs.declared.place.Place.{Place}
+use Rattle.pv_place.specs.declared.place.Place.{Place}
 use Rattle.pv_mean.specs.Frames.{Frame}
 use Rattle.pv_mean.specs.Endings.{Tried, got, trap, and_then, Ended, ended, trapped, over, and_end, end_of, Ending, normal, at_exit, at_continue, at_return, by_trap, by_over, go_on, when_got, when_ended, body_end}
 use Rattle.pv_mean.specs.Statements.{after_turn}

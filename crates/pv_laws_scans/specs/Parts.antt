@@ -1,7 +1,7 @@
 -- The values of the input cells and of the stored cells among those of the visible ones, both in the order of the table.
 use Rattle.std.specs.Prelude.{List, [], ◌∷◌}
-use Rattle.pv_machine.specs.declared.role.Role.{Role}
-use Rattle.pv_machine.specs.declared.role.Role.TheVariants.{Input as InputRole, Param, Kept, Brief}
+use Rattle.pv_place.specs.declared.role.Role.{Role}
+use Rattle.pv_place.specs.declared.role.Role.TheVariants.{Input as InputRole, Param, Kept, Brief}
 use Rattle.pv_mean.specs.declared.cell.Cell.{Cell}
 use Rattle.pv_mean.specs.Frames.{Image, Input, first, others}
 use Rattle.pv_mean.specs.Scans.{Visible}

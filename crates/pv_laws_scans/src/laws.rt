@@ -1,7 +1,7 @@
 //! What scans begin with, keep and leave.
 ghost use Rattle.std.specs.Prelude.{◌≡◌, ◌++◌, ◌∷◌, length, pos, ℕ, List, slice_index_or, true};
-ghost use Rattle.pv_machine.specs.declared.role.Role.TheVariants.{Kept, Param};
-ghost use Rattle.pv_machine.specs.Roles.{is_input, is_stored};
+ghost use Rattle.pv_place.specs.declared.role.Role.TheVariants.{Kept, Param};
+ghost use Rattle.pv_place.specs.Roles.{is_input, is_stored};
 ghost use Rattle.pv_mean.specs.declared.cell.Cell.{Cell};
 ghost use Rattle.pv_mean.specs.Sources.{Source};
 ghost use Rattle.pv_mean.specs.Frames.{Image, Input, image_len, input_len, visible_len, begin, image_after};

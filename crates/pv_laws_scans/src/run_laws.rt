@@ -2,7 +2,7 @@
 ghost use Rattle.std.specs.Prelude.{◌≡◌, ◌≢◌, ◌⊎◌, ℕ, List, Bool, Option, None};
 ghost use Rattle.std.specs.List.{AllByRecursion};
 ghost use Rattle.pv_word.specs.Types.{InRange};
-ghost use Rattle.pv_machine.specs.Ranges.{AreWithin};
+ghost use Rattle.pv_place.specs.Ranges.{AreWithin};
 ghost use Rattle.pv_machine.specs.Queries.{MeetsStep};
 ghost use Rattle.pv_mean.specs.Sources.{Source};
 ghost use Rattle.pv_mean.specs.Frames.{Image, Input, image_ranges, input_ranges};

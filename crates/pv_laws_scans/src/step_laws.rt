@@ -3,7 +3,7 @@ ghost use Rattle.std.specs.Prelude.{◌≡◌, ◌<◌, ◌≤◌, ◌+◌, ◌*
 ghost use Rattle.pv_word.specs.declared.types.Ty.{Ty};
 ghost use Rattle.pv_word.specs.declared.types.Ty.TheVariants.{Bool, Byte};
 ghost use Rattle.pv_word.specs.Types.{width_of, InRange, wrap_of};
-ghost use Rattle.pv_machine.specs.declared.place.Place.{Place};
+ghost use Rattle.pv_place.specs.declared.place.Place.{Place};
 ghost use Rattle.pv_tree.specs.declared.expr.UnaryOp.TheVariants.{Not};
 ghost use Rattle.pv_tree.specs.declared.expr.BinaryOp.TheVariants.{And, Or, Xor};
 ghost use Rattle.pv_tree.specs.Tree.{ExprTree, OperandTree, assign};

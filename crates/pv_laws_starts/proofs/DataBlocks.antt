@@ -5,7 +5,7 @@ use Rattle.std.proofs.lemmas.Option.{none-some}
 use Rattle.std.proofs.lemmas.List.Elements.{Contains-append_right}
 use Rattle.pv_word.specs.declared.types.Ty.{Ty}
 use Rattle.pv_word.specs.Types.{InRange}
-use Rattle.pv_machine.specs.declared.place.Place.{Place}
+use Rattle.pv_place.specs.declared.place.Place.{Place}
 use Rattle.pv_types.specs.declared.leaf.Leaf.{Leaf}
 use Rattle.pv_types.specs.Tree.{TypeTree, plain, array, structure, named, unread, VarTree}
 use Rattle.pv_types.specs.View.{listed}

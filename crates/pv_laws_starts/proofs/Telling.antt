@@ -1,7 +1,7 @@
 -- What the steps of a start value lead to by types is what they lead to by the layout: something of the same type, or a date.
 use Rattle.std.proofs.Common.{◌≡◌, ◌⊎◌, inl, inr, ℕ, ◌+◌, ◌*◌, ℤ, List, [], ◌∷◌, Bool, true, false, cond, ◌&&◌, Option, Some, None, refl, sym, ap, subst}
 use Rattle.std.specs.Prelude.{⊤, ◌-ℤ◌, int_le, unsigned_abs, filter, option_and_then, bytes_eq}
-use Rattle.pv_machine.specs.declared.place.Place.{Place}
+use Rattle.pv_place.specs.declared.place.Place.{Place}
 use Rattle.pv_types.specs.declared.declaration.Section.{Section}
 use Rattle.pv_types.specs.Tree.{TypeTree, plain, array, structure, named, unread, VarTree, var}
 use Rattle.pv_types.specs.View.{fields_of, section_of}

@@ -1,7 +1,7 @@
 -- The cut of a text, piece by piece.
 use Rattle.std.proofs.Common.{◌≡◌, ℕ, ℤ, ◌+◌, ◌<◌, ◌≤◌, length, drop, take, List, [], ◌∷◌, ◌++◌, Option, Some, None, Result, Err, refl, ap, sym, ◌∙◌, subst, arith, append_assoc, append-nil, length-append, length-drop, add-zero, zero-add}
 use Rattle.std.proofs.Math.Seq.{take-append_seam, drop-append_seam}
-use Rattle.pv_machine.specs.declared.place.Place.{Place}
+use Rattle.pv_place.specs.declared.place.Place.{Place}
 use Rattle.pv_lex.specs.declared.context.Context.{Context}
 use Rattle.pv_lex.specs.declared.stretch.Next.{Next}
 use Rattle.pv_lex.specs.declared.fault.FaultKind.{FaultKind}

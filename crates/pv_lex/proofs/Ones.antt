@@ -2,7 +2,7 @@
 use Rattle.std.proofs.Common.{◌≡◌, ◌⊎◌, ℕ, zero, suc, ◌+◌, ◌<◌, ◌≤◌, length, drop, take, true, false, inl, inr, List, [], ◌∷◌, ◌++◌, Option, Some, None, Result, Ok, Err, refl, ap, sym, ◌∙◌, subst, arith, lit<}
 use Rattle.std.specs.Prelude.{◌||◌, ◌==◌}
 use Rattle.std.proofs.lemmas.Bool.{false≢true, eqb-true, cases_eq, or_cases, and_parts}
-use Rattle.pv_machine.specs.declared.place.Place.{Place}
+use Rattle.pv_place.specs.declared.place.Place.{Place}
 use Rattle.pv_lex.specs.declared.class.Class.TheVariants as c
 use Rattle.pv_lex.specs.declared.context.Context.{Context}
 use Rattle.pv_lex.specs.declared.stretch.Next.{Next}

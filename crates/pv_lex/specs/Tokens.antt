@@ -1,7 +1,7 @@
 -- Tokens: how a text is cut into tokens and dropped text.
 use Rattle.std.specs.Prelude.{◌≡◌, ℕ, ℤ, pos, ◌+◌, ◌<◌, ◌≤◌, Bool, true, false, ◌&&◌, ◌||◌, not, nat_lt, ◌^◌, ◌⊎◌, ◌==◌, IsTrue, if◌then◌else◌, List, [], ◌∷◌, ◌++◌, length, drop, codes, Option, Some, None}
 use Rattle.std.specs.List.{list_all, prefix_len}
-use Rattle.pv_machine.specs.declared.place.Place.{Place}
+use Rattle.pv_place.specs.declared.place.Place.{Place}
 use Rattle.pv_lex.specs.declared.class.Class.{Class}
 use Rattle.pv_lex.specs.declared.class.Class.TheVariants as c
 use Rattle.pv_lex.specs.declared.context.Context.{Context}

@@ -2,7 +2,7 @@
 ghost use Rattle.std.specs.Prelude.{◌≡◌};
 ghost use Rattle.pv_lex.specs.declared.fault.LexFault.TheVariants.{NoMemory};
 
-use pv_machine::Place;
+use pv_place::Place;
 use std::alloc::{AllocError, AllocFailed};
 use thiserror::Error;
 

@@ -1,6 +1,6 @@
 //! Laws of tokens.
 ghost use Rattle.std.specs.Prelude.{◌≡◌, ◌⊎◌, ◌+◌, ℕ, IsTrue, List, [], ◌∷◌, ◌++◌, length, Option};
-ghost use Rattle.pv_machine.specs.declared.place.Place.{Place};
+ghost use Rattle.pv_place.specs.declared.place.Place.{Place};
 ghost use Rattle.pv_lex.specs.declared.context.Context.{Context};
 ghost use Rattle.pv_lex.specs.declared.fault.FaultKind.{FaultKind};
 ghost use Rattle.pv_lex.specs.declared.token.Kind.{Kind};

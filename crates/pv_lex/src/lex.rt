@@ -3,7 +3,7 @@ ghost use Rattle.std.specs.Prelude.{◌≡◌, ◌≤◌, ◌+◌, ◌++◌, len
 ghost use Rattle.pv_lex.specs.declared.fault.FaultKind.{FaultKind};
 ghost use Rattle.pv_lex.specs.declared.fault.LexFault.TheVariants.{NoToken, NoMemory};
 ghost use Rattle.pv_lex.specs.declared.token.Kind.TheVariants.{End};
-ghost use Rattle.pv_machine.specs.declared.place.Place.{Place};
+ghost use Rattle.pv_place.specs.declared.place.Place.{Place};
 ghost use Rattle.pv_lex.specs.Tokens.{AreTokens, IsFault, token_at};
 ghost use Rattle.pv_lex.specs.Scans.{next_tokens};
 
@@ -11,7 +11,7 @@ use crate::context::{Context, at_start, behind};
 use crate::fault::LexFault;
 use crate::stretch::{Next, next_in};
 use crate::token::{Kind, Language, Token};
-use pv_machine::Place;
+use pv_place::Place;
 use std::alloc::Global;
 
 /// The most bytes that a source has.

@@ -24,5 +24,5 @@ pub use laws::{
     text_has_tokens_or_a_fault, tokens_lie_in_their_text,
 };
 pub use lex::{MAX_SOURCE, tokens};
-pub use pv_machine::Place;
+pub use pv_place::Place;
 pub use token::{Kind, Language, Token};

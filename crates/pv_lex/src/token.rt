@@ -1,5 +1,5 @@
 //! Tokens.
-use pv_machine::Place;
+use pv_place::Place;
 
 /// The language of a source.
 #[derive(Clone, Copy, PartialEq, Eq, Debug)]

@@ -1,4 +1,2 @@
-pub mod Roles
-pub mod Ranges
 pub mod Machines
 pub mod Queries

@@ -1,9 +1,9 @@
 -- Machines: transition systems whose states and inputs are lists of numbers, each number within its range. A scan of a program
 -- is a step of such a machine.
 use Rattle.std.specs.Prelude.{◌≡◌, Bool, List, ℤ}
-use Rattle.pv_machine.specs.declared.place.Place.{Place}
-use Rattle.pv_machine.specs.declared.trap.TrapKind.{TrapKind}
-use Rattle.pv_machine.specs.Ranges.{Range, AreWithin}
+use Rattle.pv_place.specs.declared.place.Place.{Place}
+use Rattle.pv_place.specs.declared.trap.TrapKind.{TrapKind}
+use Rattle.pv_place.specs.Ranges.{Range, AreWithin}
 
 -- the values of a state, or of an input, or of the parameters, in the order of their ranges
 abbrev pub Values : Type 0

@@ -11,7 +11,7 @@ use Rattle.pv_word.specs.declared.types.Ty.{Ty}
 use Rattle.pv_word.specs.Types.{width_of, is_signed_of, InRange, wrap_of}
 use Rattle.pv_word.specs.Division.{quotient, remainder, IsDivision}
 use Rattle.pv_word.proofs.ForCallers.{wide, wrap-own}
-use Rattle.pv_machine.specs.declared.place.Place.{Place}
+use Rattle.pv_place.specs.declared.place.Place.{Place}
 use Rattle.pv_tree.specs.declared.expr.BinaryOp.TheVariants.{Div, Mod}
 use Rattle.pv_mean.specs.Endings.{Value, got}
 use Rattle.pv_mean.specs.Values.{divided, binary_result}

@@ -3,8 +3,8 @@ use Rattle.std.proofs.Common.{◌≡◌, pos, negsuc, ℤ, List, [], ◌∷◌, 
 use Rattle.pv_word.specs.declared.types.Ty.TheVariants as ty
 use Rattle.pv_word.specs.Wrap.{wrap_at}
 use Rattle.pv_word.specs.Bits.{pattern_at}
-use Rattle.pv_machine.specs.declared.role.Role.TheVariants as role
-use Rattle.pv_machine.specs.declared.trap.TrapKind.TheVariants.{DivideByZero, Index, Unset}
+use Rattle.pv_place.specs.declared.role.Role.TheVariants as role
+use Rattle.pv_place.specs.declared.trap.TrapKind.TheVariants.{DivideByZero, Index, Unset}
 use Rattle.pv_types.specs.declared.declaration.Section.TheVariants.{Input, Output, InOut, Static, Temp}
 use Rattle.pv_tree.specs.declared.expr.Area.TheVariants.{I, M}
 use Rattle.pv_tree.specs.declared.expr.UnaryOp.TheVariants as u

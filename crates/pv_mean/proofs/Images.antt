@@ -8,9 +8,9 @@ use Rattle.std.proofs.lemmas.List.{length-set}
 use Rattle.pv_word.specs.declared.types.Ty.{Ty}
 use Rattle.pv_word.specs.Types.{InRange, wrap_of, width_of, is_signed_of}
 use Rattle.pv_word.proofs.ForCallers.{wide, wrap-in_range}
-use Rattle.pv_machine.specs.declared.role.Role.{Role}
-use Rattle.pv_machine.specs.declared.role.Role.TheVariants.{Input as InputRole, Param, Kept, Brief}
-use Rattle.pv_machine.specs.Ranges.{range_of, range_at, IsWithin, AreWithin}
+use Rattle.pv_place.specs.declared.role.Role.{Role}
+use Rattle.pv_place.specs.declared.role.Role.TheVariants.{Input as InputRole, Param, Kept, Brief}
+use Rattle.pv_place.specs.Ranges.{range_of, range_at, IsWithin, AreWithin}
 use Rattle.pv_mean.specs.declared.cell.Cell.{Cell}
 use Rattle.pv_mean.specs.Sources.{Source}
 use Rattle.pv_mean.specs.Frames.{Image, Input, Params, others, visible_cells, image_len, visible_len, visible_ranges, image_ranges, input_ranges, param_ranges, start_image, begin, image_after, type_of_visible}

@@ -8,7 +8,7 @@ use Rattle.pv_word.specs.Wrap.{IsCongruent}
 use Rattle.pv_word.specs.Bits.{pattern_at}
 use Rattle.pv_word.specs.Types.{width_of, is_signed_of, InRange, wrap_of, pattern_of}
 use Rattle.pv_word.proofs.ForCallers.{wide, wrap-own, wrap-in_range, wrap-congruent_same, congruent-trans, pattern-wrap, pattern-congruent, pattern-congruent_same}
-use Rattle.pv_machine.specs.declared.place.Place.{Place}
+use Rattle.pv_place.specs.declared.place.Place.{Place}
 use Rattle.pv_tree.specs.declared.instr.Op.{Op}
 use Rattle.pv_tree.specs.declared.instr.Op.TheVariants as op
 use Rattle.pv_tree.specs.Tree.{PlacedName, OperandTree, CallPlain, InstrTree}

@@ -4,7 +4,7 @@ use Rattle.std.specs.Prelude.{◌-ℤ◌, ◌&&◌, int_le, unsigned_abs, bytes_
 use Rattle.std.proofs.lemmas.Bool.{true≢false}
 use Rattle.std.proofs.Math.Path.{fun_ext}
 use Rattle.std.proofs.Math.Seq.{drop-cons}
-use Rattle.pv_machine.specs.declared.place.Place.{Place}
+use Rattle.pv_place.specs.declared.place.Place.{Place}
 use Rattle.pv_types.specs.declared.declaration.Section.{Section}
 use Rattle.pv_types.specs.declared.declaration.Var.{Var}
 use Rattle.pv_types.specs.Tree.{TypeTree, array, VarTree, var}

@@ -3,7 +3,7 @@
 use Prim.Native.String.{String}
 use Rattle.std.proofs.Common.{ℕ, ℤ, false, List, [], ◌∷◌, codes, Some, None}
 use Rattle.pv_word.specs.declared.types.Ty.{Ty}
-use Rattle.pv_machine.specs.declared.place.Place.{Place}
+use Rattle.pv_place.specs.declared.place.Place.{Place}
 use Rattle.pv_types.specs.declared.name.Name.{Name}
 use Rattle.pv_types.specs.declared.declaration.Section.{Section}
 use Rattle.pv_types.specs.declared.declaration.Literal.{Literal}

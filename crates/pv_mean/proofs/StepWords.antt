@@ -3,7 +3,7 @@ use Prim.Native.String.{String}
 use Rattle.std.proofs.Common.{◌≡◌, ℕ, ℤ, pos, List, [], ◌∷◌, Bool, true, false, map, codes, Option, Some, None}
 use Rattle.pv_word.specs.declared.types.Ty.{Ty}
 use Rattle.pv_word.specs.declared.types.Ty.TheVariants as ty
-use Rattle.pv_machine.specs.declared.trap.TrapKind.{TrapKind}
+use Rattle.pv_place.specs.declared.trap.TrapKind.{TrapKind}
 use Rattle.pv_types.specs.declared.declaration.Section.TheVariants.{Temp}
 use Rattle.pv_types.specs.declared.declaration.Literal.{Literal}
 use Rattle.pv_tree.specs.declared.instr.Op.{Op}

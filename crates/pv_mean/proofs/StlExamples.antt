@@ -4,7 +4,7 @@ use Rattle.std.proofs.Common.{◌≡◌, ℕ, ℤ, pos, List, [], ◌∷◌, map
 use Rattle.pv_word.specs.declared.types.Ty.TheVariants as ty
 use Rattle.pv_word.specs.Wrap.{wrap_at}
 use Rattle.pv_word.specs.Bits.{pattern_at}
-use Rattle.pv_machine.specs.declared.trap.TrapKind.TheVariants.{DivideByZero, Index, Unset}
+use Rattle.pv_place.specs.declared.trap.TrapKind.TheVariants.{DivideByZero, Index, Unset}
 use Rattle.pv_types.specs.declared.declaration.Section.TheVariants.{Input, Output, Static, Temp}
 use Rattle.pv_types.specs.Tree.{VarTree}
 use Rattle.pv_tree.specs.declared.expr.Area.TheVariants.{M}

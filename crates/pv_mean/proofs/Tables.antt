@@ -5,8 +5,8 @@ use Rattle.std.specs.List.{AllByRecursion}
 use Rattle.std.proofs.lemmas.List.{length-append, length-map}
 use Rattle.std.proofs.lemmas.List.Elements.{filter-append}
 use Rattle.std.proofs.lemmas.Option.{none-some}
-use Rattle.pv_machine.specs.declared.place.Place.{Place}
-use Rattle.pv_machine.specs.declared.role.Role.TheVariants.{Input as InputRole, Kept}
+use Rattle.pv_place.specs.declared.place.Place.{Place}
+use Rattle.pv_place.specs.declared.role.Role.TheVariants.{Input as InputRole, Kept}
 use Rattle.pv_types.specs.declared.name.Name.{Name}
 use Rattle.pv_types.specs.declared.declaration.Literal.{Literal}
 use Rattle.pv_types.specs.declared.declaration.Section.{Section}

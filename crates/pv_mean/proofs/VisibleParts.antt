@@ -5,7 +5,7 @@ use Rattle.std.specs.List.{AllByRecursion}
 use Rattle.std.proofs.lemmas.List.Elements.{filter-append}
 use Rattle.std.proofs.lemmas.Bool.{false≢true}
 use Rattle.pv_word.specs.declared.types.Ty.{Ty}
-use Rattle.pv_machine.specs.declared.role.Role.TheVariants.{Input as InputRole, Kept}
+use Rattle.pv_place.specs.declared.role.Role.TheVariants.{Input as InputRole, Kept}
 use Rattle.pv_types.specs.declared.declaration.Section.{Section}
 use Rattle.pv_types.specs.declared.declaration.Section.TheVariants.{Input, Output, InOut, Static, Temp, Const}
 use Rattle.pv_types.specs.declared.leaf.Leaf.{Leaf}

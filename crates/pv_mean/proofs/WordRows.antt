@@ -3,7 +3,7 @@ use Rattle.std.proofs.Common.{pos, negsuc, [], ◌∷◌, true, false, refl, Som
 use Rattle.pv_word.specs.declared.types.Ty.TheVariants as ty
 use Rattle.pv_word.specs.Wrap.{wrap_at}
 use Rattle.pv_word.specs.Bits.{pattern_at}
-use Rattle.pv_machine.specs.declared.trap.TrapKind.TheVariants.{DivideByZero, Unset}
+use Rattle.pv_place.specs.declared.trap.TrapKind.TheVariants.{DivideByZero, Unset}
 use Rattle.pv_tree.specs.declared.instr.Op.TheVariants as op
 use Rattle.pv_mean.proofs.StepWords.{of, set, clear, frame, unset, regs, number, does, goes, traps, ◌gives◌, AreSame}
 

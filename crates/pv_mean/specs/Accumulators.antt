@@ -7,8 +7,8 @@ use Rattle.pv_word.specs.declared.types.Ty.{Ty}
 use Rattle.pv_word.specs.declared.types.Ty.TheVariants.{Word as WordType, Dword, Int, Dint}
 use Rattle.pv_word.specs.Types.{wrap_of, pattern_of}
 use Rattle.pv_word.specs.Division.{quotient, remainder}
-use Rattle.pv_machine.specs.declared.place.Place.{Place}
-use Rattle.pv_machine.specs.declared.trap.TrapKind.TheVariants.{DivideByZero}
+use Rattle.pv_place.specs.declared.place.Place.{Place}
+use Rattle.pv_place.specs.declared.trap.TrapKind.TheVariants.{DivideByZero}
 use Rattle.pv_mean.specs.Endings.{Tried, got, trap, and_then}
 use Rattle.pv_mean.specs.Registers.{Codes, Registers, no_codes, had, resulting, with_logic, with_accu1, with_accu2, with_codes}
 

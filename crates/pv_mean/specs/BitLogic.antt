@@ -1,7 +1,7 @@
 -- Bit logic (the reference manual Statement List (STL) for S7-300/S7-400, "Bit Logic Instructions"): what each instruction does to
 -- the bits of the chain. The place is the instruction's, at which it traps.
 use Rattle.std.specs.Prelude.{[], ◌∷◌, Bool as Truth, true, false, ◌&&◌, ◌||◌, not, Some}
-use Rattle.pv_machine.specs.declared.place.Place.{Place}
+use Rattle.pv_place.specs.declared.place.Place.{Place}
 use Rattle.pv_mean.specs.Endings.{Tried, got, and_then}
 use Rattle.pv_mean.specs.Registers.{Logic, Joining, by_and, by_or, by_xor, Junction, Registers, no_logic, had, result_of, resulting, with_logic, with_nestings}
 

@@ -4,8 +4,8 @@
 use Rattle.std.specs.Prelude.{ℕ, zero, suc, ℤ, pos, List, [], ◌∷◌, ◌++◌, map, flat_map, filter, length, decimal, not, if◌then◌else◌, Option, Some, None, option_to_list}
 use Rattle.pv_word.specs.declared.types.Ty.{Ty}
 use Rattle.pv_word.specs.declared.types.Ty.TheVariants.{Bool, Byte, Dword}
-use Rattle.pv_machine.specs.declared.role.Role.{Role}
-use Rattle.pv_machine.specs.declared.role.Role.TheVariants.{Input as InputRole, Param, Kept, Brief}
+use Rattle.pv_place.specs.declared.role.Role.{Role}
+use Rattle.pv_place.specs.declared.role.Role.TheVariants.{Input as InputRole, Param, Kept, Brief}
 use Rattle.pv_types.specs.declared.declaration.Section.{Section}
 use Rattle.pv_types.specs.declared.declaration.Section.TheVariants.{Input, Output, InOut, Static, Temp, Const}
 use Rattle.pv_types.specs.declared.leaf.Leaf.{Leaf}

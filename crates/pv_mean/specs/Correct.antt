@@ -1,6 +1,6 @@
 -- What the laws say of cells, spots and loops.
 use Rattle.std.specs.Prelude.{◌≡◌, ◌≢◌, ◌⊎◌, ◌<◌, ◌≤◌, ℕ, zero, suc, ◌+◌, ℤ, ◌+ℤ◌, Bool, true, false, ⊤}
-use Rattle.pv_machine.specs.Ranges.{range_of, IsWithin}
+use Rattle.pv_place.specs.Ranges.{range_of, IsWithin}
 use Rattle.pv_tree.specs.Tree.{OperandTree}
 use Rattle.pv_tree.specs.Callees.{CallSite}
 use Rattle.pv_mean.specs.declared.cell.Cell.{Cell}

@@ -1,6 +1,6 @@
 -- What the laws say of instructions.
 use Rattle.std.specs.Prelude.{◌≡◌, List, [], ◌∷◌, Bool as Truth, true, false, Option, None, ⊤}
-use Rattle.pv_machine.specs.declared.place.Place.{Place}
+use Rattle.pv_place.specs.declared.place.Place.{Place}
 use Rattle.pv_types.specs.declared.declaration.Literal.{Literal}
 use Rattle.pv_tree.specs.declared.instr.Op.{Op}
 use Rattle.pv_tree.specs.declared.instr.Op.TheVariants.{EqI, NeI, GtI, LtI, GeI, LeI, EqD, NeD, GtD, LtD, GeD, LeD}

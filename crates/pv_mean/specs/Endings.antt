@@ -1,8 +1,8 @@
 -- How parts of a scan end. What gives something gives it or traps: a kind and a place. What runs ends, traps, or goes over the
 -- bound of a loop at a place. The first trap decides: what would come behind it doesn't.
 use Rattle.std.specs.Prelude.{ℤ}
-use Rattle.pv_machine.specs.declared.place.Place.{Place}
-use Rattle.pv_machine.specs.declared.trap.TrapKind.{TrapKind}
+use Rattle.pv_place.specs.declared.place.Place.{Place}
+use Rattle.pv_place.specs.declared.trap.TrapKind.{TrapKind}
 use Rattle.pv_mean.specs.Frames.{Frame}
 
 pub data Tried (A : Type 0) : Type 0 where

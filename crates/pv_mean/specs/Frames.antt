@@ -5,10 +5,10 @@ use Rattle.std.specs.Prelude.{List, [], ◌∷◌, map, filter, length, ℕ, zer
 use Rattle.pv_word.specs.declared.types.Ty.{Ty}
 use Rattle.pv_word.specs.declared.types.Ty.TheVariants.{Dint}
 use Rattle.pv_word.specs.Types.{wrap_of}
-use Rattle.pv_machine.specs.declared.role.Role.{Role}
-use Rattle.pv_machine.specs.declared.role.Role.TheVariants.{Input as InputRole, Param, Kept, Brief}
-use Rattle.pv_machine.specs.Roles.{is_input, is_stored}
-use Rattle.pv_machine.specs.Ranges.{Range, range_of, range_at}
+use Rattle.pv_place.specs.declared.role.Role.{Role}
+use Rattle.pv_place.specs.declared.role.Role.TheVariants.{Input as InputRole, Param, Kept, Brief}
+use Rattle.pv_place.specs.Roles.{is_input, is_stored}
+use Rattle.pv_place.specs.Ranges.{Range, range_of, range_at}
 use Rattle.pv_mean.specs.declared.cell.Cell.{Cell}
 use Rattle.pv_mean.specs.Sources.{Source}
 

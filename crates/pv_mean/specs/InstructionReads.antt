@@ -1,6 +1,6 @@
 -- What each instruction reads that may have no value, in the order in which it does; and when it has one.
 use Rattle.std.specs.Prelude.{◌≡◌, ◌≢◌, List, [], ◌∷◌, true, Some, None, IsSome, ⊤}
-use Rattle.pv_machine.specs.declared.trap.TrapKind.TheVariants.{Unset}
+use Rattle.pv_place.specs.declared.trap.TrapKind.TheVariants.{Unset}
 use Rattle.pv_tree.specs.declared.instr.Op.{Op}
 use Rattle.pv_tree.specs.declared.instr.Op.TheVariants as op
 use Rattle.pv_tree.specs.Tree.{InstrTree}

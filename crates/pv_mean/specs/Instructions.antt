@@ -6,7 +6,7 @@ use Rattle.std.specs.Ordering.{int_eq}
 use Rattle.pv_word.specs.declared.types.Ty.{Ty}
 use Rattle.pv_word.specs.declared.types.Ty.TheVariants.{Dint}
 use Rattle.pv_word.specs.Types.{wrap_of, pattern_of, and_of, or_of, xor_of, shl_of, shr_of}
-use Rattle.pv_machine.specs.declared.place.Place.{Place}
+use Rattle.pv_place.specs.declared.place.Place.{Place}
 use Rattle.pv_tree.specs.declared.instr.Op.{Op}
 use Rattle.pv_tree.specs.declared.instr.Op.TheVariants as op
 use Rattle.pv_tree.specs.Tree.{OperandTree, CallPlain, InstrTree}

@@ -1,6 +1,6 @@
 -- A call as STL makes it: whatever traps in an argument traps at the call's word, so all parts of its arguments have that place.
 use Rattle.std.specs.Prelude.{map}
-use Rattle.pv_machine.specs.declared.place.Place.{Place}
+use Rattle.pv_place.specs.declared.place.Place.{Place}
 use Rattle.pv_tree.specs.Tree.{ExprTree, lit, read, unary, binary, std, paren, ExprTrees, no_exprs, exprs, OperandTree, operand, StepTree, field, index, StepTrees, no_steps, steps, ArgTree, CallPlain}
 
 abbrev mutual

@@ -2,8 +2,8 @@
 -- After the reference manual Statement List (STL) for S7-300/S7-400; which bits an instruction reads and leaves is this project's
 -- own, and so is that they have no value before one is made.
 use Rattle.std.specs.Prelude.{List, [], ℤ, Bool as Truth, false, ◌||◌, Option, Some, None}
-use Rattle.pv_machine.specs.declared.place.Place.{Place}
-use Rattle.pv_machine.specs.declared.trap.TrapKind.TheVariants.{Unset}
+use Rattle.pv_place.specs.declared.place.Place.{Place}
+use Rattle.pv_place.specs.declared.trap.TrapKind.TheVariants.{Unset}
 use Rattle.pv_mean.specs.Frames.{Frame}
 use Rattle.pv_mean.specs.Endings.{Tried, got, trap, and_then}
 

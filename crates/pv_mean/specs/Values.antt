@@ -8,8 +8,8 @@ use Rattle.pv_word.specs.declared.types.Ty.{Ty}
 use Rattle.pv_word.specs.declared.types.Ty.TheVariants.{Dint}
 use Rattle.pv_word.specs.Types.{wrap_of, and_of, or_of, xor_of, not_of, shl_of, shr_of}
 use Rattle.pv_word.specs.Division.{quotient, remainder}
-use Rattle.pv_machine.specs.declared.place.Place.{Place}
-use Rattle.pv_machine.specs.declared.trap.TrapKind.TheVariants.{DivideByZero, Index}
+use Rattle.pv_place.specs.declared.place.Place.{Place}
+use Rattle.pv_place.specs.declared.trap.TrapKind.TheVariants.{DivideByZero, Index}
 use Rattle.pv_tree.specs.declared.expr.UnaryOp.{UnaryOp}
 use Rattle.pv_tree.specs.declared.expr.UnaryOp.TheVariants.{Plus, Minus, Not}
 use Rattle.pv_tree.specs.declared.expr.BinaryOp.{BinaryOp}

@@ -1,7 +1,7 @@
 //! Cells: places for values.
 
 use pv_edge::Text;
-use pv_machine::Role;
+use pv_place::Role;
 use pv_word::Ty;
 
 /// A place for one value.

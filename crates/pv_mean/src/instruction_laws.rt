@@ -3,8 +3,8 @@ ghost use Rattle.std.specs.Prelude.{◌≡◌, ◌≢◌, ◌++◌, ℕ, ℤ, po
 ghost use Rattle.pv_word.specs.declared.types.Ty.{Ty};
 ghost use Rattle.pv_word.specs.declared.types.Ty.TheVariants.{Int};
 ghost use Rattle.pv_word.specs.Types.{width_of, InRange, wrap_of, pattern_of};
-ghost use Rattle.pv_machine.specs.declared.place.Place.{Place};
-ghost use Rattle.pv_machine.specs.declared.trap.TrapKind.TheVariants.{Unset};
+ghost use Rattle.pv_place.specs.declared.place.Place.{Place};
+ghost use Rattle.pv_place.specs.declared.trap.TrapKind.TheVariants.{Unset};
 ghost use Rattle.pv_tree.specs.declared.instr.Op.{Op};
 ghost use Rattle.pv_tree.specs.declared.instr.Op.TheVariants.{Set, Assign, Close, L, T, AddI};
 ghost use Rattle.pv_tree.specs.Tree.{OperandTree, InstrTree};

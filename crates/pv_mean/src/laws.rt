@@ -2,7 +2,7 @@
 ghost use Rattle.std.specs.Prelude.{◌≡◌, ◌+◌, ◌++◌, ◌≤◌, ℕ, List, length, map, flat_map, Some, Contains};
 ghost use Rattle.std.specs.List.{AllByRecursion};
 ghost use Rattle.pv_word.specs.Types.{InRange};
-ghost use Rattle.pv_machine.specs.Ranges.{AreWithin};
+ghost use Rattle.pv_place.specs.Ranges.{AreWithin};
 ghost use Rattle.pv_tree.specs.Tree.{BlockTree};
 ghost use Rattle.pv_tree.specs.Scopes.{ProjectTree};
 ghost use Rattle.pv_tree.specs.Rules.{KeepsRules};

@@ -3,7 +3,7 @@ ghost use Rattle.std.specs.Prelude.{◌≡◌, ◌<◌, length, All};
 ghost use Rattle.pv_mean.specs.Cells.{changed_at, as_param, as_bound, with_view};
 
 use crate::cell::Cell;
-use pv_machine::Role;
+use pv_place::Role;
 
 /// What a case says of a project: the number of the block that is entered, the numbers of the cells
 /// that are parameters, those that are bound with their values, and the most turns of a loop.

@@ -1,7 +1,7 @@
 -- Fields by name: among all variables of a list, and among those that an instance has.
 use Rattle.std.proofs.Common.{◌≡◌, ℕ, refl, sym, ap, ◌∙◌, List, [], ◌∷◌, Option, Some, None, Bool, true, false, cond, filter, true≢false, ◌&&◌, is_some}
 use Rattle.std.specs.Prelude.{find, unwrap_or}
-use Rattle.pv_machine.specs.declared.place.Place.{Place}
+use Rattle.pv_place.specs.declared.place.Place.{Place}
 use Rattle.pv_types.specs.Tree.{TypeTree, structure, VarTree}
 use Rattle.pv_types.specs.declared.declaration.Var.{Var}
 use Rattle.pv_types.specs.View.{var_tree, type_tree, listed, name_of, section_of, declared_type_of}

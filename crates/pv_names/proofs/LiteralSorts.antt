@@ -1,7 +1,7 @@
 -- A literal is told by its sort.
 use Rattle.std.proofs.Common.{◌≡◌, refl, sym, ap, ◌∙◌, [], ◌∷◌, Option, Some, None, Bool, true, false, if◌then◌else◌, is_some}
 use Rattle.std.specs.Prelude.{option_and_then}
-use Rattle.pv_machine.specs.declared.place.Place.{Place}
+use Rattle.pv_place.specs.declared.place.Place.{Place}
 use Rattle.pv_tree.specs.LiteralTypes.{nothing}
 use Rattle.pv_tree.specs.declared.expr.UnaryOp.{UnaryOp}
 use Rattle.pv_word.specs.declared.types.Ty.{Ty}

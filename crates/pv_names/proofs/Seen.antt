@@ -1,6 +1,6 @@
 -- Expressions of the code as plain data, form by form.
 use Rattle.std.proofs.Common.{◌≡◌, ap, sym, ◌∙◌, List, map}
-use Rattle.pv_machine.specs.declared.place.Place.{Place}
+use Rattle.pv_place.specs.declared.place.Place.{Place}
 use Rattle.pv_tree.specs.declared.expr.Expr.{Expr, fold-roll-Expr}
 use Rattle.pv_tree.specs.declared.expr.Expr.TheViews as form
 use Rattle.pv_tree.specs.declared.expr.Expr.TheVariants.{rolls-Unary, rolls-Binary, rolls-Std}

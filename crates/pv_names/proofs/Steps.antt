@@ -1,7 +1,7 @@
 -- The way along an operand's steps: what is left leads to where the whole does.
 use Rattle.std.proofs.Common.{◌≡◌, ℕ, ◌<◌, ◌+◌, suc, refl, sym, ap, ◌∙◌, List, [], ◌∷◌, Bool, true, false, ◌&&◌, if◌then◌else◌, map, drop, get_or, length, arith}
 use Rattle.std.proofs.Math.Seq.{drop-cons}
-use Rattle.pv_machine.specs.declared.place.Place.{Place}
+use Rattle.pv_place.specs.declared.place.Place.{Place}
 use Rattle.pv_tree.specs.Tree.{OperandTree, operand, StepTree, StepTrees, no_steps, steps}
 use Rattle.pv_tree.specs.View.{steps_of, step_tree, exprs_of, expr_tree}
 use Rattle.pv_tree.specs.declared.expr.Step.{Step}

@@ -16,7 +16,7 @@ ghost use Rattle.pv_names.specs.Callees.{how_tree, called_tree, callee_tree};
 
 use crate::entry::Entry;
 use crate::scope::{Scope, is_stl, own_value};
-use pv_machine::Place;
+use pv_place::Place;
 use pv_tree::{Block, BlockKind, CallTree, Op};
 use pv_types::{DeclType, Name, Section, Var};
 

@@ -10,7 +10,7 @@ ghost use Rattle.pv_names.specs.Written.{written_tree};
 use crate::operator::is_bool;
 use crate::sort::{Number, Want, holds, number_turned, type_of_number};
 use crate::typing::first_place;
-use pv_machine::Place;
+use pv_place::Place;
 use pv_tree::{Expr, UnaryOp};
 use pv_word::Ty;
 

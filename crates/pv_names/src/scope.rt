@@ -14,7 +14,7 @@ use crate::tables::Tables;
 use crate::thing::{
     Held, Thing, dated, is_address, is_of_instance, level_of, thing_of_var, type_of_bits,
 };
-use pv_machine::Place;
+use pv_place::Place;
 use pv_tree::{Block, BlockKind, Body, Root};
 use pv_types::{Name, Var};
 use pv_word::Ty;

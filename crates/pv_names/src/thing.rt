@@ -6,7 +6,7 @@ ghost use Rattle.pv_tree.specs.Things as things;
 ghost use Rattle.pv_names.specs.Views.{held_tree, thing_tree};
 
 use crate::entry::Entry;
-use pv_machine::Place;
+use pv_place::Place;
 use pv_types::{DeclType, Name, Section, Var};
 use pv_word::Ty;
 

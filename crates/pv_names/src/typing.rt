@@ -22,7 +22,7 @@ use crate::sort::{
     sort_of_written, taken,
 };
 use crate::thing::{Held, Thing, dated};
-use pv_machine::Place;
+use pv_place::Place;
 use pv_tree::{BinaryOp, Block, BlockKind, Expr, Operand, Root, Step, UnaryOp};
 use pv_word::Ty;
 use std::alloc::{AllocError, Global};

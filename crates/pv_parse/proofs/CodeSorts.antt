@@ -3,7 +3,7 @@
 -- What goes on behind a name that was read says what it makes of whatever tokens spelled that name: the path that lies on the stack is
 -- the front of an operand, or the called name of a call, or both, and which of them is decided behind it.
 use Rattle.std.proofs.Common.{◌≡◌, ℕ, Bool, true, false, List, [], ◌∷◌, ◌++◌, All, Option, Some, None}
-use Rattle.pv_machine.specs.declared.place.Place.{Place}
+use Rattle.pv_place.specs.declared.place.Place.{Place}
 use Rattle.pv_types.specs.declared.name.Name.{Name}
 use Rattle.pv_types.specs.declared.declaration.Literal.{Literal}
 use Rattle.pv_lex.specs.declared.token.Kind.TheVariants as k

@@ -2,7 +2,7 @@
 use Rattle.std.proofs.Common.{◌≡◌, ℕ, List, [], ◌∷◌, ◌++◌, All, Option, Some, None}
 use Rattle.std.specs.Prelude.{ℤ}
 use Rattle.pv_word.specs.declared.types.Ty.{Ty}
-use Rattle.pv_machine.specs.declared.place.Place.{Place}
+use Rattle.pv_place.specs.declared.place.Place.{Place}
 use Rattle.pv_types.specs.declared.name.Name.{Name}
 use Rattle.pv_types.specs.declared.declaration.Literal.{Literal}
 use Rattle.pv_types.specs.declared.declaration.Section.{Section}

@@ -4,7 +4,7 @@ use Rattle.std.specs.Prelude.{ℤ}
 use Rattle.std.proofs.lemmas.List.{append-nil, append_assoc}
 use Rattle.pv_word.specs.declared.types.Ty.{Ty}
 use Rattle.pv_lex.specs.declared.token.Kind.TheVariants as k
-use Rattle.pv_machine.specs.declared.place.Place.{Place}
+use Rattle.pv_place.specs.declared.place.Place.{Place}
 use Rattle.pv_types.specs.declared.name.Name.{Name as NameOf}
 use Rattle.pv_ll.specs.declared.table.Symbol.TheVariants.{Token, Name}
 use Rattle.pv_ll.specs.Grammar.{Grammar}

@@ -2,7 +2,7 @@
 use Prim.Native.String.{String}
 use Rattle.std.proofs.Common.{◌≡◌, ℕ, true, false, List, [], ◌∷◌, ◌++◌, Option, Some, None, refl, ap, ◌∙◌, sym, subst, arith}
 use Rattle.std.proofs.lemmas.List.{append-nil}
-use Rattle.pv_machine.specs.declared.place.Place.{Place}
+use Rattle.pv_place.specs.declared.place.Place.{Place}
 use Rattle.pv_ll.specs.declared.table.Symbol.{Symbol}
 use Rattle.pv_ll.specs.declared.table.Symbol.TheVariants.{Token, Name}
 use Rattle.pv_ll.specs.Grammar.{Grammar, IsProduction}

@@ -3,7 +3,7 @@
 -- A word or sign of an instruction lies on the stack until what stands behind it was read. What goes on behind it says what it makes
 -- of whatever token that was, where the token says an instruction of the shape that stands there.
 use Rattle.std.proofs.Common.{◌≡◌, ◌⊎◌, Bool, true, false, List, [], ◌∷◌, ◌++◌, All, codes, Option, None}
-use Rattle.pv_machine.specs.declared.place.Place.{Place}
+use Rattle.pv_place.specs.declared.place.Place.{Place}
 use Rattle.pv_types.specs.declared.name.Name.{Name}
 use Rattle.pv_types.specs.declared.declaration.Literal.{Literal}
 use Rattle.pv_tree.specs.declared.expr.Root.TheVariants.{Local}

@@ -1,6 +1,6 @@
 -- What the alternatives of calls make of what lies on the stack.
 use Rattle.std.specs.Prelude.{Bool, true, false, List, [], ◌∷◌, ◌++◌, Option, Some, None, option_and_then}
-use Rattle.pv_machine.specs.declared.place.Place.{Place}
+use Rattle.pv_place.specs.declared.place.Place.{Place}
 use Rattle.pv_tree.specs.declared.expr.Root.{Root}
 use Rattle.pv_tree.specs.declared.expr.Root.TheVariants.{Local, Named, Area}
 use Rattle.pv_tree.specs.Tree.{PlacedName, ExprTree, StepTree, field, ArgTree, CallPlain}

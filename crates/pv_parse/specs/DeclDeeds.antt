@@ -1,7 +1,7 @@
 -- What the alternatives of names, literals and declarations make of what lies on the stack.
 use Rattle.std.specs.Prelude.{neg_ℤ, List, [], ◌∷◌, ◌++◌, map, Option, Some, None, option_and_then}
 use Rattle.pv_word.specs.declared.types.Ty.TheVariants as ty
-use Rattle.pv_machine.specs.declared.place.Place.{Place}
+use Rattle.pv_place.specs.declared.place.Place.{Place}
 use Rattle.pv_types.specs.declared.declaration.Literal.{Literal}
 use Rattle.pv_types.specs.declared.declaration.Section.{Section}
 use Rattle.pv_types.specs.declared.declaration.Section.TheVariants as section

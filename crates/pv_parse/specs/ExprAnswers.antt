@@ -11,7 +11,7 @@ use Rattle.pv_tree.specs.Lexemes.{Lexeme}
 use Rattle.pv_tree.specs.Nesting.{parts}
 use Rattle.pv_tree.specs.Depth.{IsShallow, IsDeepest}
 use Rattle.pv_tree.specs.Reading.{ReadAsExpression, IsSyntaxFault}
-use Rattle.pv_machine.specs.declared.place.Place.{Place}
+use Rattle.pv_place.specs.declared.place.Place.{Place}
 use Rattle.pv_parse.specs.declared.action.Action.{Action}
 use Rattle.pv_parse.specs.declared.fault.ReadFault.{ReadFault}
 use Rattle.pv_parse.specs.declared.fault.ReadFault.TheVariants.{Syntax, Deep}

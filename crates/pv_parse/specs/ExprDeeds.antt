@@ -1,7 +1,7 @@
 -- What the alternatives of expressions and operands make of what lies on the stack.
 use Rattle.std.specs.Prelude.{true, false, [], ◌∷◌, ◌++◌, Option, Some, option_and_then}
 use Rattle.pv_word.specs.declared.types.Ty.TheVariants as ty
-use Rattle.pv_machine.specs.declared.place.Place.{Place}
+use Rattle.pv_place.specs.declared.place.Place.{Place}
 use Rattle.pv_tree.specs.declared.expr.Root.{Root}
 use Rattle.pv_tree.specs.declared.expr.Root.TheVariants.{Local, Named}
 use Rattle.pv_tree.specs.declared.expr.UnaryOp.{UnaryOp}

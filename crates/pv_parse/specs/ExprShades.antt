@@ -1,6 +1,6 @@
 -- What is known of expressions and operands while a tree isn't built yet, and what their alternatives do with it.
 use Rattle.std.specs.Prelude.{[], ◌∷◌, List}
-use Rattle.pv_machine.specs.declared.place.Place.{Place}
+use Rattle.pv_place.specs.declared.place.Place.{Place}
 use Rattle.pv_tree.specs.Tree.{ExprTree, lit, read, unary, binary, std, paren, ExprTrees, no_exprs, exprs, OperandTree, operand, StepTree, field, index, StepTrees, no_steps, steps}
 use Rattle.pv_tree.specs.Nesting.{first_of, first_of_operand}
 use Rattle.pv_parse.specs.declared.action.ExprAction.{ExprAction}

@@ -1,7 +1,7 @@
 -- What is known of instructions while a tree isn't built yet, and what their alternatives do with it: an instruction is no part, and
 -- nothing is around what stands in it.
 use Rattle.std.specs.Prelude.{[], ◌∷◌, List, Option, Some, None}
-use Rattle.pv_machine.specs.declared.place.Place.{Place}
+use Rattle.pv_place.specs.declared.place.Place.{Place}
 use Rattle.pv_tree.specs.Tree.{OperandTree, CallPlain, InstrTree}
 use Rattle.pv_parse.specs.declared.shade.Shading.{Shading}
 use Rattle.pv_parse.specs.declared.shade.Shading.TheVariants.{Join, Group}

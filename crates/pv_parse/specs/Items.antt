@@ -1,7 +1,7 @@
 -- What lies on the stack while a tree is built, as plain data, and what is on top.
 use Rattle.std.specs.Prelude.{◌≡◌, List, [], ◌∷◌, map, reverse, Option, Some, None, option_and_then, Result, Ok, Err, Vec}
 use Rattle.std.specs.declared.alloc.Global.{Global}
-use Rattle.pv_machine.specs.declared.place.Place.{Place}
+use Rattle.pv_place.specs.declared.place.Place.{Place}
 use Rattle.pv_types.specs.declared.name.Name.{Name}
 use Rattle.pv_types.specs.declared.declaration.Literal.{Literal}
 use Rattle.pv_types.specs.declared.declaration.Section.{Section}

@@ -1,6 +1,6 @@
 //! Parts of declarations and blocks, as they lie on the stack.
 
-use pv_machine::Place;
+use pv_place::Place;
 use pv_tree::{Block, Body, Operand};
 use pv_types::{DeclType, Literal, Name, Section, Var};
 use pv_word::Ty;

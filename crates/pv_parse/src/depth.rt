@@ -21,7 +21,7 @@ use crate::stack::Stop;
 use crate::{decl_shades, expr_shades, instr_shades, stmt_shades};
 use pv_lex::Token;
 use pv_ll::{Language, Step, Symbol, Walk};
-use pv_machine::Place;
+use pv_place::Place;
 use std::alloc::Global;
 
 /// How many parts are above one that is too deep.

@@ -12,7 +12,7 @@ use crate::item::{Item, Sliced};
 use crate::numbers::{area_of, number_type};
 use crate::stack::{Stop, pop_expr, pop_path, pop_token, push, word_in};
 use crate::texts::{compare_of, function_of, times_of, truth_of};
-use pv_machine::Place;
+use pv_place::Place;
 use pv_tree::{BinaryOp, Expr, Operand, Root, Step, UnaryOp};
 use pv_types::Name;
 use pv_word::Ty;

@@ -2,7 +2,7 @@
 ghost use Rattle.std.specs.Prelude.{◌≡◌};
 ghost use Rattle.pv_parse.specs.declared.fault.ParseFault.TheVariants.{NoMemory};
 
-use pv_machine::Place;
+use pv_place::Place;
 use std::alloc::AllocError;
 use thiserror::Error;
 

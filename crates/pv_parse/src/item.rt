@@ -4,7 +4,7 @@
 use crate::code_item::CodeItem;
 use crate::decl_item::DeclItem;
 use pv_lex::Kind;
-use pv_machine::Place;
+use pv_place::Place;
 use pv_tree::{Expr, Operand};
 use pv_types::Literal;
 

@@ -8,7 +8,7 @@ ghost use Rattle.pv_parse.specs.Items.{Leaves, Pops};
 ghost use Rattle.pv_parse.specs.Shades.{merged, over, group_of, part_of, empty, shade_on, gathered, left_below, sink, shade_in, shades_of};
 
 use crate::stack::Stop;
-use pv_machine::Place;
+use pv_place::Place;
 use std::alloc::{AllocError, Global};
 
 /// How many places by depth matter: the last of them is that of a part that is too deep.

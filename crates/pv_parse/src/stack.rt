@@ -4,7 +4,7 @@ ghost use Rattle.pv_tree.specs.View.{expr_tree};
 ghost use Rattle.pv_parse.specs.Items.{stack_of, item_of, lexeme_of_slice, path_tree, top_on, token_in, token_on, path_in, path_on, expr_in, expr_on, word_of, Pops, Finds};
 
 use crate::item::{Item, Sliced};
-use pv_machine::Place;
+use pv_place::Place;
 use pv_tree::{Expr, Operand, Root};
 use pv_types::Name;
 use std::alloc::{AllocError, AllocFailed};

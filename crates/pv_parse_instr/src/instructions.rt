@@ -10,7 +10,7 @@ use crate::literals::{negative, number, truth};
 use crate::op_texts::{op_of, opening_of};
 use crate::parts::{Front, pop_call, pop_front, pop_instrs, pop_words, put_instrs};
 use pv_lex::Kind;
-use pv_machine::Place;
+use pv_place::Place;
 use pv_parse::{CallAction, DeclItem, InstrAction, Item, Sliced, Stop, pop_path, pop_token, push};
 use pv_parse_stmt::{act_on_call, pop_literal};
 use pv_tree::{CallTree, Instr, Op, Operand, Root, Step};

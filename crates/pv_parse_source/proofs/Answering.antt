@@ -17,7 +17,7 @@ use Rattle.pv_parse.specs.Deeds.{making, kinded, expression_actions}
 use Rattle.pv_parse.specs.ExprAnswers.{ReadsExpressions, IsOnlyReading, IsDeepReading}
 use Rattle.std.specs.List.{slice_get}
 use Rattle.std.specs.Prelude.{None}
-use Rattle.pv_machine.specs.declared.place.Place.{Place}
+use Rattle.pv_place.specs.declared.place.Place.{Place}
 use Rattle.pv_tree.specs.Nesting.{parts, most_levels}
 use Rattle.pv_tree.proofs.ForCallers.{along-expr}
 use Rattle.pv_parse.specs.InOrder.{LieInOrder}

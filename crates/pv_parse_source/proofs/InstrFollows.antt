@@ -1,7 +1,7 @@
 -- What actions of instructions make of the shades on the stack is the shades of what they make of the things on it.
 use Rattle.std.proofs.Common.{◌≡◌, List, [], ◌∷◌, ◌++◌, map, Some, None, refl, ap, ◌∙◌, sym}
 use Rattle.std.proofs.lemmas.Option.{same_Some, option_and_then_some}
-use Rattle.pv_machine.specs.declared.place.Place.{Place}
+use Rattle.pv_place.specs.declared.place.Place.{Place}
 use Rattle.pv_tree.specs.Tree.{PlacedName, field, InstrTree, BodyTree}
 use Rattle.pv_parse.specs.declared.action.InstrAction.{InstrAction}
 use Rattle.pv_parse.specs.declared.action.InstrAction.TheVariants as a

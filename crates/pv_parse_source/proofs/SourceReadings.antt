@@ -3,7 +3,7 @@
 use Rattle.std.proofs.Common.{◌≡◌, ℕ, zero, suc, ◌+◌, ◌<◌, ◌≤◌, false, List, [], ◌∷◌, ◌++◌, All, take, Some, None, Option, Result, Ok, Err, ap, ◌∙◌, sym, subst}
 use Rattle.std.specs.List.{slice_get}
 use Rattle.std.proofs.lemmas.List.Elements.{All-head, All-tail}
-use Rattle.pv_machine.specs.declared.place.Place.{Place}
+use Rattle.pv_place.specs.declared.place.Place.{Place}
 use Rattle.pv_ll.specs.declared.table.Symbol.TheVariants.{Name}
 use Rattle.pv_ll.specs.declared.table.Language.{Language}
 use Rattle.pv_ll.specs.Grammar.{Leftmost, IsSentence, IsFault, IsExact}

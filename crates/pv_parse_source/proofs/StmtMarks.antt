@@ -1,6 +1,6 @@
 -- The places by depth of statements are those of their parts.
 use Rattle.std.proofs.Common.{ℕ, suc, List, [], ◌∷◌, ◌++◌}
-use Rattle.pv_machine.specs.declared.place.Place.{Place}
+use Rattle.pv_place.specs.declared.place.Place.{Place}
 use Rattle.pv_tree.specs.Tree.{ArgTree, CallPlain, StmtTree, assign, assign_call, if_, case_, for_, while_, repeat_, exit_, continue_, return_, call_, empty_, StmtTrees, no_stmts, stmts, ArmTrees, no_arms, arms, BranchTrees, no_branches, branches, ElseTree, no_else, else_}
 use Rattle.pv_tree.specs.Nesting.{Part, part, first_of_stmt, parts, parts_of_operand, parts_of_args, parts_within, parts_of_stmts, parts_of_arms, parts_of_branches, parts_of_else}
 use Rattle.pv_parse.specs.Shades.{all, merged, part_places}

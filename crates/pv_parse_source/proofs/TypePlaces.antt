@@ -1,7 +1,7 @@
 -- The places by depth of the parts of declared types, and that they are those of the parts. The tree doesn't keep where a type begins, so
 -- they come from the spelling, as the parts do.
 use Rattle.std.proofs.Common.{◌⊎◌, inl, inr, ℕ, suc, List, [], ◌∷◌, ◌++◌, Option}
-use Rattle.pv_machine.specs.declared.place.Place.{Place}
+use Rattle.pv_place.specs.declared.place.Place.{Place}
 use Rattle.pv_types.specs.declared.declaration.Literal.{Literal}
 use Rattle.pv_types.specs.declared.declaration.Section.{Section}
 use Rattle.pv_types.specs.declared.declaration.Section.TheVariants as section

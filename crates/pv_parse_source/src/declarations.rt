@@ -10,7 +10,7 @@ use crate::decl_texts::{section_of_word, type_alone, type_of_word};
 use crate::pops::{
     pop_around, pop_bounds, pop_fields, pop_name, pop_start, pop_typed, pop_word, pop_words, put,
 };
-use pv_machine::Place;
+use pv_place::Place;
 use pv_parse::{
     Bounds, DeclAction, DeclItem, Fields, Item, Stop, number_type, pop_path, pop_token, push,
     truth_of,

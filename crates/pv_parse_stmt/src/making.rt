@@ -4,7 +4,7 @@ ghost use Rattle.pv_tree.specs.Tree.{if_, case_};
 ghost use Rattle.pv_tree.specs.View.{expr_tree, stmt_tree, arms_of, branches_of, else_of};
 ghost use Rattle.pv_parse.specs.CodeItems.{arm_list, branch_list, else_list};
 
-use pv_machine::Place;
+use pv_place::Place;
 use pv_tree::{Choice, Expr, Stmt};
 
 /// An IF of its conditions, each with its statements, and of those behind ELSE.

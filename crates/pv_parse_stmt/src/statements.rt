@@ -14,7 +14,7 @@ use crate::code_stack::{
     pop_stmt, pop_stmts, pop_value, pop_whole, with,
 };
 use crate::making::{case_of, if_of};
-use pv_machine::Place;
+use pv_place::Place;
 use pv_parse::{
     CodeItem, Item, StmtAction, Stop, Value, is_text, pop_expr, pop_path, pop_token, push,
 };

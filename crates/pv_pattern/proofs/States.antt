@@ -6,7 +6,7 @@ use Rattle.std.proofs.lemmas.List.{length-map}
 use Rattle.std.proofs.lemmas.Bool.{true≢false}
 use Rattle.pv_word.specs.Types.{InRange}
 use Rattle.pv_word.specs.declared.types.Ty.TheVariants.{Bool as BoolTy}
-use Rattle.pv_machine.specs.Ranges.{Range, range_of, IsWithin, AreWithin}
+use Rattle.pv_place.specs.Ranges.{Range, range_of, IsWithin, AreWithin}
 use Rattle.pv_machine.specs.Machines.{Values, Step, done, trap, over, IsState, IsLawful}
 use Rattle.pv_mean.specs.Sources.{Source}
 use Rattle.pv_mean.specs.Frames.{Image, Input, image_len, stored_cells, range_of_cell, image_ranges}

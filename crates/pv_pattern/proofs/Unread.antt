@@ -8,7 +8,7 @@ use Rattle.std.proofs.lemmas.Grind.{flat_map-append}
 use Rattle.std.proofs.lemmas.List.Folds.{list_any-append}
 use Rattle.pv_word.specs.declared.types.Ty.TheVariants.{Byte}
 use Rattle.pv_word.specs.Types.{pattern_of, bit_of, wrap_of}
-use Rattle.pv_machine.specs.declared.place.Place.{Place}
+use Rattle.pv_place.specs.declared.place.Place.{Place}
 use Rattle.pv_tree.specs.Tree.{ExprTree, lit, read, unary, binary, std, paren, ExprTrees, no_exprs, exprs, OperandTree, operand, StepTree, field, index, StepTrees, no_steps, steps}
 use Rattle.pv_tree.specs.Things.{place_of_operand}
 use Rattle.pv_tree.specs.Types.{Written, signed, literal_of}

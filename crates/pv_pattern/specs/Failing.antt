@@ -2,8 +2,8 @@
 -- bound fails. Of a pattern that asks for a goal a scan that is done fails where the goal is reached, one that goes over fails,
 -- and one that traps ends the run without failing.
 use Rattle.std.specs.Prelude.{◌≡◌, ℕ, zero, suc, List, [], ◌∷◌, Bool, true, false, not, Option, Some, None}
-use Rattle.pv_machine.specs.declared.place.Place.{Place}
-use Rattle.pv_machine.specs.declared.trap.TrapKind.{TrapKind}
+use Rattle.pv_place.specs.declared.place.Place.{Place}
+use Rattle.pv_place.specs.declared.trap.TrapKind.{TrapKind}
 use Rattle.pv_mean.specs.Sources.{Source}
 use Rattle.pv_mean.specs.Endings.{ended, trapped, over as over_end}
 use Rattle.pv_mean.specs.Scans.{Visible, Scan, ScanEnd}

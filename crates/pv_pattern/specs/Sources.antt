@@ -4,7 +4,7 @@
 use Rattle.std.specs.Prelude.{ℤ, pos, List, [], ◌∷◌, ◌++◌, take, drop, Bool, true, false, Option, Some, None, is_some}
 use Rattle.std.specs.List.{AllByRecursion}
 use Rattle.pv_word.specs.declared.types.Ty.TheVariants.{Bool as BoolTy}
-use Rattle.pv_machine.specs.Ranges.{Range, range_of, AreWithin}
+use Rattle.pv_place.specs.Ranges.{Range, range_of, AreWithin}
 use Rattle.pv_machine.specs.Machines.{Machine, Step, done, trap, over}
 use Rattle.pv_mean.specs.Sources.{Source}
 use Rattle.pv_mean.specs.Frames.{Image, Input, Params, image_len, image_ranges, input_ranges, param_ranges}

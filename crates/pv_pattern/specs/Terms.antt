@@ -3,7 +3,7 @@ use Rattle.std.specs.Prelude.{◌≡◌, ℕ, ◌-◌, ◌==◌, ◌<◌, ◌≤
 use Rattle.std.specs.List.{list_any}
 use Rattle.pv_word.specs.declared.types.Ty.TheVariants.{Byte as A_byte}
 use Rattle.pv_word.specs.Types.{wrap_of, pattern_of, bit_of}
-use Rattle.pv_machine.specs.declared.place.Place.{Place}
+use Rattle.pv_place.specs.declared.place.Place.{Place}
 use Rattle.pv_tree.specs.Tree.{ExprTree}
 use Rattle.pv_mean.specs.Sources.{Source}
 use Rattle.pv_mean.specs.Frames.{Frame, visible_value}

@@ -3,7 +3,7 @@
 use Rattle.std.specs.Prelude.{◌≡◌, ◌⊎◌, ℕ, zero, suc, List, [], ◌∷◌, ◌++◌, map, filter, All, Contains, Bool as Truth, false, Option, Some, None, IsTrue}
 use Rattle.std.specs.List.{list_any}
 use Rattle.pv_word.specs.declared.types.Ty.TheVariants.{Bool}
-use Rattle.pv_machine.specs.declared.place.Place.{Place}
+use Rattle.pv_place.specs.declared.place.Place.{Place}
 use Rattle.pv_types.specs.Tree.{VarTree}
 use Rattle.pv_types.specs.View.{section_of}
 use Rattle.pv_lex.specs.declared.token.Token.{Token}

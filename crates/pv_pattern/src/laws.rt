@@ -2,7 +2,7 @@
 ghost use Rattle.std.specs.Prelude.{◌≡◌, ◌↔◌, ◌≢◌, ℕ, List, Bool, true, false, Option, None};
 ghost use Rattle.std.specs.List.{AllByRecursion};
 ghost use Rattle.pv_word.specs.Types.{InRange};
-ghost use Rattle.pv_machine.specs.Ranges.{AreWithin};
+ghost use Rattle.pv_place.specs.Ranges.{AreWithin};
 ghost use Rattle.pv_machine.specs.Machines.{IsLawful};
 ghost use Rattle.pv_machine.specs.Queries.{MeetsBase, MeetsStep, NoneFails as MachineNoneFails};
 ghost use Rattle.pv_mean.specs.Sources.{Source};

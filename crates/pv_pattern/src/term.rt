@@ -11,7 +11,7 @@ ghost use Rattle.pv_eval.specs.Operators.{two_result};
 ghost use Rattle.pv_pattern.specs.Terms.{frame_by, IsStored, number_in, no_place, term_value, is_true_term, term_reads, is_among};
 
 use pv_eval::{OneOp, ThreeOp, TwoOp, one, pattern, three, two};
-use pv_machine::Place;
+use pv_place::Place;
 use pv_word::Ty;
 
 /// A number that is made of visible cells.

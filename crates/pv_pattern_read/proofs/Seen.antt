@@ -1,6 +1,6 @@
 -- Expressions, operands and steps of the code as plain data, form by form.
 use Rattle.std.proofs.Common.{◌≡◌, map, sym, ap, ◌∙◌}
-use Rattle.pv_machine.specs.declared.place.Place.{Place}
+use Rattle.pv_place.specs.declared.place.Place.{Place}
 use Rattle.pv_types.specs.declared.name.Name.{Name}
 use Rattle.pv_tree.specs.declared.expr.Expr.{Expr, fold-roll-Expr}
 use Rattle.pv_tree.specs.declared.expr.Expr.TheViews as form

@@ -6,7 +6,7 @@ use Rattle.std.proofs.lemmas.Bool.{cases_lt, le-leb, lt-ltb, le-ltb, eq-eqb, ne_
 use Rattle.std.proofs.lemmas.Bool.Decides.{leb_tells}
 use Rattle.pv_word.specs.declared.types.Ty.{Ty}
 use Rattle.pv_word.specs.Types.{wrap_of}
-use Rattle.pv_machine.specs.declared.place.Place.{Place}
+use Rattle.pv_place.specs.declared.place.Place.{Place}
 use Rattle.pv_mean.specs.Endings.{Value, got}
 use Rattle.pv_mean.specs.Spots as m
 use Rattle.pv_mean.specs.Spots.{byte_in}

@@ -2,7 +2,7 @@
 use Rattle.std.specs.Prelude.{◌≡◌, ℕ, ◌==◌, ℤ, List, [], ◌∷◌, Bool, ◌||◌, Option, Some, None}
 use Rattle.std.specs.List.{list_any}
 use Rattle.pv_word.specs.declared.types.Ty.{Ty}
-use Rattle.pv_machine.specs.declared.place.Place.{Place}
+use Rattle.pv_place.specs.declared.place.Place.{Place}
 use Rattle.pv_tree.specs.declared.expr.BinaryOp.{BinaryOp}
 use Rattle.pv_tree.specs.declared.expr.BinaryOp.TheVariants as tree
 use Rattle.pv_tree.specs.Tree.{ExprTrees, no_exprs, exprs}

@@ -1,6 +1,6 @@
 //! Terms of terms: operators and standard functions.
 ghost use Rattle.std.specs.Prelude.{◌≡◌, ◌∷◌, [], IfOk, IfSome, None};
-ghost use Rattle.pv_machine.specs.declared.place.Place.{Place as PlaceOf};
+ghost use Rattle.pv_place.specs.declared.place.Place.{Place as PlaceOf};
 ghost use Rattle.pv_tree.specs.Tree.{ExprTree, ExprTrees, unary, binary, std};
 ghost use Rattle.pv_tree.specs.Types.{literal_of};
 ghost use Rattle.pv_mean.specs.Sources.{Source};

@@ -1,6 +1,6 @@
 -- Statements of the code as plain data, form by form.
 use Rattle.std.proofs.Common.{◌≡◌, sym, ap, ◌∙◌}
-use Rattle.pv_machine.specs.declared.place.Place.{Place}
+use Rattle.pv_place.specs.declared.place.Place.{Place}
 use Rattle.pv_tree.specs.declared.stmt.Stmt.{fold-roll-Stmt}
 use Rattle.pv_tree.specs.declared.stmt.Stmt.TheViews as form
 use Rattle.pv_tree.specs.declared.stmt.Stmt.TheVariants as leaf

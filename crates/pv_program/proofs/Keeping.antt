@@ -1,7 +1,7 @@
 -- What was made means the same in a program that has more.
 use Rattle.std.proofs.Common.{◌≡◌, ℕ, ◌≤◌, List, Option, Some, None, refl, sym, subst, arith}
 use Rattle.std.specs.Prelude.{slice_get}
-use Rattle.pv_machine.specs.declared.place.Place.{Place}
+use Rattle.pv_place.specs.declared.place.Place.{Place}
 use Rattle.pv_types.specs.declared.name.Name.{Name}
 use Rattle.pv_types.specs.declared.declaration.Literal.{Literal}
 use Rattle.pv_tree.specs.Tree.{ExprTree, OperandTree, Choices, StmtTree, StmtTrees, ArmTrees, BranchTrees, ElseTree, CallPlain, InstrTree, BodyTree, scl, stl, starts, BlockTree}

@@ -3,7 +3,7 @@ use Rattle.std.proofs.Common.{◌≡◌, ℕ, ◌≤◌, List, [], ◌∷◌, le
 use Rattle.std.proofs.lemmas.List.{take_all}
 use Rattle.pv_types.specs.declared.name.Name.{Name}
 use Rattle.pv_tree.specs.declared.stmt.CallTree.{CallTree}
-use Rattle.pv_machine.specs.declared.place.Place.{Place}
+use Rattle.pv_place.specs.declared.place.Place.{Place}
 use Rattle.pv_tree.specs.declared.expr.Expr.{Expr}
 use Rattle.pv_tree.specs.declared.expr.Step.{Step}
 use Rattle.pv_tree.specs.declared.stmt.Arg.{Arg}

@@ -29,7 +29,7 @@ use crate::instance::instance_of;
 use crate::placed::call_placed;
 use crate::slot::slot_of;
 use crate::value::{add_target, add_value};
-use pv_machine::Place;
+use pv_place::Place;
 use pv_names::{Callee, Entry, How, Param, Scope, param_for};
 use pv_resolve::{Context, ResolveFault};
 use pv_run::{Called, First, Inward, Outward, Program, Slot, Span};

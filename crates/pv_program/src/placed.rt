@@ -6,7 +6,7 @@ ghost use Rattle.std.specs.Prelude.{◌≡◌, map, IfOk};
 ghost use Rattle.pv_tree.specs.View.{expr_tree, exprs_of, operand_tree, step_tree, steps_of, arg_tree, call_tree};
 ghost use Rattle.pv_mean.specs.Placed.{placed, all_placed, placed_operand, step_placed, steps_placed, arg_placed, call_placed};
 
-use pv_machine::Place;
+use pv_place::Place;
 use pv_tree::{Arg, CallTree, Expr, Operand, Root, Step};
 use pv_types::Name;
 use std::alloc::{AllocError, Global};

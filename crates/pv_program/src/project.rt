@@ -17,7 +17,7 @@ ghost use Rattle.pv_program.specs.Reached.{AreCodes, AreMade};
 use crate::fault::ProgramFault;
 use crate::reach::reached;
 use pv_bytes::AreaBytes;
-use pv_machine::Role;
+use pv_place::Role;
 use pv_mean::{Cell, Sizes};
 use pv_names::{Entry, Scope, Tables, entries};
 use pv_resolve::context_of;

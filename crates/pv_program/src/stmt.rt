@@ -15,7 +15,7 @@ use crate::call::add_call;
 use crate::choice::add_choices;
 use crate::grow::{append_arms, append_branches, append_stmts};
 use crate::value::{add_counter, add_target, add_value};
-use pv_machine::Place;
+use pv_place::Place;
 use pv_names::How;
 use pv_resolve::{Context, ResolveFault, number_of};
 use pv_run::{Arm, Branch, Counting, List, Program, Span, Stmt};

@@ -8,7 +8,7 @@ ghost use Rattle.pv_resolve.specs.Contexts.{IsContext, block_in};
 ghost use Rattle.pv_program.specs.Growth.{Extends};
 
 use crate::grow::{push_target, push_value};
-use pv_machine::Place;
+use pv_place::Place;
 use pv_resolve::{Context, ResolveFault};
 use pv_run::Program;
 use pv_tree::{Expr, Operand, Root};

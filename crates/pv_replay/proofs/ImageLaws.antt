@@ -9,10 +9,10 @@ use Rattle.std.proofs.lemmas.List.Elements.{All-nil, All-push, All-replicate}
 use Rattle.pv_word.specs.declared.types.Ty.{Ty}
 use Rattle.pv_word.specs.declared.types.Ty.TheVariants.{Bool as BoolType, Byte, Word, Dword, Int, Dint, Time}
 use Rattle.pv_word.specs.Types.{InRange}
-use Rattle.pv_machine.specs.declared.role.Role.{Role}
-use Rattle.pv_machine.specs.declared.role.Role.TheVariants.{Input, Param, Kept, Brief}
-use Rattle.pv_machine.specs.Roles.{is_stored}
-use Rattle.pv_machine.specs.Ranges.{Range, range_of, range_at, IsWithin, AreWithin}
+use Rattle.pv_place.specs.declared.role.Role.{Role}
+use Rattle.pv_place.specs.declared.role.Role.TheVariants.{Input, Param, Kept, Brief}
+use Rattle.pv_place.specs.Roles.{is_stored}
+use Rattle.pv_place.specs.Ranges.{Range, range_of, range_at, IsWithin, AreWithin}
 use Rattle.pv_mean.specs.declared.cell.Cell.{Cell}
 use Rattle.pv_mean.specs.Frames.{first, others, is_free, range_of_cell, range_by, image_len, stored_cells, begin, image_after, start_image}
 use Rattle.pv_mean.specs.Correct.{BindsInRange}

@@ -2,9 +2,9 @@
 use Rattle.std.proofs.Common.{List, [], ◌∷◌, ℤ, ℕ, Option}
 use Rattle.std.specs.List.{AllByRecursion}
 use Rattle.pv_word.specs.declared.types.Ty.{Ty}
-use Rattle.pv_machine.specs.declared.role.Role.{Role}
-use Rattle.pv_machine.specs.declared.role.Role.TheVariants.{Input as InputRole, Param, Kept, Brief}
-use Rattle.pv_machine.specs.Ranges.{AreWithin}
+use Rattle.pv_place.specs.declared.role.Role.{Role}
+use Rattle.pv_place.specs.declared.role.Role.TheVariants.{Input as InputRole, Param, Kept, Brief}
+use Rattle.pv_place.specs.Ranges.{AreWithin}
 use Rattle.pv_mean.specs.declared.cell.Cell.{Cell}
 use Rattle.pv_mean.specs.Frames.{Image, Input, begin, visible_ranges, image_ranges, input_ranges}
 use Rattle.pv_mean.specs.Correct.{BindsInRange}

@@ -1,8 +1,8 @@
 -- What a replay has behind a scan, and with a new image.
 use Rattle.std.proofs.Common.{◌≡◌, ◌++◌, List, length, take, drop, ℤ, Bool, true, false, ◌&&◌, refl, sym, ap, subst, ◌∙◌, []}
 use Rattle.std.proofs.lemmas.List.{with_items_is}
-use Rattle.pv_machine.specs.Roles.{is_input, is_stored}
-use Rattle.pv_machine.specs.Ranges.{AreWithin}
+use Rattle.pv_place.specs.Roles.{is_input, is_stored}
+use Rattle.pv_place.specs.Ranges.{AreWithin}
 use Rattle.pv_mean.specs.Sources.{Source}
 use Rattle.pv_mean.specs.Cells.{most_calls}
 use Rattle.pv_mean.specs.Frames.{is_free, param_ranges, image_ranges, input_ranges, visible_ranges, begin, image_after, start_image}

@@ -1,9 +1,9 @@
 -- Numbers that 64 bits hold; images and the visible cells at a scan's beginning, by the roles of the visible cells alone.
 use Rattle.std.specs.Prelude.{ℕ, ◌^◌, ◌<◌, ℤ, pos, neg_ℤ, ◌≤ℤ◌, ◌<ℤ◌, List, [], ◌∷◌, map, length, filter, not, Bool, true, false, Option, Some, None, cond, slice_index_or, ◌≡◌}
 use Rattle.pv_word.specs.Types.{InRange}
-use Rattle.pv_machine.specs.declared.role.Role.{Role}
-use Rattle.pv_machine.specs.declared.role.Role.TheVariants.{Input, Param, Kept, Brief}
-use Rattle.pv_machine.specs.Roles.{is_stored}
+use Rattle.pv_place.specs.declared.role.Role.{Role}
+use Rattle.pv_place.specs.declared.role.Role.TheVariants.{Input, Param, Kept, Brief}
+use Rattle.pv_place.specs.Roles.{is_stored}
 use Rattle.pv_mean.specs.declared.cell.Cell.{Cell}
 use Rattle.pv_mean.specs.Frames.{first, others, visible_cells}
 use Rattle.pv_mean.specs.Correct.{BindsInRange}

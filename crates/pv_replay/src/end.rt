@@ -3,7 +3,7 @@ ghost use Rattle.std.specs.Prelude.{◌≡◌, List, ℤ};
 ghost use Rattle.pv_run.specs.Ends.{stop_end};
 ghost use Rattle.pv_replay.specs.Ends.{scan_end};
 
-use pv_machine::{Place, TrapKind};
+use pv_place::{Place, TrapKind};
 use pv_run::Stop;
 
 /// How a scan ends.

@@ -6,7 +6,7 @@ ghost use Rattle.pv_replay.specs.Images.{IsLong, roles_of, stored_count};
 
 use crate::end::ScanEnd;
 use crate::image;
-use pv_machine::Role;
+use pv_place::Role;
 use pv_mean::{CaseView, Cell};
 use pv_run::{MOST_CALLS, Program};
 use pv_stl_run::Turn;
@@ -92,7 +92,7 @@ fn turns_of_ranges(alloc: Global, ranges: usize) -> Result<Vec<Turn>, AllocError
 }
 
 impl<'a> Replay<'a> {
-    ghost use Rattle.pv_machine.specs.Ranges.{AreWithin};
+    ghost use Rattle.pv_place.specs.Ranges.{AreWithin};
     ghost use Rattle.pv_mean.specs.Sources.{Source};
     ghost use Rattle.pv_mean.specs.Frames.{param_ranges, image_ranges, input_ranges, visible_ranges};
     ghost use Rattle.pv_mean.specs.Runs.{start};

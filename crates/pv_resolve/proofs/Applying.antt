@@ -1,7 +1,7 @@
 -- A function's node by the numbers of its arguments' nodes.
 use Rattle.std.proofs.Common.{ℕ, ◌≤◌, List, [], ◌∷◌, length, get_or, refl, arith}
 use Rattle.pv_word.specs.declared.types.Ty.{Ty}
-use Rattle.pv_machine.specs.declared.place.Place.{Place}
+use Rattle.pv_place.specs.declared.place.Place.{Place}
 use Rattle.pv_eval.specs.declared.node.OneOp.{OneOp}
 use Rattle.pv_eval.specs.declared.node.TwoOp.{TwoOp}
 use Rattle.pv_eval.specs.declared.node.ThreeOp.{ThreeOp}

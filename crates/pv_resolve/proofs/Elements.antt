@@ -2,8 +2,8 @@
 use Rattle.std.proofs.Common.{◌≡◌, ℕ, ◌+◌, ◌<◌, ℤ, pos, List, refl, sym, subst, ◌∙◌, ap, arith}
 use Rattle.std.specs.Prelude.{Some, None, unsigned_abs, int_le, Bool as Truth, true, false, ◌&&◌, if◌then◌else◌}
 use Rattle.std.proofs.lemmas.Int.{ints}
-use Rattle.pv_machine.specs.declared.place.Place.{Place}
-use Rattle.pv_machine.specs.declared.trap.TrapKind.TheVariants.{Index}
+use Rattle.pv_place.specs.declared.place.Place.{Place}
+use Rattle.pv_place.specs.declared.trap.TrapKind.TheVariants.{Index}
 use Rattle.pv_types.specs.Tree.{TypeTree, plain, array, structure, named, unread}
 use Rattle.pv_names.specs.Views.{held_tree}
 use Rattle.pv_mean.specs.declared.count.TheConstants.{BEYOND}

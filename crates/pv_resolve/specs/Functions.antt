@@ -1,7 +1,7 @@
 -- Standard functions as nodes: how many arguments they take, and the arguments' nodes.
 use Rattle.std.specs.Prelude.{◌≡◌, ℕ, ◌<◌, ℤ, List, map, length, All}
 use Rattle.pv_word.specs.declared.types.Ty.{Ty}
-use Rattle.pv_machine.specs.declared.place.Place.{Place}
+use Rattle.pv_place.specs.declared.place.Place.{Place}
 use Rattle.pv_tree.specs.declared.expr.StdFunction.{StdFunction}
 use Rattle.pv_tree.specs.declared.expr.StdFunction.TheVariants.{Convert, Abs, Min, Max, Limit, Sel, Shl, Shr}
 use Rattle.pv_tree.specs.Tree.{ExprTrees, BlockTree}

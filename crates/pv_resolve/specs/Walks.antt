@@ -1,6 +1,6 @@
 -- Nodes of the indexes on the way along an operand's steps.
 use Rattle.std.specs.Prelude.{◌≡◌, ℕ, ◌<◌, ℤ, unsigned_abs, List, [], ◌∷◌, length, IfSome}
-use Rattle.pv_machine.specs.declared.place.Place.{Place}
+use Rattle.pv_place.specs.declared.place.Place.{Place}
 use Rattle.pv_tree.specs.declared.expr.Root.{Root}
 use Rattle.pv_tree.specs.Tree.{StepTrees, BlockTree}
 use Rattle.pv_mean.specs.Sources.{Source}

@@ -1,6 +1,6 @@
 //! One node more for each form of expression, behind the nodes of its parts.
 ghost use Rattle.std.specs.Prelude.{◌≡◌, ◌<◌, ◌≤◌, ℕ, List, map, length, All, Some, None, IfOk, OnOk};
-ghost use Rattle.pv_machine.specs.declared.place.Place.{Place as PlaceOf};
+ghost use Rattle.pv_place.specs.declared.place.Place.{Place as PlaceOf};
 ghost use Rattle.pv_tree.specs.Tree.{ExprTree, ExprTrees, OperandTree, BlockTree, read, unary, binary, std};
 ghost use Rattle.pv_tree.specs.Things.{place_of_operand};
 ghost use Rattle.pv_tree.specs.Types.{Written, literal_of};
@@ -19,7 +19,7 @@ use crate::fault::ResolveFault;
 use crate::function::node_of_function;
 use crate::growing::push;
 use pv_eval::{Node, OneOp, Operand, TwoOp};
-use pv_machine::Place;
+use pv_place::Place;
 use pv_tree::{BinaryOp, StdFunction, UnaryOp};
 use pv_word::Ty;
 

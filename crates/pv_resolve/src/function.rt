@@ -3,7 +3,7 @@ ghost use Rattle.std.specs.Prelude.{◌≡◌, ◌≤◌, length};
 ghost use Rattle.pv_resolve.specs.Functions.{arity, one_value, two_value, three_value, function_value, AppliesTo};
 
 use pv_eval::{Node, OneOp, ThreeOp, TwoOp};
-use pv_machine::Place;
+use pv_place::Place;
 use pv_tree::StdFunction;
 use pv_word::Ty;
 

@@ -7,7 +7,7 @@ ghost use Rattle.pv_resolve.specs.Growing.{Adds};
 
 use crate::fault::ResolveFault;
 use pv_eval::Node;
-use pv_machine::Place;
+use pv_place::Place;
 
 /// Puts a node behind the others, and gives its number.
 pub(crate) fn push(nodes: &mut Vec<Node>, node: Node) -> Result<u32, ResolveFault>

@@ -1,7 +1,7 @@
 //! Expressions and operands: their nodes stand behind those that are there.
 ghost use Rattle.std.specs.Prelude.{◌≡◌, ◌<◌, ◌≤◌, ◌++◌, [], ◌∷◌, ℕ, List, map, length, unwrap_or, Some, All, IfOk, IfSome, OnOk};
 ghost use Rattle.pv_word.specs.declared.types.Ty.TheVariants.{Dint};
-ghost use Rattle.pv_machine.specs.declared.place.Place.{Place as PlaceOf};
+ghost use Rattle.pv_place.specs.declared.place.Place.{Place as PlaceOf};
 ghost use Rattle.pv_tree.specs.Tree.{StepTree, ExprTree, ExprTrees, BlockTree, std};
 ghost use Rattle.pv_tree.specs.Types.{literal_of};
 ghost use Rattle.pv_tree.specs.Sorts.{own_type};
@@ -29,7 +29,7 @@ use crate::function::arity;
 use crate::growing::push;
 use crate::walk::{Walk, address_of, operand_at};
 use pv_eval::{Node, Operand};
-use pv_machine::Place;
+use pv_place::Place;
 use pv_names::{Number, Sort, Written, literal_of, own_type};
 use pv_tree::{Expr, Operand as OperandTree, StdFunction, Step};
 use pv_word::Ty;

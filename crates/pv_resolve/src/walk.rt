@@ -1,6 +1,6 @@
 //! The way along an operand's steps.
 ghost use Rattle.std.specs.Prelude.{◌≡◌, ℕ, List, ℤ, unsigned_abs, Option, Some, ◌<◌, length, IfOk, OnOk, IfSome};
-ghost use Rattle.pv_machine.specs.declared.place.Place.{Place as PlaceOf};
+ghost use Rattle.pv_place.specs.declared.place.Place.{Place as PlaceOf};
 ghost use Rattle.pv_types.specs.Tree.{plain, array};
 ghost use Rattle.pv_types.specs.View.{type_tree};
 ghost use Rattle.pv_tree.specs.Tree.{BlockTree, StepTrees};
@@ -28,7 +28,7 @@ use crate::fault::ResolveFault;
 use crate::growing::{Elements, push, push_element};
 use crate::laid::Laid;
 use pv_eval::{Node, Operand, Part, Spot};
-use pv_machine::Place;
+use pv_place::Place;
 use pv_mean::BEYOND;
 use pv_names::{Held, level_of};
 use pv_types::{DeclType, Name};

@@ -1,5 +1,5 @@
 //! What instructions of rows are read as.
-use pv_machine::Place;
+use pv_place::Place;
 use pv_stl_run::{
     Change, Combining, Deed, Goal, Instr, Joining, Junction, Math, Part, Relation, Shifting, Test,
     When, Written,

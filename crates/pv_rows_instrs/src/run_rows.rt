@@ -1,7 +1,7 @@
 //! Runs of bodies.
 use crate::reading::deed_of;
 use crate::state::targets;
-use pv_machine::Place;
+use pv_place::Place;
 use pv_stl_run::{Goal, Going, Instr, Stop, Turn};
 use pv_word::Ty;
 use std::alloc::{AllocError, Global};

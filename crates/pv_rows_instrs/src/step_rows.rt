@@ -1,7 +1,7 @@
 //! Single steps of instructions, as `docs/instruction-steps.md` has them.
 use crate::reading::instr_of;
 use crate::state::{State, fresh, same, targets, with_all};
-use pv_machine::TrapKind;
+use pv_place::TrapKind;
 use pv_stl_run::{Goal, Next, step};
 use std::alloc::{AllocError, Global};
 use std::test::Fail;

@@ -4,7 +4,7 @@ use crate::scl_parse::{binary, function_word, put, unary};
 use crate::scl_sources::ty_word;
 use crate::scl_statements::put_at;
 use pv_lex::{Language, MAX_SOURCE, tokens};
-use pv_machine::Place;
+use pv_place::Place;
 use pv_scl_parse::parse;
 use pv_tree::{Arg, Block, Body, CallTree, Choice, Expr, Operand, Root, Step, Stmt};
 use pv_types::{Literal, Name};

@@ -3,7 +3,7 @@
 
 use crate::scl_parse::{put, put_fault, put_often, put_operand};
 use pv_lex::{Language, MAX_SOURCE, tokens};
-use pv_machine::Place;
+use pv_place::Place;
 use pv_scl_parse::parse;
 use pv_tree::{Block, BlockKind, Body};
 use pv_types::{DeclType, Literal, Name, Section, Var};

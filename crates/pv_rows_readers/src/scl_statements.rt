@@ -2,7 +2,7 @@
 
 use crate::scl_parse::{put, put_operand, put_tree};
 use pv_lex::{Language, MAX_SOURCE, tokens};
-use pv_machine::Place;
+use pv_place::Place;
 use pv_parse::ParseFault;
 use pv_scl_parse::parse;
 use pv_tree::{Arg, Block, Body, CallTree, Choice, Expr, Stmt};

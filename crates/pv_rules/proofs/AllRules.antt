@@ -1,6 +1,6 @@
 -- The rules that a project can break, each with its nearest place.
 use Rattle.std.proofs.Common.{inl, inr, refl, List, [], ◌∷◌, Option}
-use Rattle.pv_machine.specs.declared.place.Place.{Place}
+use Rattle.pv_place.specs.declared.place.Place.{Place}
 use Rattle.pv_tree.specs.Scopes.{ProjectTree}
 use Rattle.pv_tree.specs.Rules as tree
 use Rattle.pv_tree.specs.Rules.{Breaks}

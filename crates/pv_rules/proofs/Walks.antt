@@ -6,7 +6,7 @@ use Rattle.std.specs.List.{list_any}
 use Rattle.std.proofs.Math.Seq.{drop-cons}
 use Rattle.std.proofs.lemmas.List.{append-nil, drop_all}
 use Rattle.std.proofs.lemmas.List.Folds.{list_any-append}
-use Rattle.pv_machine.specs.declared.place.Place.{Place}
+use Rattle.pv_place.specs.declared.place.Place.{Place}
 use Rattle.pv_rules_expr.specs.Nearest.{nearer_of}
 use Rattle.pv_rules_expr.specs.NearestIn.{nearest_in}
 use Rattle.pv_rules_expr.proofs.ForCallers.{in_append}

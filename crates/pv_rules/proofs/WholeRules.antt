@@ -2,7 +2,7 @@
 -- least of all.
 use Rattle.std.proofs.Common.{◌≡◌, inl, inr, List, Option, IsTrue}
 use Rattle.std.specs.Prelude.{◌⊎◌, Any}
-use Rattle.pv_machine.specs.declared.place.Place.{Place}
+use Rattle.pv_place.specs.declared.place.Place.{Place}
 use Rattle.pv_tree.specs.Tree.{BlockTree}
 use Rattle.pv_tree.specs.Scopes.{ProjectTree}
 use Rattle.pv_tree.specs.Things.{no_name, place_of_operand}

@@ -3,7 +3,7 @@ use Rattle.pv_tree.specs.Scopes.{ProjectTree}
 use Rattle.pv_tree.specs.Rules as tree
 use Rattle.pv_tree.specs.Rules.{Rule, Breaks}
 use Rattle.std.specs.Prelude.{Option}
-use Rattle.pv_machine.specs.declared.place.Place.{Place}
+use Rattle.pv_place.specs.declared.place.Place.{Place}
 use Rattle.pv_rules_expr.specs.Nearest.{IsNearest}
 use Rattle.pv_rules.specs.declared.found.Declared.{Declared}
 use Rattle.pv_rules.specs.declared.found.Stated.{Stated}

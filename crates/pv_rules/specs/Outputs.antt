@@ -1,7 +1,7 @@
 -- The operands that calls write: arguments for outputs. A name without steps is told apart from others by its root and its place.
 use Rattle.std.specs.Prelude.{List, nat_eq, bytes_eq, Bool as Truth, true, false, ◌&&◌, not, if◌then◌else◌, Option, Some, None}
 use Rattle.std.specs.List.{list_any}
-use Rattle.pv_machine.specs.declared.place.Place.{Place}
+use Rattle.pv_place.specs.declared.place.Place.{Place}
 use Rattle.pv_types.specs.declared.name.Name.{Name}
 use Rattle.pv_tree.specs.declared.expr.Root.{Root}
 use Rattle.pv_tree.specs.declared.expr.Root.TheVariants.{Local, Named, Area}

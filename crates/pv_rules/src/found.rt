@@ -8,7 +8,7 @@ ghost use Rattle.pv_rules.specs.Found.{AreDeclared, AreStated, AreWhole, AreChai
 
 use crate::project_rules::{beyond_bounds, misfit, missing_name, out_of_range, wrong_address};
 use crate::values::not_callable;
-use pv_machine::Place;
+use pv_place::Place;
 use pv_names::{Tables, entries};
 use pv_rules_call::{call_cycle, call_too_deep};
 use pv_rules_code::{

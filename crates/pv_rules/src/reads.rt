@@ -13,7 +13,7 @@ ghost use Rattle.pv_rules.specs.Values.{value_at};
 
 use crate::code::Code;
 use crate::outputs::is_written;
-use pv_machine::Place;
+use pv_place::Place;
 use pv_names::{Scope, Thing, is_void, root_place};
 use pv_rules_expr::nearer_of;
 use pv_rules_instr::{operand_of_instruction, read_operand};

@@ -3,7 +3,7 @@
 use Rattle.std.proofs.Common.{◌≡◌, ℕ, zero, suc, ◌<◌, List, [], ◌∷◌, Bool, true, false, map, length, refl, ap, sym, subst, ◌∙◌, arith, inl, inr, Option, Some, None, is_some, true≢false, cond, bytes_eq}
 use Rattle.std.specs.Prelude.{option_map, option_and_then, option_to_list, slice_index_or}
 use Rattle.std.proofs.lemmas.List.{length-map}
-use Rattle.pv_machine.specs.declared.place.Place.{Place}
+use Rattle.pv_place.specs.declared.place.Place.{Place}
 use Rattle.pv_tree.specs.Tree.{BlockTree}
 use Rattle.pv_tree.specs.Scopes.{ProjectTree, Scope, first_block}
 use Rattle.pv_tree.specs.Callees.{CallSite, Callee, runs, not_declared, not_callable, unknown, callee_of, block_of_callee}

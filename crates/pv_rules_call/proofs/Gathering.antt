@@ -4,7 +4,7 @@ use denote.Param.Weighed.{most, at_most}
 use Rattle.std.specs.Prelude.{option_to_list}
 use Rattle.std.proofs.Math.Seq.{drop-cons}
 use Rattle.std.proofs.lemmas.List.Concat.{flat_map-append}
-use Rattle.pv_machine.specs.declared.place.Place.{Place}
+use Rattle.pv_place.specs.declared.place.Place.{Place}
 use Rattle.pv_tree.specs.declared.stmt.Stmt.{Stmt, fold-roll-Stmt}
 use Rattle.pv_tree.specs.declared.stmt.Stmt.TheViews as form
 use Rattle.pv_tree.specs.declared.stmt.Stmt.TheVariants.{rolls-While, rolls-Repeat}

@@ -1,6 +1,6 @@
 -- Calls between blocks that are known by their numbers: those from which calls lead back, and those at which a long chain ends.
 use Rattle.std.specs.Prelude.{◌≡◌, ℕ, ◌<◌, List, [], map, slice_index_or}
-use Rattle.pv_machine.specs.declared.place.Place.{Place}
+use Rattle.pv_place.specs.declared.place.Place.{Place}
 use Rattle.pv_rules_expr.specs.Members.{HasSome}
 use Rattle.pv_graph.specs.Graphs.{Leads, EndsAt}
 use Rattle.pv_rules_call.specs.declared.links.Link.{Link}

@@ -1,7 +1,7 @@
 -- The links of calls, gathered along the statements and instructions of a block.
 use Rattle.std.specs.Prelude.{ℕ, List, Vec, ◌++◌, map, flat_map, Option, option_map}
 use Rattle.std.specs.declared.alloc.Global.{Global}
-use Rattle.pv_machine.specs.declared.place.Place.{Place}
+use Rattle.pv_place.specs.declared.place.Place.{Place}
 use Rattle.pv_tree.specs.declared.expr.Expr.{Expr}
 use Rattle.pv_tree.specs.declared.stmt.Choice.{Choice}
 use Rattle.pv_tree.specs.declared.stmt.Stmt.{Stmt}

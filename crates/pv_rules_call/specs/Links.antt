@@ -1,6 +1,6 @@
 -- The calls of a project by number: of each block the calls that run one, each with its place and the number of the block that it runs.
 use Rattle.std.specs.Prelude.{◌≡◌, ℕ, List, map, Option, Some, option_map, option_and_then, option_to_list, flat_map, bytes_eq}
-use Rattle.pv_machine.specs.declared.place.Place.{Place}
+use Rattle.pv_place.specs.declared.place.Place.{Place}
 use Rattle.pv_tree.specs.Tree.{BlockTree}
 use Rattle.pv_tree.specs.Scopes.{ProjectTree, Scope, first_block}
 use Rattle.pv_tree.specs.Callees.{CallSite, callee_of, block_of_callee}

@@ -9,7 +9,7 @@ ghost use Rattle.pv_rules_call.specs.ByNumber.{links_graph, IsBackLink, HasBackL
 
 use crate::links::{Link, Links};
 use pv_graph::{Graph, Targets, chain_ends};
-use pv_machine::Place;
+use pv_place::Place;
 use pv_rules_expr::{is_nearer, nearer};
 use std::alloc::{AllocError, Global};
 

@@ -7,7 +7,7 @@ ghost use Rattle.pv_names.specs.Callees.{how_tree};
 ghost use Rattle.pv_rules_call.specs.Links.{link_of, link_tree};
 ghost use Rattle.pv_rules_call.specs.Gathered.{with_sites};
 
-use pv_machine::Place;
+use pv_place::Place;
 use pv_names::{Callee, How, Scope};
 use pv_tree::CallTree;
 use std::alloc::AllocError;

@@ -8,7 +8,7 @@ ghost use Rattle.pv_rules_call.specs.Links.{AreLinks};
 use crate::by_number::{cycle, deep_call};
 use crate::gathered::links_of_all;
 use crate::links::Links;
-use pv_machine::Place;
+use pv_place::Place;
 use pv_names::Tables;
 use std::alloc::{AllocError, Global};
 

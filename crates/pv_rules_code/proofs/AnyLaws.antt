@@ -1,7 +1,7 @@
 -- Some element of two lists, of lists behind one another, and of an option.
 use Rattle.std.proofs.Common.{◌≡◌, inl, inr, refl, subst, List, [], ◌∷◌, ◌++◌, Option, Some, None}
 use Rattle.std.specs.Prelude.{◌⊎◌, Any, flat_map, option_to_list, option_and_then}
-use Rattle.pv_machine.specs.declared.place.Place.{Place}
+use Rattle.pv_place.specs.declared.place.Place.{Place}
 use Rattle.pv_rules_expr.specs.Members.{HasSome}
 use Rattle.pv_rules_expr.specs.Nearest.{IsNearest}
 use Rattle.pv_rules_expr.specs.Looks.{nearer_of}

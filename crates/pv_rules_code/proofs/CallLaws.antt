@@ -1,7 +1,7 @@
 -- What is nearest at the calls of a project is the least place at which its rule is broken.
 use Rattle.std.proofs.Common.{◌≡◌, inl, inr, refl, sym, ap, subst, ◌∙◌, List, [], ◌∷◌, Option, Some, None, Bool, true, false, ◌&&◌, true≢false, IsTrue, is_some, is_none}
 use Rattle.std.specs.Prelude.{◌⊎◌, Any, option_to_list, option_and_then, unwrap_or}
-use Rattle.pv_machine.specs.declared.place.Place.{Place}
+use Rattle.pv_place.specs.declared.place.Place.{Place}
 use Rattle.pv_tree.specs.Tree.{ExprTree, ArgTree, BlockTree}
 use Rattle.pv_tree.specs.Scopes.{ProjectTree, Scope}
 use Rattle.pv_tree.specs.Things.{first_place}

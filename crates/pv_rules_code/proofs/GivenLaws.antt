@@ -4,7 +4,7 @@ use Rattle.std.specs.Prelude.{◌⊎◌, Any, option_and_then, unwrap_or, bytes_
 use Rattle.std.specs.List.{list_any}
 use Rattle.std.proofs.lemmas.List.Folds.{Any-from_list_any, list_any-from_Any}
 use Rattle.std.proofs.lemmas.Slice.Eq.{bytes_eq-Decides}
-use Rattle.pv_machine.specs.declared.place.Place.{Place}
+use Rattle.pv_place.specs.declared.place.Place.{Place}
 use Rattle.pv_types.specs.Tree.{VarTree, var, plain}
 use Rattle.pv_types.specs.View.{name_of, section_of}
 use Rattle.pv_types.specs.declared.declaration.Section.TheVariants.{Input, Output, InOut, Static, Temp, Const}

@@ -1,7 +1,7 @@
 -- What is nearest at the expressions, the operands and the words of a project is the least place at which its rule is broken.
 use Rattle.std.proofs.Common.{◌≡◌, inl, inr, refl, sym, ap, subst, ◌∙◌, List, [], ◌∷◌, ◌++◌, map, Option, Some, None, Bool, true, false, true≢false, IsTrue, is_some}
 use Rattle.std.specs.Prelude.{◌⊎◌, Any, flat_map, option_to_list, option_and_then, unwrap_or}
-use Rattle.pv_machine.specs.declared.place.Place.{Place}
+use Rattle.pv_place.specs.declared.place.Place.{Place}
 use Rattle.pv_types.specs.declared.declaration.Literal.{Literal}
 use Rattle.pv_tree.specs.declared.stmt.Choice.{Choice}
 use Rattle.pv_tree.specs.declared.stmt.Choice.TheVariants.{Lit, Const}

@@ -1,6 +1,6 @@
 -- Where a value doesn't fit the target that an assignment, or a FOR, gives it to.
 use Rattle.std.specs.Prelude.{Option, None, Bool as Truth}
-use Rattle.pv_machine.specs.declared.place.Place.{Place}
+use Rattle.pv_place.specs.declared.place.Place.{Place}
 use Rattle.pv_tree.specs.Tree.{ExprTree, OperandTree, CallPlain, StmtTree, assign, assign_call, for_}
 use Rattle.pv_tree.specs.LiteralTypes.{Want, nothing, this, unsure}
 use Rattle.pv_tree.specs.Sorts.{one, taken, is_whole}

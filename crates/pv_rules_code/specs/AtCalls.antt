@@ -1,7 +1,7 @@
 -- Where a call breaks a rule.
 use Rattle.std.specs.Prelude.{ℕ, List, [], ◌∷◌, ◌++◌, Option, Some, None, option_and_then, is_none, bytes_eq, Bool as Truth, false, ◌&&◌, not}
 use Rattle.std.specs.List.{list_any}
-use Rattle.pv_machine.specs.declared.place.Place.{Place}
+use Rattle.pv_place.specs.declared.place.Place.{Place}
 use Rattle.pv_tree.specs.Tree.{PlacedName, ExprTree, ArgTree, CallPlain, BlockTree}
 use Rattle.pv_tree.specs.Scopes.{Scope}
 use Rattle.pv_tree.specs.Things.{first_place}

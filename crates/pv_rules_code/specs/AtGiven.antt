@@ -1,7 +1,7 @@
 -- Which parameters the arguments of a call give, and which words stand twice.
 use Rattle.std.specs.Prelude.{◌≡◌, ℕ, List, [], ◌∷◌, ◌++◌, map, Option, Some, None, option_and_then, bytes_eq, is_some, Bool as Truth, false, ◌&&◌, ◌||◌, not}
 use Rattle.std.specs.List.{list_any}
-use Rattle.pv_machine.specs.declared.place.Place.{Place}
+use Rattle.pv_place.specs.declared.place.Place.{Place}
 use Rattle.pv_types.specs.Tree.{VarTree}
 use Rattle.pv_types.specs.View.{name_of, section_of}
 use Rattle.pv_types.specs.declared.declaration.Section.{Section}

@@ -1,7 +1,7 @@
 -- Where the words and literals of a FOR break a rule.
 use Rattle.std.specs.Prelude.{pos, List, Option, Some, None, option_and_then, Bool as Truth, false, ◌||◌, not}
 use Rattle.std.specs.Ordering.{int_eq}
-use Rattle.pv_machine.specs.declared.place.Place.{Place}
+use Rattle.pv_place.specs.declared.place.Place.{Place}
 use Rattle.pv_types.specs.declared.declaration.Literal.{Literal}
 use Rattle.pv_tree.specs.Tree.{PlacedName, StmtTree, for_}
 use Rattle.pv_tree.specs.LiteralTypes.{Want, nothing, this, unsure, type_of_literal}

@@ -1,6 +1,6 @@
 -- Where a statement by itself breaks a rule.
 use Rattle.std.specs.Prelude.{List, [], ◌∷◌, Option, Some, None}
-use Rattle.pv_machine.specs.declared.place.Place.{Place}
+use Rattle.pv_place.specs.declared.place.Place.{Place}
 use Rattle.pv_tree.specs.Tree.{ExprTree, StmtTree, exit_, continue_}
 use Rattle.pv_tree.specs.LiteralTypes.{nothing}
 use Rattle.pv_tree.specs.Sorts.{taken, is_bool}

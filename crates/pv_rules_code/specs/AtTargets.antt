@@ -1,6 +1,6 @@
 -- Where the target of an assignment breaks a rule.
 use Rattle.std.specs.Prelude.{List, Option}
-use Rattle.pv_machine.specs.declared.place.Place.{Place}
+use Rattle.pv_place.specs.declared.place.Place.{Place}
 use Rattle.pv_tree.specs.Tree.{OperandTree}
 use Rattle.pv_tree.specs.Scopes.{Scope}
 use Rattle.pv_tree.specs.Things.{thing_of, place_of_operand}

@@ -1,7 +1,7 @@
 -- What breaks a rule in the statements and instructions of a block: of names, of types and of literals. Declarations and the values of
 -- data blocks are left out.
 use Rattle.std.specs.Prelude.{◌≡◌, ◌⊎◌, ◌++◌, List, false, map, flat_map, Any}
-use Rattle.pv_machine.specs.declared.place.Place.{Place}
+use Rattle.pv_place.specs.declared.place.Place.{Place}
 use Rattle.pv_tree.specs.Tree.{OperandTree, BlockTree}
 use Rattle.pv_tree.specs.Scopes.{ProjectTree}
 use Rattle.pv_tree.specs.Things.{no_name, thing_of_word}

@@ -1,6 +1,6 @@
 -- What is looked for at the statements and instructions of a block, and the nearest place of it in a block and in a project.
 use Rattle.std.specs.Prelude.{[], Option, None, option_and_then}
-use Rattle.pv_machine.specs.declared.place.Place.{Place}
+use Rattle.pv_place.specs.declared.place.Place.{Place}
 use Rattle.pv_tree.specs.Tree.{OperandTree, InstrTree, BlockTree}
 use Rattle.pv_tree.specs.Scopes.{ProjectTree, Scope}
 use Rattle.pv_tree.specs.InstructionGroups.{operand_of_instruction, written_operand}

@@ -15,7 +15,7 @@ ghost use Rattle.pv_rules_code.specs.Spots.{loop_tree};
 use crate::fit::misfits_param;
 use crate::site::{Loop, Pass};
 use crate::target::is_fixed_operand;
-use pv_machine::Place;
+use pv_place::Place;
 use pv_names::{Callee, How, Param, Scope, first_place, param_for, section_of_param};
 use pv_rules_expr::{nearer_of, operand_of};
 use pv_tree::{Arg, Expr, Operand, Root};

@@ -12,7 +12,7 @@ ghost use Rattle.pv_rules_code.specs.Spots.{loop_tree};
 use crate::argument::args_place;
 use crate::given::{lacking_place, later_place};
 use crate::site::{Ask, Loop};
-use pv_machine::Place;
+use pv_place::Place;
 use pv_names::{Called, Callee, How, Scope, is_date};
 use pv_rules_expr::nearer_of;
 use pv_tree::{CallTree, Stmt};

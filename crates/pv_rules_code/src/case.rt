@@ -14,7 +14,7 @@ ghost use Rattle.pv_rules_code.specs.AtCases.{selector_at, selector_place, rank,
 
 use crate::counter::{literal_outside, word_date, word_missing, written_of};
 use crate::site::Pick;
-use pv_machine::Place;
+use pv_place::Place;
 use pv_names::{
     Held, Scope, Sort, Thing, Want, first_place, is_whole_number, own_type, taken, type_of_literal,
 };

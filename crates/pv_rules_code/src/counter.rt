@@ -14,7 +14,7 @@ ghost use Rattle.pv_rules_code.specs.AtLoops.{date_of, word_date, word_missing, 
 
 use crate::argument::is_counted;
 use crate::site::{Count, Loop, Stride};
-use pv_machine::Place;
+use pv_place::Place;
 use pv_names::{
     Held, Number, Scope, Thing, Want, Written, dated, is_const, is_outside, is_whole_number,
     type_of_literal, widens,

@@ -13,7 +13,7 @@ use crate::called::call_place;
 use crate::parts::look_in_call;
 use crate::site::{Aim, Site};
 use crate::target::aimed_place;
-use pv_machine::Place;
+use pv_place::Place;
 use pv_names::{Scope, how_of};
 use pv_rules_expr::{Look, look_in_operand, nearer_of};
 use pv_tree::{Instr, Op, Operand};

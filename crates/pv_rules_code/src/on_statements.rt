@@ -14,7 +14,7 @@ ghost use Rattle.pv_names.specs.Tables.{project_of};
 use crate::instruction::instrs_place;
 use crate::site::{Aim, Ask, Count, Pass, Pick, Site, Stride};
 use crate::walk::walk_all;
-use pv_machine::Place;
+use pv_place::Place;
 use pv_names::{Scope, Tables};
 use pv_rules_expr::{Look, nearer_of};
 use pv_tree::Body;

@@ -12,7 +12,7 @@ ghost use Rattle.pv_rules_expr.specs.Looks.{near_parts};
 use crate::argument::param_in;
 use crate::counter::want_of_counter;
 use crate::fit::want_of_type;
-use pv_machine::Place;
+use pv_place::Place;
 use pv_names::{How, Param, Scope, Sort, Want, type_of_param};
 use pv_rules_expr::{Look, look_in, look_in_operand};
 use pv_tree::{CallTree, Expr, Operand, Stmt};

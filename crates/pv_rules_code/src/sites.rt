@@ -17,7 +17,7 @@ use crate::counter::{count_place, step_place};
 use crate::parts::parts_place;
 use crate::site::{Loop, Site};
 use crate::target::{counted_target, target_place};
-use pv_machine::Place;
+use pv_place::Place;
 use pv_names::{Scope, Sort, Want, first_place, is_bool, own_type, taken};
 use pv_rules_expr::{is_whole, nearer_of};
 use pv_tree::{Expr, Stmt};

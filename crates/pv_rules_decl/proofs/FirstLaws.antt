@@ -1,7 +1,7 @@
 -- The first breach of two families of rules, of one rule at one place, and of what breaks the same.
 use Rattle.std.proofs.Common.{List, [], ◌∷◌, map, inl, inr, true≢false, ◌≤◌, ◌≡◌, ℕ, refl, sym, subst, Option, Some, None, Bool, true, false, if◌then◌else◌, arith, IsTrue}
 use Rattle.std.proofs.lemmas.Bool.Decides.{nat_tests}
-use Rattle.pv_machine.specs.declared.place.Place.{Place}
+use Rattle.pv_place.specs.declared.place.Place.{Place}
 use Rattle.pv_tree.specs.Rules as tree
 use Rattle.pv_rules_decl.specs.Names.{rule_of}
 use Rattle.pv_tree.specs.Least.{is_up_to as is_up_to_at}

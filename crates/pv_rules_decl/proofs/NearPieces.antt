@@ -1,7 +1,7 @@
 -- The nearest start value or value of a data block that breaks a rule, over the blocks of a project.
 use Rattle.std.proofs.Common.{◌≡◌, inl, inr, refl, sym, subst, List, map, Option, None}
 use Rattle.std.specs.Prelude.{◌⊎◌, Any}
-use Rattle.pv_machine.specs.declared.place.Place.{Place}
+use Rattle.pv_place.specs.declared.place.Place.{Place}
 use Rattle.pv_tree.specs.Scopes.{ProjectTree, Scope}
 use Rattle.pv_tree.specs.Interfaces.{all_vars}
 use Rattle.pv_tree.specs.Parts.{Part, starts_of, path_of, reads_of_parts}

@@ -1,7 +1,7 @@
 -- What the expressions of a list break is what one of them breaks by itself, so lists of expressions may be looked at one behind another.
 use Rattle.std.proofs.Common.{◌≡◌, inl, inr, List, [], ◌∷◌, ◌++◌, map, IsTrue}
 use Rattle.std.specs.Prelude.{◌⊎◌, Any}
-use Rattle.pv_machine.specs.declared.place.Place.{Place}
+use Rattle.pv_place.specs.declared.place.Place.{Place}
 use Rattle.pv_tree.specs.Tree.{OperandTree}
 use Rattle.pv_tree.specs.Scopes.{Scope}
 use Rattle.pv_tree.specs.Things.{no_name, place_of_operand}

@@ -1,7 +1,7 @@
 -- The first breach in a pattern's expression, from the nearest places of each rule that an expression can break.
 use Rattle.std.proofs.Common.{◌≡◌, inl, inr, refl, sym, subst, List, [], ◌∷◌, map, Option, None, IsTrue}
 use Rattle.std.specs.Prelude.{Any}
-use Rattle.pv_machine.specs.declared.place.Place.{Place}
+use Rattle.pv_place.specs.declared.place.Place.{Place}
 use Rattle.pv_tree.specs.Tree.{ExprTree}
 use Rattle.pv_tree.specs.Scopes.{Scope}
 use Rattle.pv_tree.specs.Rules as tree

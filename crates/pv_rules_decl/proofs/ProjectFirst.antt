@@ -1,6 +1,6 @@
 -- The first breach of a project, from the nearest places of the rules.
 use Rattle.std.proofs.Common.{◌≡◌, subst, List, map, Option, Some, None}
-use Rattle.pv_machine.specs.declared.place.Place.{Place}
+use Rattle.pv_place.specs.declared.place.Place.{Place}
 use Rattle.pv_tree.specs.Scopes.{ProjectTree}
 use Rattle.pv_tree.specs.Rules.{Rule, Breaks, KeepsRules}
 use Rattle.pv_tree.specs.Least.{IsLeastFault}

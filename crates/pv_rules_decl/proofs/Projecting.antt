@@ -1,7 +1,7 @@
 -- From what is found in lists of blocks to the definitions over a project.
 use Rattle.std.proofs.Common.{◌≡◌, List, [], ◌∷◌, map, refl, ap, sym, subst, ◌∙◌, inl, inr}
 use Rattle.std.specs.Prelude.{◌⊎◌, Option, None, Any, Result, Ok, Err, IfOk}
-use Rattle.pv_machine.specs.declared.place.Place.{Place}
+use Rattle.pv_place.specs.declared.place.Place.{Place}
 use Rattle.pv_types.specs.declared.declaration.Var.{Var}
 use Rattle.pv_types.specs.View.{var_trees, listed, name_of, place_of}
 use Rattle.pv_types.specs.Tree.{TypeTree, structure, VarTree}

@@ -1,6 +1,6 @@
 -- What breaks a rule on declarations in a block.
 use Rattle.std.specs.Prelude.{◌⊎◌}
-use Rattle.pv_machine.specs.declared.place.Place.{Place}
+use Rattle.pv_place.specs.declared.place.Place.{Place}
 use Rattle.pv_tree.specs.Tree.{BlockTree}
 use Rattle.pv_tree.specs.Interfaces.{all_types, all_vars, names_of_vars, IsLater}
 use Rattle.pv_tree.specs.Rules.Arrays.{IsWrongType}

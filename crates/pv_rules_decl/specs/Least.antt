@@ -1,6 +1,6 @@
 -- The first breach: the least place, by the source's number and then the offset, and of the rules broken there the least.
 use Rattle.std.specs.Prelude.{◌≡◌, ◌⊎◌, Bool as Truth, if◌then◌else◌, Option, Some, None, List, [], ◌∷◌, IsTrue}
-use Rattle.pv_machine.specs.declared.place.Place.{Place}
+use Rattle.pv_place.specs.declared.place.Place.{Place}
 use Rattle.pv_tree.specs.Rules as tree
 pub use Rattle.pv_tree.specs.Least.{Breaches, IsLeast}
 use Rattle.pv_tree.specs.Least as least_breach

@@ -1,6 +1,6 @@
 -- What breaks a rule at one declared type or variable.
 use Rattle.std.specs.Prelude.{◌≡◌, ◌&&◌, not, IsTrue}
-use Rattle.pv_machine.specs.declared.place.Place.{Place}
+use Rattle.pv_place.specs.declared.place.Place.{Place}
 use Rattle.pv_types.specs.Tree.{VarTree}
 use Rattle.pv_types.specs.View.{section_of, place_of, declared_type_of}
 use Rattle.pv_tree.specs.declared.block.BlockKind.{BlockKind}

@@ -1,6 +1,6 @@
 -- What is answered of a pattern's expression.
 use Rattle.std.specs.Prelude.{◌≡◌, Some, Result, Ok, Err, ⊤}
-use Rattle.pv_machine.specs.declared.place.Place.{Place}
+use Rattle.pv_place.specs.declared.place.Place.{Place}
 use Rattle.pv_word.specs.declared.types.Ty.{Ty}
 use Rattle.pv_tree.specs.Tree.{ExprTree}
 use Rattle.pv_tree.specs.LiteralTypes.{nothing}

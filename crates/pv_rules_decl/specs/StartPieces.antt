@@ -1,7 +1,7 @@
 -- What is looked for in the declarations of a block and in the values that it gives to its parts: the nearest place in a block and in
 -- a project.
 use Rattle.std.specs.Prelude.{◌≡◌, List, flat_map, Option, None, Any}
-use Rattle.pv_machine.specs.declared.place.Place.{Place}
+use Rattle.pv_place.specs.declared.place.Place.{Place}
 use Rattle.pv_tree.specs.Tree.{BlockTree, StartTree}
 use Rattle.pv_tree.specs.Scopes.{ProjectTree, Scope}
 use Rattle.pv_tree.specs.Things.{no_name}

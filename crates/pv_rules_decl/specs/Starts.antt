@@ -1,6 +1,6 @@
 -- Where start values of declarations, and the values that a data block gives to its parts, break a rule.
 use Rattle.std.specs.Prelude.{List, Bool as Truth, Option, Some, None}
-use Rattle.pv_machine.specs.declared.place.Place.{Place}
+use Rattle.pv_place.specs.declared.place.Place.{Place}
 use Rattle.pv_types.specs.declared.declaration.Literal.{Literal}
 use Rattle.pv_types.specs.Tree.{TypeTree, VarTree, var}
 use Rattle.pv_tree.specs.Tree.{StartTree}

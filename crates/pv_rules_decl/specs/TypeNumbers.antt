@@ -1,6 +1,6 @@
 -- Types by number: the blocks of a project are counted from 0, and a block that is a type leads to those that it names.
 use Rattle.std.specs.Prelude.{◌≡◌, ◌⊎◌, ℕ, suc, List, [], ◌∷◌, flat_map, map, Option, Some, None, option_map, option_to_list, if◌then◌else◌}
-use Rattle.pv_machine.specs.declared.place.Place.{Place}
+use Rattle.pv_place.specs.declared.place.Place.{Place}
 use Rattle.pv_types.specs.Tree.{TypeTree, plain, array, structure, named, unread}
 use Rattle.pv_tree.specs.Tree.{PlacedName, BlockTree}
 use Rattle.pv_tree.specs.Scopes.{has_key, is_type}

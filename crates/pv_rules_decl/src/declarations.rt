@@ -12,7 +12,7 @@ ghost use Rattle.pv_rules_expr.specs.Members.{HasSome};
 ghost use Rattle.pv_rules_expr.specs.Nearest.{Nears};
 ghost use Rattle.pv_rules_decl.specs.OnDeclarations.{IsMisplacedDate};
 
-use pv_machine::Place;
+use pv_place::Place;
 use pv_names::is_date;
 use pv_rules_expr::nearer;
 use pv_tree::BlockKind;

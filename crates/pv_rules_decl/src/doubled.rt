@@ -13,7 +13,7 @@ ghost use Rattle.pv_rules_decl.specs.Doubles.{AreMet, IsMet, name_of_block, name
 
 use indexmap::IndexMap;
 use pv_edge::Text;
-use pv_machine::Place;
+use pv_place::Place;
 use pv_rules_expr::nearer;
 use pv_tree::Block;
 use pv_types::{DeclType, Name, Var};

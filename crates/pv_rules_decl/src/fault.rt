@@ -4,7 +4,7 @@ ghost use Rattle.pv_tree.specs.Rules.{number_of};
 ghost use Rattle.pv_rules_decl.specs.Names.{rule_of};
 ghost use Rattle.pv_rules_decl.specs.declared.fault.RuleFault.TheVariants.{NoMemory};
 
-use pv_machine::Place;
+use pv_place::Place;
 use std::alloc::{AllocError, AllocFailed};
 use thiserror::Error;
 

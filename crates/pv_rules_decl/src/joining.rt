@@ -1,6 +1,6 @@
 //! What is answered of a project of which each rule was looked for.
 ghost use Rattle.std.specs.Prelude.{◌≡◌};
-ghost use Rattle.pv_machine.specs.declared.place.Place.{Place};
+ghost use Rattle.pv_place.specs.declared.place.Place.{Place};
 ghost use Rattle.pv_tree.specs.Projects.{project_tree};
 ghost use Rattle.pv_tree.specs.Rules.{Rule, Breaks};
 ghost use Rattle.pv_rules_decl.specs.Answers.{AnswersProject};

@@ -3,7 +3,7 @@ ghost use Rattle.std.specs.Prelude.{◌≡◌, map};
 ghost use Rattle.pv_rules_decl.specs.Least.{is_up_to, lesser, least, breach_at, breach_found, breach_where};
 
 use crate::fault::{Breach, Rule};
-use pv_machine::Place;
+use pv_place::Place;
 
 /// The nearest place at which a rule is broken, if it is.
 #[derive(Clone, Copy)]

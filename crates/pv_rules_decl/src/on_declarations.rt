@@ -1,6 +1,6 @@
 //! The rules on declarations, over the blocks of a project: each gives the least place at which it is broken.
 ghost use Rattle.std.specs.Prelude.{◌≡◌, map, IfOk, Any};
-ghost use Rattle.pv_machine.specs.declared.place.Place.{Place};
+ghost use Rattle.pv_place.specs.declared.place.Place.{Place};
 ghost use Rattle.pv_types.specs.View.{type_tree, var_trees};
 ghost use Rattle.pv_tree.specs.View.{block_tree};
 ghost use Rattle.pv_tree.specs.Scopes.{ProjectTree};
@@ -15,7 +15,7 @@ ghost use Rattle.pv_rules_decl.specs.BlockLists.{HasWrongArrayIn, MisplacesDateI
 use crate::declarations::{misplaced_dates, wrong_arrays};
 use crate::doubled::{doubled_blocks, doubled_vars};
 use crate::gathered::Gathered;
-use pv_machine::Place;
+use pv_place::Place;
 use pv_tree::Block;
 use pv_types::{DeclType, Var};
 use std::alloc::{AllocError, Global};

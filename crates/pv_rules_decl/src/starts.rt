@@ -13,7 +13,7 @@ ghost use Rattle.pv_rules_expr.specs.Looks.{near_parts};
 ghost use Rattle.pv_rules_expr.specs.Operands.{name_at};
 ghost use Rattle.pv_rules_decl.specs.Starts.{start_at, near_vars, misfit_at, is_thing_outside, start_place, near_starts};
 
-use pv_machine::Place;
+use pv_place::Place;
 use pv_names::{
     Held, Number, Scope, Thing, Want, Written, holds, is_outside, is_whole_number, level_of,
     root_place, type_of_literal, widens,

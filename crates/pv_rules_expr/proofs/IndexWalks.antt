@@ -1,6 +1,6 @@
 -- The nearest index over the steps of an operand.
 use Rattle.std.proofs.Common.{◌≡◌, sym, ap, ◌∙◌, Option}
-use Rattle.pv_machine.specs.declared.place.Place.{Place}
+use Rattle.pv_place.specs.declared.place.Place.{Place}
 use Rattle.pv_tree.specs.Tree.{StepTree, StepTrees, steps}
 use Rattle.pv_tree.specs.Scopes.{Scope}
 use Rattle.pv_tree.specs.Things.{Thing, thing_at, last_behind, dated}

@@ -2,7 +2,7 @@
 use Rattle.std.proofs.Common.{◌≡◌, ℕ, ◌<◌, ◌+◌, suc, refl, sym, ap, ◌∙◌, List, [], ◌∷◌, ◌++◌, Option, map, drop, get_or, length, arith, Result, Ok, Err, IfOk}
 use Rattle.std.specs.Prelude.{flat_map, option_to_list, Some, None}
 use Rattle.std.proofs.Math.Seq.{drop-cons}
-use Rattle.pv_machine.specs.declared.place.Place.{Place}
+use Rattle.pv_place.specs.declared.place.Place.{Place}
 use Rattle.pv_tree.specs.Tree.{ExprTree, binary, std, StepTree, StepTrees, steps, CallPlain}
 use Rattle.pv_tree.specs.View.{exprs_of, expr_tree}
 use Rattle.pv_tree.specs.declared.expr.Expr.{Expr}

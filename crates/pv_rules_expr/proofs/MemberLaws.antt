@@ -1,7 +1,7 @@
 -- Some element of lists behind one another; lists without their last; and what a later name is.
 use Rattle.std.proofs.Common.{◌≡◌, ℕ, zero, suc, ◌+◌, ◌<◌, List, [], ◌∷◌, ◌++◌, map, length, get_or, take, add-one, refl, ap, sym, subst, ◌∙◌, arith, inl, inr, append_assoc}
 use Rattle.std.specs.Prelude.{◌⊎◌, slice_index_or, Contains}
-use Rattle.pv_machine.specs.declared.place.Place.{Place}
+use Rattle.pv_place.specs.declared.place.Place.{Place}
 use Rattle.pv_tree.specs.Tree.{PlacedName}
 use Rattle.pv_tree.specs.Interfaces.{IsLater}
 use Rattle.pv_rules_expr.specs.Members.{HasSome, Has, IsLaterBehind}

@@ -1,7 +1,7 @@
 -- Where an operator before its operand doesn't fit it.
 use Rattle.std.proofs.Common.{◌≡◌, ap, sym, ◌∙◌, [], ◌∷◌, Bool, false, not, ◌&&◌, is_some}
 use Rattle.std.specs.Prelude.{option_and_then}
-use Rattle.pv_machine.specs.declared.place.Place.{Place}
+use Rattle.pv_place.specs.declared.place.Place.{Place}
 use Rattle.pv_tree.specs.declared.expr.UnaryOp.{UnaryOp}
 use Rattle.pv_tree.specs.Tree.{ExprTree, unary}
 use Rattle.pv_tree.specs.LiteralTypes.{nothing}

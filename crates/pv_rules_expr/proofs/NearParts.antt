@@ -1,7 +1,7 @@
 -- The nearest place over parts is the least at which one of them breaks the rule.
 use Rattle.std.proofs.Common.{◌≡◌, inl, inr, refl, sym, subst, List, [], ◌∷◌, Option, Some, None, Bool, true, false, if◌then◌else◌, true≢false, IsTrue}
 use Rattle.std.specs.Prelude.{◌⊎◌, Any}
-use Rattle.pv_machine.specs.declared.place.Place.{Place}
+use Rattle.pv_place.specs.declared.place.Place.{Place}
 use Rattle.pv_tree.specs.Tree.{ExprTree, lit, read, unary, binary, std, paren}
 use Rattle.pv_tree.specs.LiteralTypes.{Want}
 use Rattle.pv_tree.specs.Scopes.{Scope}

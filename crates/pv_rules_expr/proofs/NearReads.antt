@@ -1,7 +1,7 @@
 -- The nearest place over the operands that parts read.
 use Rattle.std.proofs.Common.{◌≡◌, inl, inr, refl, sym, ap, subst, ◌∙◌, List, [], ◌∷◌, ◌++◌, map, Option, Some, None, Bool, false, true≢false, IsTrue, is_some}
 use Rattle.std.specs.Prelude.{◌⊎◌, Any, option_and_then, option_to_list, unwrap_or}
-use Rattle.pv_machine.specs.declared.place.Place.{Place}
+use Rattle.pv_place.specs.declared.place.Place.{Place}
 use Rattle.pv_tree.specs.Tree.{OperandTree, operand}
 use Rattle.pv_tree.specs.Scopes.{Scope}
 use Rattle.pv_tree.specs.Things.{Thing, part, constant, a_block, no_name, no_array, a_date, untold, thing_of, root_place, place_of_operand}

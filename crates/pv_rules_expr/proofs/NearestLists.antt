@@ -2,7 +2,7 @@
 use Rattle.std.proofs.Common.{◌≡◌, ℕ, suc, ◌+◌, ◌<◌, inl, inr, refl, sym, ap, subst, ◌∙◌, List, [], ◌∷◌, ◌++◌, map, drop, get_or, length, arith, Option, None}
 use Rattle.std.specs.Prelude.{◌⊎◌, Any}
 use Rattle.std.proofs.Math.Seq.{drop-cons}
-use Rattle.pv_machine.specs.declared.place.Place.{Place}
+use Rattle.pv_place.specs.declared.place.Place.{Place}
 use Rattle.pv_rules_expr.specs.Members.{HasSome}
 use Rattle.pv_rules_expr.specs.Nearest.{IsNearest}
 use Rattle.pv_rules_expr.specs.Nearest.{nearer_of}

@@ -2,7 +2,7 @@
 use Rattle.std.proofs.Common.{◌≡◌, ℕ, zero, suc, ◌+◌, ◌<◌, ◌≤◌, true, false, List, [], ◌∷◌, map, length, get_or, take, add-one, refl, ap, sym, subst, ◌∙◌, arith, inl, inr}
 use Rattle.std.specs.Prelude.{◌⊎◌, nat_lt, nat_eq, nat_le, ◌&&◌, ◌||◌, Option, Some, None, IsTrue, Any, slice_index_or}
 use Rattle.std.proofs.lemmas.Bool.Decides.{nat_tests}
-use Rattle.pv_machine.specs.declared.place.Place.{Place}
+use Rattle.pv_place.specs.declared.place.Place.{Place}
 use Rattle.pv_rules_expr.specs.Members.{HasSome}
 use Rattle.pv_rules_expr.specs.Nearest.{is_before, IsUpTo, IsNearest, Nears}
 

@@ -1,6 +1,6 @@
 -- Where an index breaks a rule, and the names and steps of an operand.
 use Rattle.std.specs.Prelude.{List, ◌&&◌, not, is_some, Option, Some, None}
-use Rattle.pv_machine.specs.declared.place.Place.{Place}
+use Rattle.pv_place.specs.declared.place.Place.{Place}
 use Rattle.pv_tree.specs.Tree.{ExprTree, lit, read, unary, binary, std, paren}
 use Rattle.pv_tree.specs.LiteralTypes.{nothing, is_whole_number}
 use Rattle.pv_tree.specs.Sorts.{own_type, taken}

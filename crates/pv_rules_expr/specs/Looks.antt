@@ -1,6 +1,6 @@
 -- The nearest place that breaks a rule, over a list of expressions with what is wanted of each.
 use Rattle.std.specs.Prelude.{List, [], ◌∷◌, ◌++◌, map, Option, option_and_then}
-use Rattle.pv_machine.specs.declared.place.Place.{Place}
+use Rattle.pv_place.specs.declared.place.Place.{Place}
 use Rattle.pv_tree.specs.Tree.{ExprTree}
 use Rattle.pv_tree.specs.LiteralTypes.{Want}
 use Rattle.pv_tree.specs.Sorts.{Sort}

@@ -1,6 +1,6 @@
 -- Some element of a list; and names that stand behind one of the same key.
 use Rattle.std.specs.Prelude.{◌≡◌, ◌⊎◌, ℕ, List, [], ◌∷◌, ◌++◌}
-use Rattle.pv_machine.specs.declared.place.Place.{Place}
+use Rattle.pv_place.specs.declared.place.Place.{Place}
 use Rattle.pv_tree.specs.Tree.{PlacedName}
 
 abbrev pub HasSome : {X : Type 0} → (X → Type 0) → List X → Type 0

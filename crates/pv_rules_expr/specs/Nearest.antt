@@ -1,6 +1,6 @@
 -- The least of the places that break a rule.
 use Rattle.std.specs.Prelude.{◌≡◌, ◌⊎◌, nat_lt, nat_le, nat_eq, Bool as Truth, ◌&&◌, ◌||◌, if◌then◌else◌, Option, Some, None, IsTrue}
-use Rattle.pv_machine.specs.declared.place.Place.{Place}
+use Rattle.pv_place.specs.declared.place.Place.{Place}
 
 -- a stands before b, or is the same
 abbrev pub is_before : Place → Place → Truth

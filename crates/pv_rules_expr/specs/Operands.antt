@@ -1,6 +1,6 @@
 -- Where a single operand breaks a rule.
 use Rattle.std.specs.Prelude.{Option, Some, None}
-use Rattle.pv_machine.specs.declared.place.Place.{Place}
+use Rattle.pv_place.specs.declared.place.Place.{Place}
 use Rattle.pv_tree.specs.Tree.{OperandTree, operand}
 use Rattle.pv_tree.specs.Scopes.{Scope}
 use Rattle.pv_tree.specs.Things.{Thing, part, constant, a_block, no_name, no_array, a_date, untold, thing_of, root_place, place_of_operand}

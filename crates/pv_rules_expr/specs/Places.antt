@@ -1,6 +1,6 @@
 -- Where a single expression breaks a rule.
 use Rattle.std.specs.Prelude.{◌∷◌, [], Bool as Truth, false, if◌then◌else◌, Option, Some, None, option_and_then}
-use Rattle.pv_machine.specs.declared.place.Place.{Place}
+use Rattle.pv_place.specs.declared.place.Place.{Place}
 use Rattle.pv_tree.specs.Tree.{ExprTree, lit, read, unary, binary, std, paren}
 use Rattle.pv_tree.specs.LiteralTypes.{Want, nothing}
 use Rattle.pv_tree.specs.Sorts.{taken, beside, common_type, result_of_unary, result_of_binary, arguments_of, result_of_function, misfits}

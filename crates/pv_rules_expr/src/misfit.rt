@@ -9,7 +9,7 @@ ghost use Rattle.pv_names.specs.Sorts.{sort_tree};
 ghost use Rattle.pv_names.specs.InScope.{scope_of};
 ghost use Rattle.pv_rules_expr.specs.Places.{place_where, misapplied};
 
-use pv_machine::Place;
+use pv_place::Place;
 use pv_names::{
     Scope, Sort, common_type, is_literal, result_of_binary, result_of_function, value_of_unary,
     wanted_beside,

@@ -2,7 +2,7 @@
 ghost use Rattle.std.specs.Prelude.{◌≡◌, true, false};
 ghost use Rattle.pv_rules_expr.specs.Nearest.{is_before, Nears};
 
-use pv_machine::Place;
+use pv_place::Place;
 
 /// Whether `a` stands before `b`, or is the same.
 pub(crate) fn is_before(a: &Place, b: &Place) -> bool

@@ -4,7 +4,7 @@ use Rattle.std.specs.Prelude.{bytes_eq, option_map, option_and_then}
 use Rattle.std.specs.List.{list_any}
 use Rattle.std.proofs.Math.Seq.{drop-cons}
 use Rattle.std.proofs.lemmas.List.{length-map, length-take-le}
-use Rattle.pv_machine.specs.declared.place.Place.{Place}
+use Rattle.pv_place.specs.declared.place.Place.{Place}
 use Rattle.pv_tree.specs.Tree.{PlacedName, InstrTree}
 use Rattle.pv_tree.specs.InstructionGroups.{label_of_jump}
 use Rattle.pv_names.specs.Firsts.{number_in, or_number, first_number}

@@ -1,7 +1,7 @@
 -- What is nearest in the instructions of a project is the least place at which its rule is broken.
 use Rattle.std.proofs.Common.{◌≡◌, subst, sym, Option}
 use Rattle.std.specs.Prelude.{◌⊎◌, Any, Contains}
-use Rattle.pv_machine.specs.declared.place.Place.{Place}
+use Rattle.pv_place.specs.declared.place.Place.{Place}
 use Rattle.pv_tree.specs.Scopes.{ProjectTree}
 use Rattle.pv_tree.specs.Parts.{instructions_of}
 use Rattle.pv_tree.specs.Interfaces.{IsLater}

@@ -1,7 +1,7 @@
 -- Some element of lists and options, and the nearest place over them.
 use Rattle.std.proofs.Common.{inl, inr, List, [], ◌∷◌, Option, Some, None}
 use Rattle.std.specs.Prelude.{Any, option_to_list, option_and_then}
-use Rattle.pv_machine.specs.declared.place.Place.{Place}
+use Rattle.pv_place.specs.declared.place.Place.{Place}
 use Rattle.pv_rules_expr.specs.Members.{HasSome}
 use Rattle.pv_rules_expr.specs.Nearest.{IsNearest}
 use Rattle.pv_rules_expr.proofs.ForCallers.{any_has, has_any, nearest_same}

@@ -1,7 +1,7 @@
 -- Labels and jumps to them, by the numbers of their instructions: where a label is missing, and where one is doubled.
 use Rattle.std.specs.Prelude.{◌≡◌, ℕ, List, [], ◌∷◌, ◌++◌, not, bytes_eq, Bool as Truth, true, false, Option, Some, None, option_and_then}
 use Rattle.std.specs.List.{list_any}
-use Rattle.pv_machine.specs.declared.place.Place.{Place}
+use Rattle.pv_place.specs.declared.place.Place.{Place}
 use Rattle.pv_tree.specs.Tree.{PlacedName, StepTrees, no_steps, steps, InstrTree}
 use Rattle.pv_tree.specs.InstructionGroups.{label_of_jump}
 use Rattle.pv_names.specs.Firsts.{first_number, number_in}

@@ -1,6 +1,6 @@
 -- Where nestings are wrong, along the instructions with the nestings that are open.
 use Rattle.std.specs.Prelude.{List, [], ◌∷◌, length, reverse, is_some, Bool as Truth, true, false, ◌&&◌, ◌||◌, not, nat_le, Option, Some, None}
-use Rattle.pv_machine.specs.declared.place.Place.{Place}
+use Rattle.pv_place.specs.declared.place.Place.{Place}
 use Rattle.pv_tree.specs.Tree.{InstrTree}
 use Rattle.pv_tree.specs.InstructionGroups.{Group, opening, closing, group_of, first_place_of}
 use Rattle.pv_tree.specs.Rules.OpenNestings.{open_behind, is_kept_outside}

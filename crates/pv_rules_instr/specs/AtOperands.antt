@@ -1,6 +1,6 @@
 -- Where the operand or the literal of an instruction breaks a rule.
 use Rattle.std.specs.Prelude.{not, Option, option_and_then}
-use Rattle.pv_machine.specs.declared.place.Place.{Place}
+use Rattle.pv_place.specs.declared.place.Place.{Place}
 use Rattle.pv_types.specs.declared.declaration.Literal.{Literal}
 use Rattle.pv_tree.specs.Tree.{OperandTree, InstrTree}
 use Rattle.pv_tree.specs.Scopes.{Scope}

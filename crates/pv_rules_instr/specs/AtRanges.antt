@@ -2,7 +2,7 @@
 -- A range goes from its label's instruction to the last that jumps to it. Since an instruction jumps to one label at most, it is the
 -- last of one range at most.
 use Rattle.std.specs.Prelude.{ℕ, suc, List, [], ◌∷◌, map, replicate, length, set, take, drop, slice_index_or, nat_eq, nat_lt, nat_le, Bool as Truth, false, ◌&&◌, ◌||◌, if◌then◌else◌, Option, Some, None, option_and_then}
-use Rattle.pv_machine.specs.declared.place.Place.{Place}
+use Rattle.pv_place.specs.declared.place.Place.{Place}
 use Rattle.pv_tree.specs.Tree.{InstrTree}
 use Rattle.pv_tree.specs.InstructionGroups.{label_of_jump}
 use Rattle.pv_rules_expr.specs.Nearest.{nearer_of}

@@ -1,6 +1,6 @@
 -- What is looked for in the instructions of a block, and the nearest place of it in a block and in a project.
 use Rattle.std.specs.Prelude.{List, Option, None, Any}
-use Rattle.pv_machine.specs.declared.place.Place.{Place}
+use Rattle.pv_place.specs.declared.place.Place.{Place}
 use Rattle.pv_tree.specs.Tree.{InstrTree, BlockTree}
 use Rattle.pv_tree.specs.Scopes.{ProjectTree, Scope}
 use Rattle.pv_tree.specs.Parts.{instructions_of}

@@ -9,7 +9,7 @@ ghost use Rattle.pv_rules_instr.specs.AtNestings.{bracket_at, inside_at, is_empt
 ghost use Rattle.pv_rules_instr.specs.Groups.{group_tree};
 
 use crate::group::{Group, group_of};
-use pv_machine::Place;
+use pv_place::Place;
 use pv_rules_expr::{nearer_of, where_is};
 use pv_tree::Instr;
 use std::alloc::{AllocError, Global};

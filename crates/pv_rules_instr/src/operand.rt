@@ -14,7 +14,7 @@ ghost use Rattle.pv_rules_instr.specs.AtOperands.{operand_at};
 ghost use Rattle.pv_rules_instr.specs.Groups.{group_tree};
 
 use crate::group::Group;
-use pv_machine::Place;
+use pv_place::Place;
 use pv_names::{Scope, Sort, Thing, is_bool, own_type};
 use pv_rules_expr::{is_whole, where_is};
 use pv_tree::{Operand, Root};

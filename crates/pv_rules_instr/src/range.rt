@@ -8,7 +8,7 @@ ghost use Rattle.pv_rules_instr.specs.Ranges.{IsRanges};
 use crate::around::{ends_of, starts_of};
 use crate::label::labels_of;
 use crate::numbers::{firsts_of, goals_of, is_over, is_under, lasts_of, number_at};
-use pv_machine::Place;
+use pv_place::Place;
 use pv_names::Firsts;
 use pv_rules_expr::{nearer_of, where_is};
 use pv_tree::Instr;

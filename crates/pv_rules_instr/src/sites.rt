@@ -18,7 +18,7 @@ use crate::literal::{literal_place, outside_literal};
 use crate::nesting::nesting_place;
 use crate::operand::operand_place;
 use crate::range::range_place;
-use pv_machine::Place;
+use pv_place::Place;
 use pv_names::{Scope, Tables};
 use pv_rules_expr::nearer_of;
 use pv_tree::{Body, Instr};

@@ -1,6 +1,6 @@
 -- The beginning of a FOR, part by part.
 use Rattle.std.proofs.Common.{◌≡◌, ℤ, sym, ap, ◌∙◌}
-use Rattle.pv_machine.specs.declared.place.Place.{Place}
+use Rattle.pv_place.specs.declared.place.Place.{Place}
 use Rattle.pv_types.specs.declared.name.Name.{Name}
 use Rattle.pv_tree.specs.Tree.{ExprTree}
 use Rattle.pv_mean.specs.Sources.{Source}

@@ -1,6 +1,6 @@
 -- A turn of a loop, as the code takes it and as the definitions do.
 use Rattle.std.proofs.Common.{◌≡◌, ℕ, zero, suc, ◌+◌, ◌-◌, ◌<◌, ℤ, ◌+ℤ◌, true, false, Some, None, refl, sym, ap, ◌∙◌, arith}
-use Rattle.pv_machine.specs.declared.place.Place.{Place}
+use Rattle.pv_place.specs.declared.place.Place.{Place}
 use Rattle.pv_mean.specs.Sources.{Source}
 use Rattle.pv_mean.specs.Frames.{Frame}
 use Rattle.pv_mean.specs.Endings.{got, trap, Value, ended, Ending, normal, by_over, end_of, when_got, and_then}

@@ -1,6 +1,6 @@
 -- Each statement of the code does what the statement that it stands for does.
 use Rattle.std.proofs.Common.{◌≡◌, ℕ, ◌≤◌, ℤ, Option, Some, None, Ok, refl, sym, ap, subst, ◌∙◌}
-use Rattle.pv_machine.specs.declared.place.Place.{Place}
+use Rattle.pv_place.specs.declared.place.Place.{Place}
 use Rattle.pv_types.specs.declared.name.Name.{Name}
 use Rattle.pv_types.specs.declared.declaration.Literal.{Literal}
 use Rattle.pv_tree.specs.Tree.{ExprTree, StmtTree, for_, StmtTrees, ArmTrees, BranchTrees, ElseTree, BlockTree}

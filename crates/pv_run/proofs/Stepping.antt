@@ -6,7 +6,7 @@ use Rattle.pv_word.specs.declared.types.Ty.TheVariants.{Bool, Byte, Word, Dword,
 use Rattle.pv_word.specs.Types.{width_of, is_signed_of, wrap_of}
 use Rattle.pv_word.specs.Wrap.{IsCongruent}
 use Rattle.pv_word.proofs.ForCallers.{wide, wrap-congruent, wrap-congruent_same, pattern-congruent_same}
-use Rattle.pv_machine.specs.declared.place.Place.{Place}
+use Rattle.pv_place.specs.declared.place.Place.{Place}
 use Rattle.pv_mean.specs.Sources.{Source}
 use Rattle.pv_mean.specs.Frames.{Frame, visible_cells, type_of_visible}
 use Rattle.pv_mean.specs.Endings.{got, ended, end_of, and_then}

@@ -1,6 +1,6 @@
 -- What the code that runs promises, for any source and block that its arrays mean.
 use Rattle.std.specs.Prelude.{◌≡◌, ℕ, ◌+◌, ◌*◌, ◌<◌, ◌≤◌, ◌^◌, ℤ, List, map, Option, Some, None, Result, Ok, Err, Bool as Truth}
-use Rattle.pv_machine.specs.declared.place.Place.{Place}
+use Rattle.pv_place.specs.declared.place.Place.{Place}
 use Rattle.pv_tree.specs.Tree.{StmtTree, StmtTrees, ExprTree, InstrTree, BodyTree, BlockTree}
 use Rattle.pv_tree.specs.Callees.{CallSite, runs, callee_of}
 use Rattle.pv_mean.specs.Sources.{Source}

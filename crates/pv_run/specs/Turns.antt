@@ -1,6 +1,6 @@
 -- The beginning and the steps of a FOR, apart from its body.
 use Rattle.std.specs.Prelude.{ℤ, ◌+ℤ◌, Result, Ok, Err}
-use Rattle.pv_machine.specs.declared.place.Place.{Place}
+use Rattle.pv_place.specs.declared.place.Place.{Place}
 use Rattle.pv_types.specs.declared.name.Name.{Name}
 use Rattle.pv_tree.specs.Tree.{ExprTree}
 use Rattle.pv_mean.specs.Sources.{Source}

@@ -2,7 +2,7 @@
 ghost use Rattle.std.specs.Prelude.{◌≡◌, ◌≤◌, ◌+ℤ◌, length, IfOk, Option};
 ghost use Rattle.pv_word.specs.declared.types.Ty.TheVariants.{Dint};
 ghost use Rattle.pv_word.specs.Types.{wrap_of};
-ghost use Rattle.pv_machine.specs.declared.place.Place.{Place};
+ghost use Rattle.pv_place.specs.declared.place.Place.{Place};
 ghost use Rattle.pv_types.specs.declared.name.Name.{Name};
 ghost use Rattle.pv_types.specs.declared.declaration.Literal.{Literal};
 ghost use Rattle.pv_tree.specs.Tree.{ExprTree, BlockTree};
@@ -19,7 +19,7 @@ ghost use Rattle.pv_run.specs.Runs.{frame_in};
 use crate::program::{Counting, Program};
 use crate::stop::Stop;
 use pv_eval::{Room, Spot, read, write_spot};
-use pv_machine::Place;
+use pv_place::Place;
 use pv_word::{Ty, wrap};
 
 /// A FOR that has begun: the spot of its variable, its first value and its end.

@@ -15,7 +15,7 @@ ghost use Rattle.pv_run.specs.Runs.{HandsIn, HandsOut, frame_in, linked_in, link
 use crate::program::{Program, Slot, Span};
 use crate::stop::Stop;
 use pv_eval::{Room, Spot, read, write_spot};
-use pv_machine::Place;
+use pv_place::Place;
 
 /// The spot of a parameter in a block whose instance begins at this cell.
 fn slot_spot(slot: Slot, first: u32) -> Spot

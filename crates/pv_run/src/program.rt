@@ -3,7 +3,7 @@ ghost use Rattle.std.specs.Prelude.{◌≡◌, ◌≤◌, length};
 ghost use Rattle.pv_run.specs.Code.{code_at, statements_end, instrs_in};
 
 use pv_eval::{Expression, Target};
-use pv_machine::Place;
+use pv_place::Place;
 use pv_stl_run::Instr;
 use pv_word::Ty;
 

@@ -14,7 +14,7 @@ use crate::counting::{Begun, is_on_the_way};
 use crate::program::{At, Body, Counting, List, Program, Span, Stmt};
 use crate::stop::{Flow, Stop};
 use pv_eval::Trap;
-use pv_machine::{Place, TrapKind};
+use pv_place::{Place, TrapKind};
 use pv_stl_run::{Going, Turn};
 
 /// How many calls may stand behind one another: a chain of calls has eight blocks at most.

@@ -3,7 +3,7 @@ ghost use Rattle.std.specs.Prelude.{◌≡◌};
 ghost use Rattle.pv_run.specs.Ends as ends;
 
 use pv_eval::Trap;
-use pv_machine::Place;
+use pv_place::Place;
 
 /// Why a scan stops before its end.
 #[derive(Clone, Copy, PartialEq, Eq, Debug)]

@@ -2,7 +2,7 @@
 use Rattle.std.proofs.Common.{◌≡◌, inl, inr, ℕ, ◌≤◌, List, [], ◌∷◌, ◌++◌, All, Some, None, refl, ap, ◌∙◌, sym, subst, arith}
 use Rattle.std.proofs.lemmas.List.{append-nil, append_assoc}
 use Rattle.std.proofs.lemmas.List.Elements.{All-nil, All-cons}
-use Rattle.pv_machine.specs.declared.place.Place.{Place}
+use Rattle.pv_place.specs.declared.place.Place.{Place}
 use Rattle.pv_tree.specs.Tree.{ExprTree, read, OperandTree, StepTree, field, index, ArgTree}
 use Rattle.pv_tree.specs.Lexemes.{Lexeme, ◌⨾◌, IsSign, each_behind}
 use Rattle.pv_tree.specs.Words.{plain_name, pair_name, quoted_name, SpellsName}

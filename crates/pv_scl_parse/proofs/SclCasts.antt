@@ -1,7 +1,7 @@
 -- What spells the bodies of SCL's blocks makes of the shades on the stack.
 use Rattle.std.proofs.Common.{inl, inr, ℕ, ◌==◌, Bool, ◌&&◌, List, [], ◌∷◌, ◌++◌, All, refl, ap, ◌∙◌, sym}
 use Rattle.std.specs.Prelude.{not, ◌||◌, nat_lt, nat_le}
-use Rattle.pv_machine.specs.declared.place.Place.{Place}
+use Rattle.pv_place.specs.declared.place.Place.{Place}
 use Rattle.pv_lex.specs.declared.token.Language.TheVariants.{Scl}
 use Rattle.pv_ll.specs.declared.table.Symbol.TheVariants.{Name}
 use Rattle.pv_tree.specs.Tree.{StmtTrees, StartTree, BodyTree, scl, stl, starts}

@@ -1,7 +1,7 @@
 -- A well-formed statement is made of each spelling of it.
 use Rattle.std.proofs.Common.{◌≡◌, true, false, List, [], ◌∷◌, ◌++◌, Option, None, refl, ap, ◌∙◌, sym, arith}
 use Rattle.std.proofs.lemmas.List.{append_assoc}
-use Rattle.pv_machine.specs.declared.place.Place.{Place}
+use Rattle.pv_place.specs.declared.place.Place.{Place}
 use Rattle.pv_types.specs.declared.name.Name.{Name as NameOf}
 use Rattle.pv_types.specs.declared.declaration.Literal.{Literal}
 use Rattle.pv_ll.specs.declared.table.Symbol.TheVariants.{Name}

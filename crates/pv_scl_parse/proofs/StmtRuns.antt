@@ -1,7 +1,7 @@
 -- Statements, made of what spells them.
 use Rattle.std.proofs.Common.{◌≡◌, inl, inr, Bool, true, false, List, [], ◌∷◌, ◌++◌, Option, Some, None, refl, ap, ◌∙◌, sym, subst, arith}
 use Rattle.std.proofs.lemmas.List.{append-nil, append_assoc}
-use Rattle.pv_machine.specs.declared.place.Place.{Place}
+use Rattle.pv_place.specs.declared.place.Place.{Place}
 use Rattle.pv_types.specs.declared.name.Name.{Name as NameOf}
 use Rattle.pv_types.specs.declared.declaration.Literal.{Literal}
 use Rattle.pv_ll.specs.declared.table.Symbol.{Symbol}

@@ -1,7 +1,7 @@
 -- Assignments, made of what spells them: their targets, and the expressions on their right sides.
 use Rattle.std.proofs.Common.{◌≡◌, ℕ, true, false, List, [], ◌∷◌, ◌++◌, All, refl, ap, ◌∙◌, sym, subst}
 use Rattle.std.proofs.lemmas.List.{append-nil, append_assoc}
-use Rattle.pv_machine.specs.declared.place.Place.{Place}
+use Rattle.pv_place.specs.declared.place.Place.{Place}
 use Rattle.pv_types.specs.declared.name.Name.{Name as NameOf}
 use Rattle.pv_ll.specs.declared.table.Symbol.TheVariants.{Name}
 use Rattle.pv_tree.specs.declared.expr.Area.{Area as AreaOf}

@@ -1,6 +1,6 @@
 -- What reading a text of SCL answers.
 use Rattle.std.specs.Prelude.{◌≡◌, ◌≤◌, ℕ, List, Contains, Result, Ok, Err}
-use Rattle.pv_machine.specs.declared.place.Place.{Place}
+use Rattle.pv_place.specs.declared.place.Place.{Place}
 use Rattle.pv_lex.specs.declared.token.Token.{Token}
 use Rattle.pv_lex.specs.declared.token.Language.TheVariants.{Scl}
 use Rattle.pv_tree.specs.declared.expr.Expr.{Expr}

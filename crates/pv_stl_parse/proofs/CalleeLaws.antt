@@ -4,7 +4,7 @@ use Rattle.std.specs.Prelude.{neg_ℤ}
 use Rattle.std.proofs.lemmas.List.{append-nil, append_assoc}
 use Rattle.std.proofs.lemmas.List.Elements.{All-nil, All-cons}
 use Rattle.pv_word.specs.declared.types.Ty.TheVariants as ty
-use Rattle.pv_machine.specs.declared.place.Place.{Place}
+use Rattle.pv_place.specs.declared.place.Place.{Place}
 use Rattle.pv_types.specs.declared.name.Name.{Name}
 use Rattle.pv_tree.specs.declared.expr.Root.TheVariants.{Local, Named}
 use Rattle.pv_tree.specs.Tree.{field, ExprTree, ArgTree}

@@ -2,8 +2,8 @@
 use Rattle.std.proofs.Common.{◌≡◌, ℕ, zero, suc, ◌+◌, ◌-◌, ◌<◌, ◌≤◌, List, [], ◌∷◌, length, take, drop, Bool, true, false, Option, Some, None, Ok, Err, arith, ap, sym, subst, refl, ◌∙◌}
 use Rattle.std.proofs.lemmas.Option.{slice_get_within, slice_get_past}
 use Rattle.std.specs.Prelude.{Result, slice_get}
-use Rattle.pv_machine.specs.declared.place.Place.{Place}
-use Rattle.pv_machine.specs.declared.trap.TrapKind.{TrapKind}
+use Rattle.pv_place.specs.declared.place.Place.{Place}
+use Rattle.pv_place.specs.declared.trap.TrapKind.{TrapKind}
 use Rattle.pv_tree.specs.Tree.{PlacedName, CallPlain, InstrTree}
 use Rattle.pv_tree.specs.InstructionGroups.{label_of_jump}
 use Rattle.pv_mean.specs.Sources.{Source}

@@ -1,7 +1,7 @@
 -- Jumps and ends, by what decides them.
 use Rattle.std.proofs.Common.{◌≡◌, Bool, true, false, Ok, Err, ap, sym, refl, ◌∙◌}
 use Rattle.std.specs.Prelude.{Result}
-use Rattle.pv_machine.specs.declared.place.Place.{Place}
+use Rattle.pv_place.specs.declared.place.Place.{Place}
 use Rattle.pv_tree.specs.Tree.{InstrTree}
 use Rattle.pv_mean.specs.Frames.{Frame}
 use Rattle.pv_mean.specs.Endings.{Tried, got, trap, and_then, Ended, end_of, and_end}

@@ -1,6 +1,6 @@
 -- Sums, by what the code makes of the accumulators.
 use Rattle.std.proofs.Common.{◌≡◌, ℤ, Some, ap, sym, ◌∙◌}
-use Rattle.pv_machine.specs.declared.place.Place.{Place}
+use Rattle.pv_place.specs.declared.place.Place.{Place}
 use Rattle.pv_mean.specs.Endings.{Tried, got, and_then}
 use Rattle.pv_mean.specs.Registers.{Codes, Registers, had}
 use Rattle.pv_mean.specs.Accumulators.{Part, signed, put, codes_by, overflows, number, with_both, became, summed}

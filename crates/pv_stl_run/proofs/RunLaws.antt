@@ -1,8 +1,8 @@
 -- Runs of bodies by what is left of them: arriving, leading ahead and back, and ends.
 use Rattle.std.proofs.Common.{◌≡◌, ℕ, zero, suc, ◌<◌, List, [], ◌∷◌, drop, Bool, true, false, Option, Some, None, arith, ap, sym, refl, ◌∙◌}
 use Rattle.std.specs.Prelude.{slice_get}
-use Rattle.pv_machine.specs.declared.place.Place.{Place}
-use Rattle.pv_machine.specs.declared.trap.TrapKind.{TrapKind}
+use Rattle.pv_place.specs.declared.place.Place.{Place}
+use Rattle.pv_place.specs.declared.trap.TrapKind.{TrapKind}
 use Rattle.pv_tree.specs.Tree.{PlacedName, InstrTree}
 use Rattle.pv_mean.specs.Sources.{Source}
 use Rattle.pv_mean.specs.Frames.{Frame}

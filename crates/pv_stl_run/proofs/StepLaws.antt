@@ -2,9 +2,9 @@
 use Rattle.std.proofs.Common.{◌≡◌, ℤ, pos, Bool, true, false, Option, Some, None, ap, sym, refl, ◌∙◌}
 use Rattle.pv_word.specs.declared.types.Ty.{Ty}
 use Rattle.pv_word.specs.Types.{wrap_of, pattern_of}
-use Rattle.pv_machine.specs.declared.place.Place.{Place}
-use Rattle.pv_machine.specs.declared.trap.TrapKind.{TrapKind}
-use Rattle.pv_machine.specs.declared.trap.TrapKind.TheVariants.{Unset}
+use Rattle.pv_place.specs.declared.place.Place.{Place}
+use Rattle.pv_place.specs.declared.trap.TrapKind.{TrapKind}
+use Rattle.pv_place.specs.declared.trap.TrapKind.TheVariants.{Unset}
 use Rattle.pv_types.specs.declared.declaration.Literal.{Literal}
 use Rattle.pv_tree.specs.Tree.{OperandTree, InstrTree}
 use Rattle.pv_tree.specs.Literals.{type_alone}

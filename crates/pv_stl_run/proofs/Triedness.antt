@@ -1,7 +1,7 @@
 -- A trap stops what goes on with what is got.
 use Rattle.std.proofs.Common.{◌≡◌, ap, sym}
-use Rattle.pv_machine.specs.declared.place.Place.{Place}
-use Rattle.pv_machine.specs.declared.trap.TrapKind.{TrapKind}
+use Rattle.pv_place.specs.declared.place.Place.{Place}
+use Rattle.pv_place.specs.declared.trap.TrapKind.{TrapKind}
 use Rattle.pv_mean.specs.Endings.{Tried, trap, and_then}
 
 pub then_trap : {A B : Type 0} (t : Tried A) (kind : TrapKind) (place : Place) (next : A → Tried B) → trap kind place ≡ t

@@ -5,7 +5,7 @@ use Rattle.std.proofs.lemmas.Option.{slice_get_past, slice_get_read}
 use Rattle.std.specs.Prelude.{slice_get, option_copied}
 use Rattle.std.specs.Borrow.{Bor}
 use Rattle.std.specs.Slice.{IsItemAt}
-use Rattle.pv_machine.specs.declared.place.Place.{Place}
+use Rattle.pv_place.specs.declared.place.Place.{Place}
 use Rattle.pv_stl_run.specs.declared.instr.Instr.{Instr}
 use Rattle.pv_stl_run.specs.declared.turns.Turn.{Turn}
 use Rattle.pv_stl_run.specs.Going.{turn_at, entered_of, most_behind, most_from, ranges_in, range_at}

@@ -1,7 +1,7 @@
 -- Whether a jump is made, and what is left of the registers then.
 use Rattle.std.specs.Prelude.{ℤ, pos, Bool as Truth, true, false, not, Some, Result, Ok, Err}
 use Rattle.std.specs.Ordering.{int_eq}
-use Rattle.pv_machine.specs.declared.place.Place.{Place}
+use Rattle.pv_place.specs.declared.place.Place.{Place}
 use Rattle.pv_mean.specs.Endings.{Tried, got, trap, and_then}
 use Rattle.pv_mean.specs.Registers as m
 use Rattle.pv_mean.specs.Registers.{had, result_of, resulting, with_logic, with_accu1}

@@ -1,6 +1,6 @@
 -- The code of a body, what is left of its run at an instruction, and how much that may be.
 use Rattle.std.specs.Prelude.{◌≡◌, ◌≢◌, ℕ, zero, suc, ◌+◌, ◌*◌, ◌<◌, ◌≤◌, ◌^◌, List, [], ◌∷◌, length, take, drop, slice_get, nat_eq, Bool as Truth, true, false, Option, Some, None, Result, Ok, Err}
-use Rattle.pv_machine.specs.declared.place.Place.{Place}
+use Rattle.pv_place.specs.declared.place.Place.{Place}
 use Rattle.pv_tree.specs.Tree.{PlacedName, CallPlain, InstrTree, BlockTree}
 use Rattle.pv_tree.specs.InstructionGroups.{label_of_jump}
 use Rattle.pv_mean.specs.Sources.{Source}

@@ -4,7 +4,7 @@ use Rattle.std.specs.Prelude.{ℕ, ℤ, ◌+ℤ◌, ◌-ℤ◌, int_lt, int_le, 
 use Rattle.std.specs.Ordering.{int_eq}
 use Rattle.pv_word.specs.declared.types.Ty.{Ty}
 use Rattle.pv_word.specs.Types.{and_of, or_of, xor_of, shl_of, shr_of}
-use Rattle.pv_machine.specs.declared.place.Place.{Place}
+use Rattle.pv_place.specs.declared.place.Place.{Place}
 use Rattle.pv_mean.specs.Endings.{Tried, got, trap, and_then}
 use Rattle.pv_mean.specs.Registers as m
 use Rattle.pv_mean.specs.Registers.{resulting, with_logic}

@@ -15,7 +15,7 @@ use crate::numbers::{Part, codes_of_pattern, number, put};
 use crate::registers::{Logic, NO_CODES, Registers};
 use crate::stop::unset;
 use pv_eval::{OneOp, Trap, one};
-use pv_machine::Place;
+use pv_place::Place;
 use pv_word::Ty;
 
 /// What is made of the bits of the chain goes there.

@@ -2,7 +2,7 @@
 
 use crate::numbers::Part;
 use crate::registers::Junction;
-use pv_machine::Place;
+use pv_place::Place;
 use pv_word::Ty;
 
 /// Where a jump goes: to an instruction behind it, or back to the label of a range.

@@ -10,7 +10,7 @@ ghost use Rattle.pv_stl_run.specs.Rows.{logic_in, left_in};
 use crate::registers::{Joining, Junction, Logic, MOST_NESTINGS, NO_LOGIC, Nesting, Registers};
 use crate::stop::unset;
 use pv_eval::Trap;
-use pv_machine::Place;
+use pv_place::Place;
 
 /// E: RLO or OR.
 pub(crate) fn result_of(logic: Logic, place: Place) -> Result<bool, Trap>

@@ -16,7 +16,7 @@ use crate::instr::{Combining, Math, Relation, Shifting};
 use crate::numbers::{Part, codes_by, number, of_words, overflows, put};
 use crate::registers::{Codes, Logic, NO_CODES};
 use pv_eval::{OneOp, Trap, TwoOp, one, pattern, two};
-use pv_machine::{Place, TrapKind};
+use pv_place::{Place, TrapKind};
 use pv_word::Ty;
 
 /// What an instruction makes of accumulators: ACCU1 and the condition codes.

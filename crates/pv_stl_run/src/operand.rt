@@ -23,7 +23,7 @@ use crate::logic::{edge, join, result_of};
 use crate::registers::{Junction, Logic, Registers};
 use crate::stop::unset;
 use pv_eval::{OneOp, Room, Spot, Target, Trap, one, pattern, read, write_spot};
-use pv_machine::Place;
+use pv_place::Place;
 use pv_word::Ty;
 
 /// The spot that the operand of this number names.

@@ -24,7 +24,7 @@ use crate::operand::{finds_edge, joins, loads, transfers, writes};
 use crate::registers::{Logic, Registers};
 use crate::stop::unset;
 use pv_eval::{Target, Trap, TwoOp, two};
-use pv_machine::Place;
+use pv_place::Place;
 use pv_word::Ty;
 
 /// Where a block goes on.

@@ -1,10 +1,10 @@
 //! Why a block stops before its end.
 
 ghost use Rattle.std.specs.Prelude.{◌≡◌};
-ghost use Rattle.pv_machine.specs.declared.trap.TrapKind.TheVariants.{Unset};
+ghost use Rattle.pv_place.specs.declared.trap.TrapKind.TheVariants.{Unset};
 
 use pv_eval::Trap;
-use pv_machine::{Place, TrapKind};
+use pv_place::{Place, TrapKind};
 
 /// Why a block stops before its end.
 #[derive(Clone, Copy, PartialEq, Eq, Debug)]

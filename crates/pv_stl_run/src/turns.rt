@@ -13,7 +13,7 @@ ghost use Rattle.pv_stl_run.specs.Going.{HasRanges, Nested, range_at, ranges_in,
 
 use crate::instr::Instr;
 use crate::stop::Stop;
-use pv_machine::Place;
+use pv_place::Place;
 
 /// A range that was entered: the position of the instruction with its label, and how many turns are left.
 #[derive(Clone, Copy)]

@@ -14,7 +14,7 @@ use Rattle.std.proofs.Math.Facts.{sfits_lit, yes_ltb}
 use Rattle.std.proofs.lemmas.Fmt.{parse-signed_decimal, signed_decimal_injective, IsAscii-signed, decimal_is_IsNumeral_wide}
 use Rattle.std.proofs.lemmas.Str.{IsUtf8-from_ascii}
 use Rattle.std.proofs.lemmas.Str.Parse.{digit_from_value}
-use Rattle.pv_machine.specs.Ranges.{IsWithin}
+use Rattle.pv_place.specs.Ranges.{IsWithin}
 use Rattle.pv_trace.specs.TraceText.{value_text, values_text, Bounds, range_between, AreBetween, IsRange}
 use Rattle.pv_trace.specs.Words.{NoBlank, IsWordEnd}
 

@@ -2,7 +2,7 @@
 use Rattle.std.specs.Prelude.{◌≡◌, ◌≤ℤ◌, ℕ, ◌+◌, ℤ, pos, negsuc, List, [], ◌∷◌, ◌++◌, length, map, codes, ◌⊎◌, Result, Err, None}
 use Rattle.std.specs.List.{flat_map, AllByRecursion}
 use Rattle.std.specs.Fmt.{signed_decimal}
-use Rattle.pv_machine.specs.Ranges.{Range, AreWithin}
+use Rattle.pv_place.specs.Ranges.{Range, AreWithin}
 use Rattle.pv_cert.specs.declared.trace.Trace.{Trace}
 use Rattle.pv_cert.specs.declared.fault.CertFault.{CertFault}
 use Rattle.pv_cert.specs.declared.fault.CertFault.TheVariants.{NoMemory}

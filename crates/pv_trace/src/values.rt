@@ -2,7 +2,7 @@
 ghost use Rattle.std.specs.Prelude.{◌≡◌, ◌⊎◌, ℕ, ℤ, List, [], ◌∷◌, ◌++◌, IfSome, IfNone, IfOk, MatchOption, IsTrue, ◌↔◌};
 ghost use Rattle.std.specs.List.{AllByRecursion};
 ghost use Rattle.std.specs.Fmt.{signed_decimal};
-ghost use Rattle.pv_machine.specs.Ranges.{IsWithin};
+ghost use Rattle.pv_place.specs.Ranges.{IsWithin};
 ghost use Rattle.pv_trace.specs.TraceText.{value_text, values_text, range_between, AreBetween, IsRange};
 ghost use Rattle.pv_trace.specs.Words.{NoBlank, IsWordEnd};
 

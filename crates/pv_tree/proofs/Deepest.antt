@@ -1,7 +1,7 @@
 -- The parts of a source are shallow, or have a deepest place.
 use Rattle.std.proofs.Common.{◌≡◌, ◌⊎◌, inl, inr, ℕ, ◌<◌, ◌≤◌, List, [], ◌∷◌, ap, arith}
 use Rattle.std.proofs.lemmas.Bool.{cases_lt, cases_eq}
-use Rattle.pv_machine.specs.declared.place.Place.{Place}
+use Rattle.pv_place.specs.declared.place.Place.{Place}
 use Rattle.pv_tree.specs.Nesting.{Part, part, most_levels}
 use Rattle.pv_tree.specs.Order.{HasAbove, HasPart}
 use Rattle.pv_tree.specs.Depth.{IsShallow, IsDeepest}

@@ -3,7 +3,7 @@ use Rattle.std.proofs.Common.{◌≡◌, ◌⊎◌, inl, inr, ℕ, zero, suc, Li
 use Rattle.std.specs.Prelude.{IsTrue}
 use Rattle.std.proofs.lemmas.Bool.{cases_order, cases_lt}
 use Rattle.std.proofs.lemmas.Bool.Decides.{nat_tests}
-use Rattle.pv_machine.specs.declared.place.Place.{Place}
+use Rattle.pv_place.specs.declared.place.Place.{Place}
 use Rattle.pv_tree.specs.Scopes.{ProjectTree}
 use Rattle.pv_tree.specs.Rules.{Rule, number_of, Breaks, KeepsRules, doubled_name, missing_name, missing_type, misfit, wrong_condition, out_of_range, wrong_array, beyond_bounds, fixed_target, wrong_counter, wrong_step, outside_loop, wrong_case, cycle, too_deep, not_callable, wrong_argument, fixed_output, wrong_label, wrong_range, wrong_nesting, refused_operand, wrong_address, no_pattern}
 use Rattle.pv_tree.specs.Least.{is_up_to, Breaches, IsLeast, IsLeastFault}

@@ -3,7 +3,7 @@
 use Rattle.std.proofs.Common.{◌≡◌, ◌⊎◌, ◌↔◌, inl, inr, ℕ, suc, max, List, [], ◌∷◌, ◌++◌, refl, subst, arith}
 use Rattle.std.proofs.Math.Nat.{le-max_left, le-max_right, max-eq_left, max-eq_right, eq-or-lt_of_le}
 use Rattle.std.proofs.lemmas.Bool.{cases_lt}
-use Rattle.pv_machine.specs.declared.place.Place.{Place}
+use Rattle.pv_place.specs.declared.place.Place.{Place}
 use Rattle.pv_tree.specs.Tree.{ExprTree, lit, read, unary, binary, std, paren, ExprTrees, no_exprs, exprs, OperandTree, operand, StepTree, field, index, StepTrees, no_steps, steps, ArgTree, StmtTree, assign, assign_call, if_, case_, for_, while_, repeat_, exit_, continue_, return_, call_, empty_, StmtTrees, no_stmts, stmts, ArmTrees, no_arms, arms, BranchTrees, no_branches, branches, ElseTree, no_else, else_}
 use Rattle.pv_tree.specs.Nesting.{Part, part, first_of, first_of_operand, first_of_stmt, levels, levels_of_exprs, levels_of_operand, levels_of_steps, levels_of_step, levels_of_args, levels_within, levels_of_stmts, levels_of_arms, levels_of_branches, levels_of_else, parts, parts_of_exprs, parts_of_operand, parts_of_steps, parts_of_step, parts_of_args, parts_within, parts_of_stmts, parts_of_arms, parts_of_branches, parts_of_else}
 use Rattle.pv_tree.specs.Order.{HasAbove, IsAmong}

@@ -6,7 +6,7 @@ use Rattle.std.specs.List.{AllByRecursion, list_any}
 use Rattle.std.specs.Prelude.{ℤ, IsTrue, IsFalse, is_some, option_and_then, Option, Some, None, if◌then◌else◌}
 use Rattle.pv_word.specs.declared.types.Ty.{Ty}
 use Rattle.pv_word.specs.declared.types.Ty.TheVariants as t
-use Rattle.pv_machine.specs.declared.place.Place.{Place}
+use Rattle.pv_place.specs.declared.place.Place.{Place}
 use Rattle.pv_types.specs.Tree.{plain, array, structure, named, unread}
 use Rattle.pv_tree.specs.Tree.{ExprTree, lit, read, unary, binary, std, paren, OperandTree, operand, StepTrees, no_steps, steps}
 use Rattle.pv_tree.specs.LiteralTypes.{Want, nothing, is_whole_number}

@@ -2,7 +2,7 @@
 use Prim.Native.String.{String}
 use Rattle.std.proofs.Common.{inl, inr, ℕ, pos, false, List, [], ◌∷◌, ◌++◌, codes, refl, None, arith}
 use Rattle.pv_word.specs.declared.types.Ty.TheVariants as ty
-use Rattle.pv_machine.specs.declared.place.Place.{Place}
+use Rattle.pv_place.specs.declared.place.Place.{Place}
 use Rattle.pv_types.specs.declared.declaration.Section.TheVariants as section
 use Rattle.pv_types.specs.Tree.{plain, VarTree, var}
 use Rattle.pv_lex.specs.declared.token.Kind.TheVariants as k

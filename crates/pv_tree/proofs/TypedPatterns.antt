@@ -1,7 +1,7 @@
 -- A pattern's expression that breaks no rule has a type: it isn't broken, by the walk up, and it isn't whole, by the rule on patterns.
 use Rattle.std.proofs.Common.{Bool, true, false, map, inl, inr, refl}
 use Rattle.std.specs.Prelude.{IsTrue, IsFalse, Contains}
-use Rattle.pv_machine.specs.declared.place.Place.{Place}
+use Rattle.pv_place.specs.declared.place.Place.{Place}
 use Rattle.pv_tree.specs.Tree.{ExprTree, OperandTree, operand, BlockTree}
 use Rattle.pv_tree.specs.LiteralTypes.{nothing}
 use Rattle.pv_tree.specs.Sorts.{is_whole}

@@ -1,7 +1,7 @@
 -- Blocks: which tokens spell them in SCL and in STL, and which are well formed.
 use Rattle.std.specs.Prelude.{◌≡◌, List, [], All, Option, Some, None, false}
 use Rattle.pv_word.specs.declared.types.Ty.{Ty}
-use Rattle.pv_machine.specs.declared.place.Place.{Place}
+use Rattle.pv_place.specs.declared.place.Place.{Place}
 use Rattle.pv_types.specs.declared.declaration.Section.TheVariants as section
 use Rattle.pv_types.specs.Tree.{VarTree}
 use Rattle.pv_types.specs.View.{listed as fields}

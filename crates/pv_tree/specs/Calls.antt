@@ -1,6 +1,6 @@
 -- Calls: which tokens spell them in SCL and in STL, and which are well formed.
 use Rattle.std.specs.Prelude.{◌≡◌, Bool, true, false, List, [], ◌∷◌, All, Option, Some, None}
-use Rattle.pv_machine.specs.declared.place.Place.{Place}
+use Rattle.pv_place.specs.declared.place.Place.{Place}
 use Rattle.pv_types.specs.declared.name.Name.{Name}
 use Rattle.pv_tree.specs.Tree.{PlacedName, ArgTree, CallPlain}
 use Rattle.pv_tree.specs.Lexemes.{Lexeme, Form, first_place, nothing, never, ◌⨾◌, ◌∣◌, when, sign, sign_at, listed}

@@ -1,6 +1,6 @@
 -- STL instructions by what may stand behind them. After the reference manual Statement List (STL) for S7-300/S7-400.
 use Rattle.std.specs.Prelude.{Bool as Truth, true, false, if◌then◌else◌, Option, Some, None, option_and_then}
-use Rattle.pv_machine.specs.declared.place.Place.{Place}
+use Rattle.pv_place.specs.declared.place.Place.{Place}
 use Rattle.pv_tree.specs.declared.expr.Root.{Root}
 use Rattle.pv_tree.specs.declared.expr.Root.TheVariants.{Local, Named, Area}
 use Rattle.pv_tree.specs.declared.instr.Op.{Op}

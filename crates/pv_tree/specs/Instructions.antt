@@ -1,7 +1,7 @@
 -- Instructions of STL: which tokens spell them, and which are well formed.
 use Prim.Native.String.{String}
 use Rattle.std.specs.Prelude.{◌≡◌, false, List, [], ◌∷◌, All, Option, Some, None}
-use Rattle.pv_machine.specs.declared.place.Place.{Place}
+use Rattle.pv_place.specs.declared.place.Place.{Place}
 use Rattle.pv_types.specs.declared.declaration.Literal.{Literal}
 use Rattle.pv_tree.specs.declared.instr.Op.{Op}
 use Rattle.pv_tree.specs.declared.instr.Op.TheVariants as op

@@ -1,6 +1,6 @@
 -- The declarations of a block: all variables and types in them, and names that stand twice.
 use Rattle.std.specs.Prelude.{◌≡◌, List, [], ◌∷◌, ◌++◌, map, Contains}
-use Rattle.pv_machine.specs.declared.place.Place.{Place}
+use Rattle.pv_place.specs.declared.place.Place.{Place}
 use Rattle.pv_types.specs.Tree.{TypeTree, plain, array, structure, named, unread, VarTree, var, VarTrees, no_vars, _then_}
 use Rattle.pv_types.specs.View.{listed, name_of, place_of}
 use Rattle.pv_tree.specs.Tree.{PlacedName}

@@ -1,7 +1,7 @@
 -- Which breach is reported: of the places at which a rule is broken the least, in an earlier source before a later one and in one
 -- source by the bytes before it, and of the rules that are broken there the one with the least number.
 use Rattle.std.specs.Prelude.{ℕ, nat_lt, nat_eq, nat_le, Bool as Truth, ◌&&◌, ◌||◌, IsTrue}
-use Rattle.pv_machine.specs.declared.place.Place.{Place}
+use Rattle.pv_place.specs.declared.place.Place.{Place}
 use Rattle.pv_tree.specs.Scopes.{ProjectTree}
 use Rattle.pv_tree.specs.Rules.{Rule, number_of, Breaks}
 

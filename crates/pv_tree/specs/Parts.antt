@@ -1,7 +1,7 @@
 -- The parts of a block that the rules speak of: statements with the loops around them, expressions with what is wanted of them,
 -- operands with what they begin with, and calls.
 use Rattle.std.specs.Prelude.{List, [], ◌∷◌, ◌++◌, map, flat_map, false, is_some, if◌then◌else◌, Option, Some, None, option_to_list}
-use Rattle.pv_machine.specs.declared.place.Place.{Place}
+use Rattle.pv_place.specs.declared.place.Place.{Place}
 use Rattle.pv_types.specs.declared.name.Name.{Name}
 use Rattle.pv_types.specs.Tree.{plain}
 use Rattle.pv_tree.specs.declared.expr.Root.{Root}

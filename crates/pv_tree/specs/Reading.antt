@@ -1,7 +1,7 @@
 -- What a source, an expression and a block's name read as, and where one reads as nothing.
 use Rattle.std.specs.Prelude.{◌≡◌, ℕ, ◌+◌, ◌<◌, ◌≤◌, List, [], ◌∷◌, ◌++◌, length, take, Some, All}
 use Rattle.std.specs.List.{slice_get}
-use Rattle.pv_machine.specs.declared.place.Place.{Place}
+use Rattle.pv_place.specs.declared.place.Place.{Place}
 use Rattle.pv_types.specs.declared.name.Name.{Name}
 use Rattle.pv_lex.specs.declared.token.Kind.TheVariants as k
 use Rattle.pv_lex.specs.declared.token.Language.{Language}

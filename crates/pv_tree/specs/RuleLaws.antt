@@ -1,7 +1,7 @@
 -- What follows of the rules for a project that keeps them.
 use Rattle.std.specs.Prelude.{◌≢◌, length, is_some, None, Contains, IsTrue, ⊤}
 use Rattle.std.specs.List.{AllByRecursion}
-use Rattle.pv_machine.specs.declared.place.Place.{Place}
+use Rattle.pv_place.specs.declared.place.Place.{Place}
 use Rattle.pv_types.specs.Named.{NestsWithin, AreGrounded}
 use Rattle.pv_tree.specs.Tree.{PlacedName, ExprTree, BlockTree}
 use Rattle.pv_tree.specs.LiteralTypes.{Want, nothing}

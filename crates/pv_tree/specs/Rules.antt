@@ -19,7 +19,7 @@ pub mod Behind
 pub mod Addresses
 pub mod PatternRule
 use Rattle.std.specs.Prelude.{◌≡◌, ◌⊎◌, ℕ, List, map, Any, IsTrue}
-use Rattle.pv_machine.specs.declared.place.Place.{Place}
+use Rattle.pv_place.specs.declared.place.Place.{Place}
 use Rattle.pv_tree.specs.Tree.{ExprTree}
 use Rattle.pv_tree.specs.LiteralTypes.{nothing}
 use Rattle.pv_tree.specs.Sorts.{is_whole}

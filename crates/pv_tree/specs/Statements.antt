@@ -1,6 +1,6 @@
 -- Statements of SCL: which tokens spell them, and which are well formed.
 use Rattle.std.specs.Prelude.{Bool, true, false, All, Option, Some, None}
-use Rattle.pv_machine.specs.declared.place.Place.{Place}
+use Rattle.pv_place.specs.declared.place.Place.{Place}
 use Rattle.pv_types.specs.declared.declaration.Literal.{Literal}
 use Rattle.pv_tree.specs.declared.stmt.Choice.{Choice}
 use Rattle.pv_tree.specs.declared.stmt.Choice.TheVariants as choice

@@ -4,7 +4,7 @@
 use Rattle.std.specs.Prelude.{ℕ, ◌+◌, ◌-◌, ◌/◌, List, filter, nat_le, Bool as Truth, true, false, ◌&&◌, if◌then◌else◌, Option, Some, None}
 use Rattle.pv_word.specs.declared.types.Ty.{Ty}
 use Rattle.pv_word.specs.declared.types.Ty.TheVariants.{Bool, Byte, Word, Dword}
-use Rattle.pv_machine.specs.declared.place.Place.{Place}
+use Rattle.pv_place.specs.declared.place.Place.{Place}
 use Rattle.pv_types.specs.Tree.{TypeTree, plain, array, structure, named, unread, VarTree}
 use Rattle.pv_types.specs.View.{fields_of, section_of, declared_type_of}
 use Rattle.pv_tree.specs.declared.expr.Root.{Root}

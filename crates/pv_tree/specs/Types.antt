@@ -1,7 +1,7 @@
 -- The types of expressions. But for literals a part that breaks a rule has no type, and nothing around it breaks one for want of its type.
 use Rattle.std.specs.Prelude.{ℤ, neg_ℤ, List, [], ◌∷◌, Bool as Truth, true, false, ◌&&◌, not, if◌then◌else◌, is_some, Option, Some, None, option_and_then, int_le}
 use Rattle.pv_word.specs.declared.types.Ty.{Ty}
-use Rattle.pv_machine.specs.declared.place.Place.{Place}
+use Rattle.pv_place.specs.declared.place.Place.{Place}
 use Rattle.pv_types.specs.Tree.{TypeTree, plain, array, structure, named, unread}
 use Rattle.pv_tree.specs.declared.expr.UnaryOp.{UnaryOp}
 use Rattle.pv_tree.specs.declared.expr.UnaryOp.TheVariants.{Plus, Minus, Not}

@@ -5,7 +5,7 @@ use Rattle.std.specs.Char.{is_ascii_digit}
 use Rattle.std.specs.Str.{str_to_ascii_lowercase}
 use Rattle.pv_word.specs.declared.types.Ty.{Ty}
 use Rattle.pv_word.specs.declared.types.Ty.TheVariants as ty
-use Rattle.pv_machine.specs.declared.place.Place.{Place}
+use Rattle.pv_place.specs.declared.place.Place.{Place}
 use Rattle.pv_types.specs.declared.name.Name.{Name}
 use Rattle.pv_types.specs.Names.{between_quotes}
 use Rattle.pv_lex.specs.declared.token.Kind.TheVariants as k

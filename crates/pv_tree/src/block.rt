@@ -3,7 +3,7 @@
 use crate::expr::Operand;
 use crate::instr::Instr;
 use crate::stmt::Stmt;
-use pv_machine::Place;
+use pv_place::Place;
 use pv_types::{Interface, Literal, Name};
 
 /// A block, with the place of its name's first token, where a doubled name is reported.

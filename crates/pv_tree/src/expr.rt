@@ -1,6 +1,6 @@
 //! Expressions, and the operands that they read.
 
-use pv_machine::Place;
+use pv_place::Place;
 use pv_types::Name;
 use pv_word::Ty;
 

@@ -2,7 +2,7 @@
 
 use crate::expr::Operand;
 use crate::stmt::CallTree;
-use pv_machine::Place;
+use pv_place::Place;
 use pv_types::{Literal, Name};
 
 /// An instruction: its label with the label's place, what it does, its operand, literal or call,

@@ -10,7 +10,7 @@ ghost use Rattle.pv_tree.specs.Calls.{SpellsCall};
 ghost use Rattle.pv_tree.specs.Statements.{SpellsStmt, SpellsEnd, SpellsStmts};
 ghost use Rattle.pv_tree.specs.Declarations.{SpellsVars};
 ghost use Rattle.pv_tree.specs.Blocks.{SpellsBlock, SpellsBlocks};
-ghost use Rattle.pv_machine.specs.declared.place.Place.{Place};
+ghost use Rattle.pv_place.specs.declared.place.Place.{Place};
 ghost use Rattle.pv_tree.specs.Nesting.{Part, first_of, first_of_operand, first_of_stmt, levels, levels_of_stmts, parts, parts_of_stmts};
 ghost use Rattle.pv_tree.specs.Depth.{levels_of_vars, levels_of_block, levels_of_blocks, parts_of_vars, parts_of_kind, parts_of_blocks, IsShallow, IsDeepest};
 ghost use Rattle.pv_tree.specs.Order.{Along, HasAbove, IsAmong};

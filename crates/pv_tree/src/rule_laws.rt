@@ -1,6 +1,6 @@
 //! What follows of the rules, each the contract of a function that does nothing.
 ghost use Rattle.std.specs.Prelude.{◌≡◌, ◌↔◌};
-ghost use Rattle.pv_machine.specs.declared.place.Place.{Place};
+ghost use Rattle.pv_place.specs.declared.place.Place.{Place};
 ghost use Rattle.pv_tree.specs.Scopes.{ProjectTree};
 ghost use Rattle.pv_tree.specs.Rules.{KeepsRules, Rule};
 ghost use Rattle.pv_tree.specs.Least.{IsLeastFault};

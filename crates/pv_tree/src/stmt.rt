@@ -1,7 +1,7 @@
 //! Statements and calls.
 
 use crate::expr::{Expr, Operand};
-use pv_machine::Place;
+use pv_place::Place;
 use pv_types::{Literal, Name};
 
 /// A statement.

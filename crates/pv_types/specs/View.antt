@@ -1,6 +1,6 @@
 -- Declarations of the code as plain data, and the parts of plain declarations.
 use Rattle.std.specs.Prelude.{List, [], ◌∷◌, map, Option}
-use Rattle.pv_machine.specs.declared.place.Place.{Place}
+use Rattle.pv_place.specs.declared.place.Place.{Place}
 use Rattle.pv_types.specs.declared.name.Name.{Name}
 use Rattle.pv_types.specs.declared.declaration.Section.{Section}
 use Rattle.pv_types.specs.declared.declaration.Literal.{Literal}

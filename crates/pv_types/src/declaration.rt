@@ -1,7 +1,7 @@
 //! Declarations of variables, and the types that they give.
 
 use crate::name::Name;
-use pv_machine::Place;
+use pv_place::Place;
 use pv_word::Ty;
 
 /// The type of a declaration.

@@ -4,7 +4,7 @@
 //! `[1..3]` makes an array of the type before it, `{` and `}` stand around a structure's fields,
 //! `@T` is a type T. A row has the types first, each with its name, and the block's variables last,
 //! behind the name `-`; then its leaves.
-use pv_machine::Place;
+use pv_place::Place;
 use pv_types::{DeclType, FlattenFault, Literal, Name, Section, Types, Var, flatten};
 use pv_word::Ty;
 use std::alloc::{AllocError, Global};

@@ -12,7 +12,7 @@ ghost use Rattle.pv_types.specs.View.{
   start_of,
 };
 
-use pv_machine::Place;
+use pv_place::Place;
 use pv_types::{DeclType, Literal, Name, Section, Var};
 use pv_word::Ty;
 use std::alloc::{AllocError, Global};

@@ -1,6 +1,6 @@
 -- A bit's number is over 7, or an area byte over 65,535; of a word or double word the last byte counts. The place is the address.
 use Rattle.std.specs.Prelude.{◌≡◌, List, Bool as Truth, false, not, Any, IsTrue}
-use Rattle.pv_machine.specs.declared.place.Place.{Place}
+use Rattle.pv_place.specs.declared.place.Place.{Place}
 use Rattle.pv_tree.specs.declared.expr.Root.{Root}
 use Rattle.pv_tree.specs.declared.expr.Root.TheVariants.{Local, Named, Area}
 use Rattle.pv_tree.specs.Tree.{OperandTree, operand}

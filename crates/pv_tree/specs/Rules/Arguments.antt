@@ -1,7 +1,7 @@
 -- An argument is unknown, at its word, or an unnamed one stands for no input, at its first token; one is given twice, at the later
 -- word; or an input of a function or a VAR_IN_OUT isn't given, at the call's first token.
 use Rattle.std.specs.Prelude.{◌≡◌, ◌⊎◌, List, filter_map, Bool as Truth, ◌&&◌, ◌||◌, Some, None, Any, IsTrue, IsSomeAnd}
-use Rattle.pv_machine.specs.declared.place.Place.{Place}
+use Rattle.pv_place.specs.declared.place.Place.{Place}
 use Rattle.pv_tree.specs.Tree.{PlacedName, ArgTree, BlockTree}
 use Rattle.pv_tree.specs.Scopes.{ProjectTree, Scope, is_fc}
 use Rattle.pv_tree.specs.Things.{first_place}

@@ -2,7 +2,7 @@
 -- as its element type, at the word ARRAY; or a literal index is outside the bounds, at the index's first token.
 use Rattle.std.specs.Prelude.{◌≡◌, ℤ, pos, ◌+ℤ◌, ◌-ℤ◌, List, Bool as Truth, true, false, ◌&&◌, ◌||◌, not, Any, IsTrue, int_lt}
 use Rattle.pv_word.specs.declared.types.Ty.TheVariants.{Dint}
-use Rattle.pv_machine.specs.declared.place.Place.{Place}
+use Rattle.pv_place.specs.declared.place.Place.{Place}
 use Rattle.pv_types.specs.Tree.{TypeTree, plain, array, structure, named, unread}
 use Rattle.pv_tree.specs.LiteralTypes.{holds, nothing}
 use Rattle.pv_tree.specs.Sorts.{taken, own_type}

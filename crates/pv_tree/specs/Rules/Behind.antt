@@ -3,7 +3,7 @@
 use Rattle.std.specs.Prelude.{◌≡◌, ◌⊎◌, ℤ, pos, Bool as Truth, true, false, ◌&&◌, not, is_some, Option, Some, None, Any, IsTrue, option_to_list, int_le}
 use Rattle.pv_word.specs.declared.types.Ty.{Ty}
 use Rattle.pv_word.specs.declared.types.Ty.TheVariants.{Word, Dword, Int}
-use Rattle.pv_machine.specs.declared.place.Place.{Place}
+use Rattle.pv_place.specs.declared.place.Place.{Place}
 use Rattle.pv_tree.specs.Tree.{OperandTree, InstrTree}
 use Rattle.pv_tree.specs.LiteralTypes.{holds, this, type_of_literal}
 use Rattle.pv_tree.specs.Sorts.{is_bool, widens}

@@ -2,7 +2,7 @@
 -- function block, or the value of a function without one is used. The place is the called name, or the instance's name where it is
 -- of another function block.
 use Rattle.std.specs.Prelude.{◌≡◌, ◌⊎◌, ◌++◌, filter_map, Bool as Truth, false, if◌then◌else◌, Option, Some, None, Any, IsTrue}
-use Rattle.pv_machine.specs.declared.place.Place.{Place}
+use Rattle.pv_place.specs.declared.place.Place.{Place}
 use Rattle.pv_tree.specs.Tree.{OperandTree, InstrTree, BlockTree}
 use Rattle.pv_tree.specs.Scopes.{ProjectTree, Scope}
 use Rattle.pv_tree.specs.Things.{Thing, part, constant, a_block, no_name, no_array, a_date, untold}

@@ -2,7 +2,7 @@
 -- widen. The place is the first token of the selector or of the value.
 use Rattle.std.specs.Prelude.{◌≡◌, ◌≢◌, ◌⊎◌, false, Any, IsTrue}
 use Rattle.pv_word.specs.declared.types.Ty.{Ty}
-use Rattle.pv_machine.specs.declared.place.Place.{Place}
+use Rattle.pv_place.specs.declared.place.Place.{Place}
 use Rattle.pv_types.specs.Tree.{plain}
 use Rattle.pv_tree.specs.declared.stmt.Choice.{Choice}
 use Rattle.pv_tree.specs.declared.stmt.Choice.TheVariants.{Lit, Const}

@@ -1,7 +1,7 @@
 -- Chains of calls. Calls form a cycle; or a call stands in a block that a chain of calls has as its eighth block, the chain's first
 -- block being its first. The place is the call's first token. A call that can't be made is no link of a chain.
 use Rattle.std.specs.Prelude.{◌≡◌, ℕ, zero, suc, Any, Contains}
-use Rattle.pv_machine.specs.declared.place.Place.{Place}
+use Rattle.pv_place.specs.declared.place.Place.{Place}
 use Rattle.pv_tree.specs.Tree.{BlockTree}
 use Rattle.pv_tree.specs.Scopes.{ProjectTree}
 use Rattle.pv_tree.specs.Callees.{CallSite, runs, callee_of}

@@ -1,6 +1,6 @@
 -- A condition isn't BOOL: that of IF, ELSIF, WHILE or UNTIL. The place is its first token.
 use Rattle.std.specs.Prelude.{◌≡◌, List, [], ◌∷◌, Any, IsTrue}
-use Rattle.pv_machine.specs.declared.place.Place.{Place}
+use Rattle.pv_place.specs.declared.place.Place.{Place}
 use Rattle.pv_tree.specs.Tree.{ExprTree, StmtTree, if_, while_, repeat_, BlockTree}
 use Rattle.pv_tree.specs.LiteralTypes.{nothing}
 use Rattle.pv_tree.specs.Sorts.{taken, is_bool}

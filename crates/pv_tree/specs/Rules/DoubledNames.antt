@@ -1,7 +1,7 @@
 -- A name is declared twice in one block, in its sections together or within a structure; or two blocks have one name. The place
 -- is that of the later name.
 use Rattle.std.specs.Prelude.{◌⊎◌, map, Any}
-use Rattle.pv_machine.specs.declared.place.Place.{Place}
+use Rattle.pv_place.specs.declared.place.Place.{Place}
 use Rattle.pv_types.specs.Tree.{TypeTree, plain, array, structure, named, unread}
 use Rattle.pv_types.specs.View.{fields_of}
 use Rattle.pv_tree.specs.Tree.{BlockTree}

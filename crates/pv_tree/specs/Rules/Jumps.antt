@@ -2,7 +2,7 @@
 -- a backward jump goes from its label to the last jump to it: one is entered elsewhere than at the label, at the word of the jump
 -- that enters, or two cross, at the later label.
 use Rattle.std.specs.Prelude.{◌≡◌, ◌⊎◌, ◌<◌, ◌≤◌, ℕ, List, map, filter_map, Some, Any, Contains, slice_get, IsSomeAnd}
-use Rattle.pv_machine.specs.declared.place.Place.{Place}
+use Rattle.pv_place.specs.declared.place.Place.{Place}
 use Rattle.pv_tree.specs.Tree.{PlacedName, InstrTree}
 use Rattle.pv_tree.specs.Scopes.{ProjectTree}
 use Rattle.pv_tree.specs.InstructionGroups.{label_of_jump}

@@ -2,7 +2,7 @@
 -- the variable of another FOR in its body, at the target, the argument or the inner FOR's variable. BY is zero or outside the
 -- variable's type, at the literal. EXIT or CONTINUE stands outside a loop, at the word.
 use Rattle.std.specs.Prelude.{◌≡◌, ◌⊎◌, ℕ, pos, List, [], ◌∷◌, bytes_eq, Bool as Truth, true, false, ◌||◌, not, is_some, Some, None, Any, IsTrue, option_to_list}
-use Rattle.pv_machine.specs.declared.place.Place.{Place}
+use Rattle.pv_place.specs.declared.place.Place.{Place}
 use Rattle.pv_types.specs.declared.declaration.Literal.{Literal}
 use Rattle.pv_types.specs.Tree.{TypeTree, plain, array, structure, named, unread}
 use Rattle.pv_types.specs.View.{section_of, declared_type_of}

@@ -1,6 +1,6 @@
 -- A name is not declared, or a field is missing. The place is that of the name, without a `#` before it.
 use Rattle.std.specs.Prelude.{◌≡◌, ◌⊎◌, false, List, [], ◌∷◌, ◌++◌, flat_map, Any, option_to_list}
-use Rattle.pv_machine.specs.declared.place.Place.{Place}
+use Rattle.pv_place.specs.declared.place.Place.{Place}
 use Rattle.pv_tree.specs.declared.stmt.Choice.{Choice}
 use Rattle.pv_tree.specs.declared.stmt.Choice.TheVariants.{Lit, Const}
 use Rattle.pv_tree.specs.Tree.{PlacedName, Choices, StmtTree, case_, for_, BranchTrees, no_branches, branches, BlockTree}

@@ -1,6 +1,6 @@
 -- A type is not declared, or contains itself. The place is that of the name of the type.
 use Rattle.std.specs.Prelude.{◌≡◌, ◌⊎◌, ℕ, List, [], ◌∷◌, ◌++◌, map, Some, None, Any, Contains}
-use Rattle.pv_machine.specs.declared.place.Place.{Place}
+use Rattle.pv_place.specs.declared.place.Place.{Place}
 use Rattle.pv_types.specs.Tree.{TypeTree, plain, array, structure, named, unread, var, VarTrees, no_vars, _then_}
 use Rattle.pv_types.specs.View.{listed}
 use Rattle.pv_tree.specs.declared.block.BlockKind.{BlockKind}

@@ -2,7 +2,7 @@
 -- closed, at its opening, or not opened, at the closing; or a jump, a label, a call or the block's end stands inside one, at that
 -- instruction's first token.
 use Rattle.std.specs.Prelude.{◌≡◌, ◌≢◌, ◌⊎◌, ◌≤◌, List, [], ◌∷◌, ◌++◌, length, fold, Bool as Truth, true, false, ◌||◌, is_some, Any, Contains, IsTrue}
-use Rattle.pv_machine.specs.declared.place.Place.{Place}
+use Rattle.pv_place.specs.declared.place.Place.{Place}
 use Rattle.pv_tree.specs.Tree.{InstrTree}
 use Rattle.pv_tree.specs.Scopes.{ProjectTree}
 use Rattle.pv_tree.specs.InstructionGroups.{Group, opening, closing, jump, calling, block_end, group_of, first_place_of}

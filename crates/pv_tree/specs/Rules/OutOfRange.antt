@@ -2,7 +2,7 @@
 use Rattle.std.specs.Prelude.{◌≡◌, ◌⊎◌, ℤ, Bool as Truth, ◌||◌, not, if◌then◌else◌, Option, Some, None, Any, IsTrue, option_to_list}
 use Rattle.pv_word.specs.declared.types.Ty.{Ty}
 use Rattle.pv_word.specs.declared.types.Ty.TheVariants.{Word, Dword, Int}
-use Rattle.pv_machine.specs.declared.place.Place.{Place}
+use Rattle.pv_place.specs.declared.place.Place.{Place}
 use Rattle.pv_types.specs.declared.declaration.Literal.{Literal}
 use Rattle.pv_types.specs.Tree.{TypeTree, plain, VarTree, var}
 use Rattle.pv_tree.specs.declared.stmt.Choice.{Choice}

@@ -1,7 +1,7 @@
 -- The rule of patterns alone: an expression has `/`, DIV or MOD, at the operator, or an index that isn't a literal, at the index's
 -- first token.
 use Rattle.std.specs.Prelude.{◌≡◌, ◌⊎◌, Bool as Truth, true, false, not, is_some, Any, IsTrue}
-use Rattle.pv_machine.specs.declared.place.Place.{Place}
+use Rattle.pv_place.specs.declared.place.Place.{Place}
 use Rattle.pv_tree.specs.declared.expr.BinaryOp.{BinaryOp}
 use Rattle.pv_tree.specs.declared.expr.BinaryOp.TheVariants.{Div, Mod}
 use Rattle.pv_tree.specs.Tree.{ExprTree, binary}

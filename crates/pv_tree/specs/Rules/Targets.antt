@@ -1,7 +1,7 @@
 -- What can't be assigned. Either the target is a constant, a block or another function's name, at the target's first token; or the
 -- argument for an output or VAR_IN_OUT isn't an assignable operand, at the argument's first token.
 use Rattle.std.specs.Prelude.{◌≡◌, Bool as Truth, true, false, Option, Some, None, Any, IsTrue}
-use Rattle.pv_machine.specs.declared.place.Place.{Place}
+use Rattle.pv_place.specs.declared.place.Place.{Place}
 use Rattle.pv_types.specs.declared.declaration.Section.{Section}
 use Rattle.pv_types.specs.declared.declaration.Section.TheVariants.{Input, Output, InOut, Static, Temp, Const}
 use Rattle.pv_tree.specs.Tree.{OperandTree, ArgTree, BlockTree}

@@ -1,6 +1,6 @@
 use Rattle.std.proofs.Common.{None, ap, sym, subst, ◌∙◌}
 use Rattle.std.specs.List.{AllByRecursion}
-use Rattle.pv_machine.specs.Ranges.{AreWithin}
+use Rattle.pv_place.specs.Ranges.{AreWithin}
 use Rattle.pv_mean.specs.Frames.{input_ranges, param_ranges}
 use Rattle.pv_mean.specs.Runs.{start, run_from}
 use Rattle.pv_replay.specs.Replays.{image_of}

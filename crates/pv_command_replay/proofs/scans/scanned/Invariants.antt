@@ -1,6 +1,6 @@
 use Rattle.std.proofs.Common.{◌≡◌, true}
 use Rattle.std.specs.List.{AllByRecursion}
-use Rattle.pv_machine.specs.Ranges.{AreWithin}
+use Rattle.pv_place.specs.Ranges.{AreWithin}
 use Rattle.pv_mean.specs.Sources.{Source}
 use Rattle.pv_mean.specs.Frames.{input_ranges}
 use Rattle.pv_pattern.specs.Patterns.{Pattern}

@@ -2,7 +2,7 @@ use Rattle.std.proofs.Common.{rules, sym, subst, ◌∙◌}
 use Rattle.std.specs.Prelude.{FitsSigned}
 use Rattle.std.specs.Int.{w64}
 use Rattle.std.proofs.lemmas.Int.{to_z-of_z}
-use Rattle.pv_machine.specs.Ranges.{IsWithin}
+use Rattle.pv_place.specs.Ranges.{IsWithin}
 use Rattle.pv_trace.specs.TraceText.{range_between}
 use Rattle.pv_trace.proofs.Words.{spells, same-value}
 use Rattle.pv_trace.proofs.values.word_between.Goals as goal

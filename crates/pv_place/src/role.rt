@@ -1,6 +1,6 @@
 //! Roles: how a cell takes part in a scan.
 ghost use Rattle.std.specs.Prelude.{◌≡◌};
-ghost use Rattle.pv_machine.specs.Roles.{is_input, is_stored};
+ghost use Rattle.pv_place.specs.Roles.{is_input, is_stored};
 
 /// How a cell takes part in a scan.
 #[derive(Clone, Copy, PartialEq, Eq, Debug)]

@@ -1,7 +1,7 @@
 -- The roles of cells: which take a value from a scan's input, and which an image has.
 use Rattle.std.specs.Prelude.{Bool, true, false}
-use Rattle.pv_machine.specs.declared.role.Role.{Role}
-use Rattle.pv_machine.specs.declared.role.Role.TheVariants.{Input, Param, Kept, Brief}
+use Rattle.pv_place.specs.declared.role.Role.{Role}
+use Rattle.pv_place.specs.declared.role.Role.TheVariants.{Input, Param, Kept, Brief}
 
 -- an input takes a value from each scan's input
 abbrev pub is_input : Role → Bool
