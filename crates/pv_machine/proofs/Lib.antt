@@ -1,2 +1,4 @@
 pub mod ForCallers
 pub mod Induction
+pub mod Same
+pub mod Reducing

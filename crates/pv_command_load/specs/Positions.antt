@@ -25,14 +25,14 @@ printed file line column =
     file ++ (codes ":" ++ (decimal line ++ (codes ":" ++ decimal column)))
 
 -- where something stands in a source that begins behind so many bytes
-abbrev pub spot_text : FileText → ℕ → List ℕ
-spot_text text offset =
+abbrev pub position_text : FileText → ℕ → List ℕ
+position_text text offset =
     printed text.file (line_behind (take offset text.bytes)) (column_behind (take offset text.bytes))
 
-abbrev pub spot_where : Option FileText → ℕ → List ℕ
-spot_where None offset = []
-spot_where (Some text) offset = spot_text text offset
+abbrev pub position_where : Option FileText → ℕ → List ℕ
+position_where None offset = []
+position_where (Some text) offset = position_text text offset
 
 -- where a place lies in these sources, whose numbers are those of its files
 abbrev pub place_text : List FileText → Place → List ℕ
-place_text texts place = spot_where (slice_get texts place.file) place.offset
+place_text texts place = position_where (slice_get texts place.file) place.offset

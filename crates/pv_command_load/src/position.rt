@@ -1,6 +1,6 @@
 //! Places as they are printed.
 ghost use Rattle.std.specs.Prelude.{◌≡◌, IfOk, map, string_bytes};
-ghost use Rattle.pv_command_load.specs.Spots.{line_behind, column_behind, spot_text, place_text};
+ghost use Rattle.pv_command_load.specs.Positions.{line_behind, column_behind, position_text, place_text};
 ghost use Rattle.pv_command_load.specs.Stops.{at_text, text_tree};
 
 use pv_place::Place;
@@ -16,7 +16,7 @@ pub struct SourceText {
 /// A place as it is printed: the file's name, and the line and the column from 1. A line ends with a line feed alone, and a column is
 /// a byte.
 #[derive(Debug, Drop)]
-pub struct Spot {
+pub struct SourcePosition {
     pub file: String,
     pub line: u64,
     pub column: u64,
@@ -42,24 +42,28 @@ fn line_and_column(before: &[u8]) -> (u64, u64)
 
 impl SourceText {
     /// Where something stands that begins behind so many bytes.
-    pub fn spot(&self, alloc: Global, offset: u32) -> Result<Spot, AllocError>
-        ensures { IfOk result (λ at. at_text at ≡ spot_text (text_tree self.now) offset) }
+    pub fn position(&self, alloc: Global, offset: u32) -> Result<SourcePosition, AllocError>
+        ensures { IfOk result (λ at. at_text at ≡ position_text (text_tree self.now) offset) }
     {
         let bytes = self.bytes.as_slice();
         let (before, _behind) = bytes.split_at(usize::min(offset as usize, bytes.len()));
         let (line, column) = line_and_column(before);
         let file = String::from_str(alloc, self.file.as_str())?;
-        Ok(Spot { file, line, column })
+        Ok(SourcePosition { file, line, column })
     }
 }
 
-impl Spot {
+impl SourcePosition {
     /// Where a place lies in these sources, whose numbers are those of its files.
-    pub fn of(alloc: Global, sources: &[SourceText], place: Place) -> Result<Spot, AllocError>
+    pub fn of(
+        alloc: Global,
+        sources: &[SourceText],
+        place: Place,
+    ) -> Result<SourcePosition, AllocError>
         ensures { IfOk result (λ at. at_text at ≡ place_text (map text_tree sources.now) place) }
     {
         match sources.get(place.file as usize) {
-            Some(source) => source.spot(alloc, place.offset),
+            Some(source) => source.position(alloc, place.offset),
             None => Err(AllocError),
         }
     }
