@@ -16,6 +16,8 @@ done
 python3 tools/check-clauses.py || complain "a document names a clause that isn't there"
 python3 tools/check-files.py || complain "a document names a file that isn't there"
 python3 tools/check-callers.py || complain "a proof takes more of another crate's proofs than its module ForCallers"
+python3 tools/check-map.py || complain "docs/ARCHITECTURE.md maps other crates than crates.txt lists"
+python3 tools/check-recipes.py || complain "a recipe leaves out a file that its change touches"
 python3 tools/check-sessions.py README.md docs/TUTORIAL.md docs/REFUSALS.md docs/CERTIFICATES.md docs/SEMANTICS.md ||
   complain "the program says something else than a document"
 # The answers of examples/README.md: the example, its case, its trace, and the report behind its three first lines.
