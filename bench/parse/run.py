@@ -101,7 +101,7 @@ def main():
     machine()
     wrong = False
     with tempfile.TemporaryDirectory() as place:
-        program = built(place, "parse_bench", HERE / "main.rt.txt", ["pv_lex", "pv_parse", "pv_scl_parse", "pv_stl_parse"])
+        program = built(place, "parse_bench", HERE / "main.rt.txt")
         for name in names:
             text = TEXTS[name]
             one, two = (measured([program, *words(mode_of(text), text, size)], runs=RUNS) for size in (n, 2 * n))

@@ -18,7 +18,6 @@ sys.dont_write_bytecode = True
 from build import built  # noqa: E402
 from measure import compare, machine, measured  # noqa: E402
 
-LIBRARIES = ["pv_lex", "pv_tree", "pv_scl_parse", "pv_rules_decl", "pv_rules"]
 RUNS = 10
 LAYERS = 8
 
@@ -104,7 +103,7 @@ def main():
     machine()
     right = True
     with tempfile.TemporaryDirectory() as place:
-        program = built(place, "rules_bench", HERE / "main.rt.txt", LIBRARIES)
+        program = built(place, "rules_bench", HERE / "main.rt.txt")
         for case, (n, less) in CASES.items():
             if case.__name__ in names:
                 right = timed(place, program, case, n) and right

@@ -16,7 +16,6 @@ sys.dont_write_bytecode = True
 from build import built  # noqa: E402
 from measure import compare, machine, measured  # noqa: E402
 
-LIBRARIES = ["pv_machine", "pv_lex", "pv_tree", "pv_scl_parse", "pv_stl_parse", "pv_rules", "pv_mean", "pv_table", "pv_replay", "pv_replay_make"]
 INPUTS = 8
 SIZE = 100
 SCANS = 50_000
@@ -172,7 +171,7 @@ def main():
     machine()
     right = True
     with tempfile.TemporaryDirectory() as place:
-        program = built(place, "scans_bench", HERE / "main.rt.txt", LIBRARIES)
+        program = built(place, "scans_bench", HERE / "main.rt.txt")
         for case in CASES:
             if case.__name__ in names:
                 right = timed(place, program, case) and right
