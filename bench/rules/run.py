@@ -35,7 +35,7 @@ def assignments(n):
 
 
 def blocks(n):
-    """Functions in layers of n/8, as many as a chain of calls may have, each of which calls four of the layer behind its own."""
+    """Functions in layers of n/8, as many as a chain of calls may have, each of which calls four of the layer after its own."""
     wide = n // LAYERS
     text = []
     for k in range(n):
