@@ -1,6 +1,6 @@
 use Rattle.pv_tree.specs.View.{instr_tree, operand_tree}
-use Rattle.pv_program.proofs.Deeds.{loads-by, transfers-by}
-use Rattle.pv_program.proofs.deed.moved.Goals as goal
+use Rattle.pv_program.proofs.Actions.{loads-by, transfers-by}
+use Rattle.pv_program.proofs.action.moved.Goals as goal
 
 pub returns-in-None-clause-is : goal.returns-in-None-clause-is
 returns-in-None-clause-is c = λ source targets room is e t.

@@ -4,10 +4,10 @@ use Rattle.pv_mean.specs.Sources.{Source}
 use Rattle.pv_mean.specs.Frames.{Frame}
 use Rattle.pv_mean.specs.Spots.{Spot, write_spot}
 use Rattle.pv_mean.specs.Values.{number_of}
-use Rattle.pv_stl_run.specs.declared.instr.Deed.{Deed}
-use Rattle.pv_stl_run.specs.declared.instr.Deed.TheVariants.{Call}
+use Rattle.pv_stl_run.specs.declared.instr.Action.{Action}
+use Rattle.pv_stl_run.specs.declared.instr.Action.TheVariants.{Call}
 
-abbrev pub call_of : Deed → Option ℕ
+abbrev pub call_of : Action → Option ℕ
 call_of (Call n) = Some n
 call_of other = None
 

@@ -1,6 +1,6 @@
 use Rattle.pv_tree.specs.View.{instr_tree}
-use Rattle.pv_program.proofs.Deeds.{jumps-by}
-use Rattle.pv_program.proofs.deed.jump.Goals as goal
+use Rattle.pv_program.proofs.Actions.{jumps-by}
+use Rattle.pv_program.proofs.action.jump.Goals as goal
 
 pub returns-in_ok-goal-in-Some-clause-is : goal.returns-in_ok-goal-in-Some-clause-is
 returns-in_ok-goal-in-Some-clause-is c = λ source block targets room h.

@@ -5,7 +5,7 @@ use Rattle.pv_resolve.specs.Contexts.{block_in}
 use Rattle.pv_stl_run.specs.Code.{changes}
 use Rattle.pv_program.specs.Rows.{ChangesBy}
 use Rattle.pv_program.proofs.Growing.{extends-same}
-use Rattle.pv_program.proofs.deed.other_deed.Goals as goal
+use Rattle.pv_program.proofs.action.other_action.Goals as goal
 
 pub returns-in-Some : goal.returns-in-Some
 returns-in-Some c = record {
@@ -15,9 +15,9 @@ returns-in-Some c = record {
   leads = λ all k i. tt;
 }
 
-pub returns-in_ok-deed-in-None : goal.returns-in_ok-deed-in-None
-returns-in_ok-deed-in-None c = record {
-  grows = c.in_ok-deed-in-None.ensures.grows;
-  is = c.in_ok-deed-in-None.ensures.is;
-  leads = c.in_ok-deed-in-None.ensures.leads;
+pub returns-in_ok-action-in-None : goal.returns-in_ok-action-in-None
+returns-in_ok-action-in-None c = record {
+  grows = c.in_ok-action-in-None.ensures.grows;
+  is = c.in_ok-action-in-None.ensures.is;
+  leads = c.in_ok-action-in-None.ensures.leads;
 }

@@ -1,4 +1,4 @@
-//! What instructions do: their deeds, with the numbers of their targets and calls in the program.
+//! What instructions do: their actions, with the numbers of their targets and calls in the program.
 ghost use Rattle.std.specs.Prelude.{◌≡◌, ◌<◌, ◌^◌, ℕ, List, None, Some, IfOk, IfSome, OnOk, length, option_map, pos, unsigned_abs, unwrap_or};
 ghost use Rattle.pv_word.specs.Types.{pattern_of};
 ghost use Rattle.pv_tree.specs.Literals.{type_alone};
@@ -6,12 +6,12 @@ ghost use Rattle.pv_tree.specs.Tree.{BlockTree, InstrTree};
 ghost use Rattle.pv_tree.specs.View.{instr_tree, operand_tree};
 ghost use Rattle.pv_mean.specs.Sources.{Source};
 ghost use Rattle.pv_eval.specs.declared.target.Target.{Target};
-ghost use Rattle.pv_stl_run.specs.Code.{IsTarget, IsDeed, HasType};
+ghost use Rattle.pv_stl_run.specs.Code.{IsTarget, IsAction, HasType};
 ghost use Rattle.pv_resolve.specs.Contexts.{IsContext, block_in};
 ghost use Rattle.pv_program.specs.Growth.{Extends};
 ghost use Rattle.pv_program.specs.Rows.{ChangesBy, WordJumps};
 ghost use Rattle.pv_program.specs.Labels.{FindsLabels};
-ghost use Rattle.pv_program.specs.Bodies.{LeadsSo, IsMadeDeed};
+ghost use Rattle.pv_program.specs.Bodies.{LeadsSo, IsMadeAction};
 
 use crate::call::add_placed_call;
 use crate::label::{Labels, goal_of, label_of};
@@ -21,7 +21,7 @@ use pv_eval::pattern;
 use pv_names::{how_of, own_type};
 use pv_resolve::{Context, ResolveFault};
 use pv_run::Program;
-use pv_stl_run::{Change, Deed, When};
+use pv_stl_run::{Action, Change, When};
 use pv_tree::{Instr, Op, Operand};
 use pv_types::Literal;
 use pv_word::Ty;
@@ -143,22 +143,22 @@ fn moved(
     instr: &Instr,
     operand: &Operand,
     n: u32,
-) -> Result<Deed, ResolveFault>
+) -> Result<Action, ResolveFault>
     ensures is { (source : Source) (targets : List Target) (room : ℕ) → IsContext context.now source
         → (instr_tree instr.now).operand ≡ Some (operand_tree operand.now)
         → IsTarget source (block_in context.now) targets room n (operand_tree operand.now)
         → IfOk result
-        (λ d. IsDeed source (block_in context.now) targets room d (instr_tree instr.now)) }
+        (λ d. IsAction source (block_in context.now) targets room d (instr_tree instr.now)) }
     ensures leads { (all : List InstrTree) (k : ℕ) (i : InstrTree)
         → IfOk result (λ d. LeadsSo all k i d) }
 {
     let ty = operand_type(alloc, context, operand)?;
     match instr.op {
         Op::L => match &instr.literal {
-            None => Ok(Deed::Load(ty, n)),
+            None => Ok(Action::Load(ty, n)),
             Some(_) => Err(ResolveFault::TooLarge),
         },
-        Op::T => Ok(Deed::Transfer(ty, n)),
+        Op::T => Ok(Action::Transfer(ty, n)),
         _ => Err(ResolveFault::TooLarge),
     }
 }
@@ -170,27 +170,27 @@ fn on_operand(
     program: &mut Program,
     instr: &Instr,
     operand: &Operand,
-) -> Result<Deed, ResolveFault>
+) -> Result<Action, ResolveFault>
     ensures grows { OnOk result (Extends program.old program.new) }
     ensures is { (source : Source) → IsContext context.now source
         → (instr_tree instr.now).operand ≡ Some (operand_tree operand.now)
-        → IfOk result (λ d. IsDeed source (block_in context.now) program.new.targets.items
+        → IfOk result (λ d. IsAction source (block_in context.now) program.new.targets.items
         program.new.scratch d (instr_tree instr.now)) }
     ensures leads { (all : List InstrTree) (k : ℕ) (i : InstrTree)
         → IfOk result (λ d. LeadsSo all k i d) }
 {
     let n = add_target(alloc, context, program, operand)?;
     if let Some(junction) = joined(instr.op) {
-        return Ok(Deed::Join(junction, n));
+        return Ok(Action::Join(junction, n));
     }
     if let Some(what) = written(instr.op) {
-        return Ok(Deed::Write(what, n));
+        return Ok(Action::Write(what, n));
     }
     if let Some(rising) = edge(instr.op) {
-        return Ok(Deed::Edge(rising, n));
+        return Ok(Action::Edge(rising, n));
     }
-    let deed = moved(alloc, context, instr, operand, n)?;
-    Ok(deed)
+    let action = moved(alloc, context, instr, operand, n)?;
+    Ok(action)
 }
 
 /// What an instruction does with its operand, which it has to have.
@@ -199,76 +199,76 @@ fn with_operand(
     context: &Context,
     program: &mut Program,
     instr: &Instr,
-) -> Result<Deed, ResolveFault>
+) -> Result<Action, ResolveFault>
     ensures grows { OnOk result (Extends program.old program.new) }
     ensures is { (source : Source) → IsContext context.now source
-        → IfOk result (λ d. IsDeed source (block_in context.now) program.new.targets.items
+        → IfOk result (λ d. IsAction source (block_in context.now) program.new.targets.items
         program.new.scratch d (instr_tree instr.now)) }
     ensures leads { (all : List InstrTree) (k : ℕ) (i : InstrTree)
         → IfOk result (λ d. LeadsSo all k i d) }
 {
     match &instr.operand {
         Some(operand) => {
-            let deed = on_operand(alloc, context, program, instr, operand)?;
-            Ok(deed)
+            let action = on_operand(alloc, context, program, instr, operand)?;
+            Ok(action)
         }
         None => Err(ResolveFault::TooLarge),
     }
 }
 
 /// What an instruction does that neither jumps nor ends the block nor calls.
-fn other_deed(
+fn other_action(
     alloc: Global,
     context: &Context,
     program: &mut Program,
     instr: &Instr,
-) -> Result<Deed, ResolveFault>
+) -> Result<Action, ResolveFault>
     ensures grows { OnOk result (Extends program.old program.new) }
     ensures is { (source : Source) → IsContext context.now source
-        → IfOk result (λ d. IsDeed source (block_in context.now) program.new.targets.items
+        → IfOk result (λ d. IsAction source (block_in context.now) program.new.targets.items
         program.new.scratch d (instr_tree instr.now)) }
     ensures leads { (all : List InstrTree) (k : ℕ) (i : InstrTree)
         → IfOk result (λ d. LeadsSo all k i d) }
 {
     let made = change_of(instr)?;
     match made {
-        Some(change) => Ok(Deed::Change(change)),
+        Some(change) => Ok(Action::Change(change)),
         None => {
-            let deed = with_operand(alloc, context, program, instr)?;
-            Ok(deed)
+            let action = with_operand(alloc, context, program, instr)?;
+            Ok(action)
         }
     }
 }
 
 /// A jump to the label that it names.
-fn jump(labels: &Labels, k: usize, instr: &Instr, test: When) -> Result<Deed, ResolveFault>
+fn jump(labels: &Labels, k: usize, instr: &Instr, test: When) -> Result<Action, ResolveFault>
     ensures is { (source : Source) (block : BlockTree) (targets : List Target) (room : ℕ)
         → WordJumps instr.now.op test
-        → IfOk result (λ d. IsDeed source block targets room d (instr_tree instr.now)) }
+        → IfOk result (λ d. IsAction source block targets room d (instr_tree instr.now)) }
     ensures leads { (all : List InstrTree) → FindsLabels labels.now.at all → length all < 2 ^ 32
         → IfOk result (λ d. LeadsSo all k (instr_tree instr.now) d) }
 {
     match label_of(instr) {
         Some(label) => {
             let goal = goal_of(labels, k, label.name)?;
-            Ok(Deed::Jump(test, goal))
+            Ok(Action::Jump(test, goal))
         }
         None => Err(ResolveFault::TooLarge),
     }
 }
 
 /// What an instruction does that isn't a call.
-fn deed_alone(
+fn action_alone(
     alloc: Global,
     context: &Context,
     program: &mut Program,
     labels: &Labels,
     k: usize,
     instr: &Instr,
-) -> Result<Deed, ResolveFault>
+) -> Result<Action, ResolveFault>
     ensures grows { OnOk result (Extends program.old program.new) }
     ensures is { (source : Source) → IsContext context.now source
-        → IfOk result (λ d. IsDeed source (block_in context.now) program.new.targets.items
+        → IfOk result (λ d. IsAction source (block_in context.now) program.new.targets.items
         program.new.scratch d (instr_tree instr.now)) }
     ensures leads { (all : List InstrTree) → FindsLabels labels.now.at all → length all < 2 ^ 32
         → IfOk result (λ d. LeadsSo all k (instr_tree instr.now) d) }
@@ -280,33 +280,33 @@ fn deed_alone(
     if let Some(ending) = end(instr.op) {
         return Ok(ending);
     }
-    let deed = other_deed(alloc, context, program, instr)?;
-    Ok(deed)
+    let action = other_action(alloc, context, program, instr)?;
+    Ok(action)
 }
 
 /// What an instruction does at a position.
-pub(crate) fn deed_of(
+pub(crate) fn action_of(
     alloc: Global,
     context: &Context,
     program: &mut Program,
     labels: &Labels,
     k: usize,
     instr: &Instr,
-) -> Result<Deed, ResolveFault>
+) -> Result<Action, ResolveFault>
     ensures grows { OnOk result (Extends program.old program.new) }
     ensures made { (source : Source) (all : List InstrTree) → IsContext context.now source
         → FindsLabels labels.now.at all → length all < 2 ^ 32
-        → IfOk result (λ d. IsMadeDeed source (block_in context.now) program.new all k
+        → IfOk result (λ d. IsMadeAction source (block_in context.now) program.new all k
         (instr_tree instr.now) d) }
 {
     match &instr.call {
         Some(call) => {
             let made = add_placed_call(alloc, context, how_of(instr.op), call, program)?;
-            Ok(Deed::Call(made))
+            Ok(Action::Call(made))
         }
         None => {
-            let deed = deed_alone(alloc, context, program, labels, k, instr)?;
-            Ok(deed)
+            let action = action_alone(alloc, context, program, labels, k, instr)?;
+            Ok(action)
         }
     }
 }

@@ -1,6 +1,6 @@
 use Rattle.pv_tree.specs.View.{instr_tree, operand_tree}
-use Rattle.pv_program.proofs.Deeds.{taken-of, joins-by, writes-by, edges-by}
-use Rattle.pv_program.proofs.deed.on_operand.Goals as goal
+use Rattle.pv_program.proofs.Actions.{taken-of, joins-by, writes-by, edges-by}
+use Rattle.pv_program.proofs.action.on_operand.Goals as goal
 
 pub returns-in-Some : goal.returns-in-Some
 returns-in-Some c = record {
@@ -32,6 +32,6 @@ returns-in-Some-edge c = record {
 pub returns : goal.returns
 returns c = record {
   grows = c.in_ok-n.ensures.grows;
-  is = λ source is e. c.in_ok-deed.ensures.is source _ _ is e (taken-of (c.in_ok-n.ensures.means source is));
-  leads = c.in_ok-deed.ensures.leads;
+  is = λ source is e. c.in_ok-action.ensures.is source _ _ is e (taken-of (c.in_ok-n.ensures.means source is));
+  leads = c.in_ok-action.ensures.leads;
 }

@@ -2,7 +2,7 @@ use Rattle.std.proofs.Common.{refl}
 use Rattle.pv_tree.specs.View.{instr_tree}
 use Rattle.pv_resolve.specs.Contexts.{block_in}
 use Rattle.pv_program.proofs.Growing.{extends-same}
-use Rattle.pv_program.proofs.deed.deed_alone.Goals as goal
+use Rattle.pv_program.proofs.action.action_alone.Goals as goal
 
 pub returns-in-Some : goal.returns-in-Some
 returns-in-Some c = record {
@@ -20,7 +20,7 @@ returns-in-Some-end c = record {
 
 pub returns : goal.returns
 returns c = record {
-  grows = c.in_ok-deed.ensures.grows;
-  is = c.in_ok-deed.ensures.is;
-  leads = λ all finds short. c.in_ok-deed.ensures.leads all c.args.k (instr_tree c.args.instr.now);
+  grows = c.in_ok-action.ensures.grows;
+  is = c.in_ok-action.ensures.is;
+  leads = λ all finds short. c.in_ok-action.ensures.leads all c.args.k (instr_tree c.args.instr.now);
 }
