@@ -11,8 +11,8 @@ ghost use Rattle.pv_parse.specs.DeclStack.{words_in, words_on, body_in, body_on}
 ghost use Rattle.pv_parse.specs.InstrStack.{instrs_of, instrs_on, last_word, front_on};
 ghost use Rattle.pv_parse_instr.specs.Fronts.{front_tree};
 
-use pv_place::Place;
 use pv_parse::{CodeItem, DeclItem, Item, Sliced, Stop, mistyped, pop_item, pop_token, push};
+use pv_place::Place;
 use pv_tree::{Body, CallTree, Instr};
 use pv_types::Name;
 use std::alloc::{AllocError, Global};

@@ -10,12 +10,12 @@ use crate::decl_texts::{section_of_word, type_alone, type_of_word};
 use crate::pops::{
     pop_around, pop_bounds, pop_fields, pop_name, pop_start, pop_typed, pop_word, pop_words, put,
 };
-use pv_place::Place;
 use pv_parse::{
     Bounds, DeclAction, DeclItem, Fields, Item, Stop, number_type, pop_path, pop_token, push,
     truth_of,
 };
 use pv_parse_stmt::pop_literal;
+use pv_place::Place;
 use pv_tree::Root;
 use pv_types::{DeclType, Literal, Name, Section, Var};
 use pv_word::Ty;

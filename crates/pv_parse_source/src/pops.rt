@@ -6,10 +6,10 @@ ghost use Rattle.pv_parse.specs.DeclItems.{decl_of, fields_tree, bounds_tree, he
 ghost use Rattle.pv_parse.specs.Items.{stack_of, item_of, decl, decl_in, decl_on, Pops, Finds};
 ghost use Rattle.pv_parse.specs.DeclStack.{word_on, name_in, name_on, words_in, words_on, around_in, around_on, fields_in, fields_on, typed_in, typed_on, start_in, start_on, bounds_in, bounds_on, heading_in, heading_on, body_in, body_on, values_in, values_on, blocks_in, blocks_on};
 
-use pv_place::Place;
 use pv_parse::{
     Bounds, DeclItem, Fields, Heading, Item, Stop, mistyped, pop_item, pop_path, push, word_in,
 };
+use pv_place::Place;
 use pv_tree::{Block, Body, Operand};
 use pv_types::{DeclType, Literal, Name, Section};
 use std::alloc::AllocError;

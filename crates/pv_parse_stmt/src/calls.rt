@@ -10,10 +10,10 @@ ghost use Rattle.pv_parse.specs.ExprDeeds.{rooted, stepped};
 ghost use Rattle.pv_parse.specs.CallDeeds.{name_of_root, is_hashed, field_of, base_of, plain_on, quoted_on, pair_on, hashed_name, second_name, named_on, first_argument_deed, next_argument_deed, no_argument_deed, alone_deed, call_of, call_deed, call_value_deed, expr_value_deed, call_action_deed};
 
 use crate::code_stack::{pop_args, pop_call};
-use pv_place::Place;
 use pv_parse::{
     CallAction, CodeItem, Item, Stop, Value, joined_name, pop_expr, pop_path, pop_token, push,
 };
+use pv_place::Place;
 use pv_tree::{Arg, CallTree, Expr, Operand, Root, Step};
 use pv_types::Name;
 use std::alloc::{AllocError, Global};

@@ -14,10 +14,10 @@ use crate::code_stack::{
     pop_stmt, pop_stmts, pop_value, pop_whole, with,
 };
 use crate::making::{case_of, if_of};
-use pv_place::Place;
 use pv_parse::{
     CodeItem, Item, StmtAction, Stop, Value, is_text, pop_expr, pop_path, pop_token, push,
 };
+use pv_place::Place;
 use pv_tree::{Choice, Expr, Operand, Stmt};
 use std::alloc::Global;
 
