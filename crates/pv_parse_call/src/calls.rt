@@ -10,11 +10,11 @@ ghost use Rattle.pv_parse.specs.ExprDeeds.{rooted, stepped};
 ghost use Rattle.pv_parse.specs.CallDeeds.{name_of_root, named_of, is_hashed, field_of, base_of, plain_on, quoted_on, pair_on, hashed_name, second_name, named_on, first_argument_deed, next_argument_deed, no_argument_deed, alone_deed, call_of, call_deed, call_value_deed, expr_value_deed, call_action_deed};
 
 use crate::parts::{pop_args, pop_call};
-use pv_place::Place;
 use pv_parse::{
     CallAction, CodeItem, Item, Stop, Value, added, joined_name, pop_expr, pop_path, pop_token,
     push, push_step, with,
 };
+use pv_place::Place;
 use pv_tree::{Arg, CallTree, Expr, Operand, Root, Step};
 use pv_types::Name;
 use std::alloc::{AllocError, Global};
@@ -249,7 +249,13 @@ fn alone(alloc: Global, stack: &mut Vec<Item>) -> Result<(), Stop>
 {
     let value = pop_expr(stack)?;
     let place = first_place(&value);
-    let args = vec![in alloc; Arg { name: None, value, place }]?;
+    let args = vec![in alloc;
+        Arg {
+            name: None,
+            value,
+            place
+        },
+    ]?;
     push(stack, Item::Code(CodeItem::Args(args)))?;
     Ok(())
 }
