@@ -131,18 +131,18 @@ pub fn pop_word(stack: &mut Vec<Item>) -> Result<(Name, Place), Stop>
 }
 
 /// Puts a path with one more step on the stack.
-pub fn push_step(path: Operand, step: Step, stack: &mut Vec<Item>) -> Result<(), Stop>
+pub fn push_step(from: Operand, step: Step, stack: &mut Vec<Item>) -> Result<(), Stop>
     ensures { Leaves result (stack_of stack.new) (Some
-        (path (stepped (path_tree path) (step_tree step)) ∷ stack_of stack.old)) }
+        (path (stepped (path_tree from) (step_tree step)) ∷ stack_of stack.old)) }
 {
-    let steps = added(path.steps, step);
-    let (root, steps) = with(path.root, steps)?;
+    let steps = added(from.steps, step);
+    let (root, steps) = with(from.root, steps)?;
     push(
         stack,
         Item::Path(Operand {
             root,
             steps,
-            place: path.place,
+            place: from.place,
         }),
     )?;
     Ok(())

@@ -1,6 +1,6 @@
 //! Values that are held while a call may fail: they are let go here, once for all types, so that no proof above writes out how a
 //! tree is let go.
-ghost use Rattle.std.specs.Prelude.{◌≡◌, ◌×◌, ◌++◌, ◌∷◌, [], Ok, Err, IfOk, MatchResult};
+ghost use Rattle.std.specs.Prelude.{◌≡◌, ◌++◌, ◌∷◌, [], Ok, Err, IfOk, MatchResult};
 
 use std::alloc::AllocError;
 
