@@ -1,5 +1,5 @@
-use Rattle.pv_parse_stmt.proofs.Bases.{last_step}
-use Rattle.pv_parse_stmt.proofs.calls.last_name.Goals as goal
+use Rattle.pv_parse_call.proofs.Bases.{last_step}
+use Rattle.pv_parse_call.proofs.calls.last_name.Goals as goal
 
 pub returns-in-Some : goal.returns-in-Some
 returns-in-Some c =

@@ -7,11 +7,12 @@ ghost use Rattle.pv_tree.specs.View.{expr_tree, step_tree, arg_tree, call_tree};
 ghost use Rattle.pv_parse.specs.CodeItems.{arg_list};
 ghost use Rattle.pv_parse.specs.Items.{stack_of, path, path_tree, token_on, path_on, Leaves, Pops};
 ghost use Rattle.pv_parse.specs.ExprDeeds.{rooted, stepped};
-ghost use Rattle.pv_parse.specs.CallDeeds.{name_of_root, is_hashed, field_of, base_of, plain_on, quoted_on, pair_on, hashed_name, second_name, named_on, first_argument_deed, next_argument_deed, no_argument_deed, alone_deed, call_of, call_deed, call_value_deed, expr_value_deed, call_action_deed};
+ghost use Rattle.pv_parse.specs.CallDeeds.{name_of_root, named_of, is_hashed, field_of, base_of, plain_on, quoted_on, pair_on, hashed_name, second_name, named_on, first_argument_deed, next_argument_deed, no_argument_deed, alone_deed, call_of, call_deed, call_value_deed, expr_value_deed, call_action_deed};
 
-use crate::code_stack::{pop_args, pop_call};
+use crate::parts::{pop_args, pop_call};
 use pv_parse::{
-    CallAction, CodeItem, Item, Stop, Value, joined_name, pop_expr, pop_path, pop_token, push,
+    CallAction, CodeItem, Item, Stop, Value, added, joined_name, pop_expr, pop_path, pop_token,
+    push, push_step, with,
 };
 use pv_place::Place;
 use pv_tree::{Arg, CallTree, Expr, Operand, Root, Step};
@@ -51,7 +52,7 @@ fn push_hashed(alloc: Global, name: Name, at: Place, stack: &mut Vec<Item>) -> R
     ensures { Leaves result (stack_of stack.new) (option_and_then (λ hash. Some
         (path (rooted (Local name true at) hash.0.place) ∷ hash.1)) (token_on (stack_of stack.old))) }
 {
-    let hash = pop_token(stack)?;
+    let (name, hash) = with(name, pop_token(stack))?;
     let root = Root::Local {
         name,
         hash: true,
@@ -73,11 +74,9 @@ fn push_second(name: Name, at: Place, stack: &mut Vec<Item>) -> Result<(), Stop>
     ensures { Leaves result (stack_of stack.new) (option_and_then (λ dot. option_and_then (λ p. Some
         (path (stepped p.0 (field name at)) ∷ p.1)) (path_on dot.1)) (token_on (stack_of stack.old))) }
 {
-    let _dot = pop_token(stack)?;
-    let mut path = pop_path(stack)?;
-    path.steps.push(Step::Field(name, at))?;
-    push(stack, Item::Path(path))?;
-    Ok(())
+    let (name, _dot) = with(name, pop_token(stack))?;
+    let (name, path) = with(name, pop_path(stack))?;
+    push_step(path, Step::Field(name, at), stack)
 }
 
 /// A word behind `#`.
@@ -129,7 +128,7 @@ fn numbered_second(alloc: Global, stack: &mut Vec<Item>) -> Result<(), Stop>
 }
 
 /// The name with which a path begins, with its own place; an address has none, and never stands for one.
-pub fn root_name(alloc: Global, root: Root, place: Place) -> Result<(Name, Place), AllocError>
+fn root_name(alloc: Global, root: Root, place: Place) -> Result<(Name, Place), AllocError>
     ensures { IfOk result (λ name. name ≡ name_of_root root place) }
 {
     match root {
@@ -144,6 +143,14 @@ pub fn root_name(alloc: Global, root: Root, place: Place) -> Result<(Name, Place
             Ok((name, place))
         }
     }
+}
+
+/// The same of the whole path.
+pub fn path_name(alloc: Global, path: Operand) -> Result<(Name, Place), AllocError>
+    ensures { IfOk result (λ name. name ≡ named_of (path_tree path)) }
+{
+    drop(path.steps);
+    root_name(alloc, path.root, path.place)
 }
 
 /// Whether `#` stands before it.
@@ -182,9 +189,9 @@ fn pop_named(alloc: Global, stack: &mut Vec<Item>) -> Result<Arg, Stop>
     ensures { Pops arg_tree result (stack_of stack.new) (named_on (stack_of stack.old)) }
 {
     let value = pop_expr(stack)?;
-    let sign = pop_token(stack)?;
-    let word = pop_path(stack)?;
-    let name = root_name(alloc, word.root, word.place)?;
+    let (value, sign) = with(value, pop_token(stack))?;
+    let (value, word) = with(value, pop_path(stack))?;
+    let (value, name) = with(value, path_name(alloc, word))?;
     Ok(Arg {
         name: Some(name),
         value,
@@ -197,8 +204,7 @@ fn first_argument(alloc: Global, stack: &mut Vec<Item>) -> Result<(), Stop>
     ensures { Leaves result (stack_of stack.new) (first_argument_deed (stack_of stack.old)) }
 {
     let arg = pop_named(alloc, stack)?;
-    let mut args = Vec::with_capacity(alloc, 1)?;
-    args.push(arg)?;
+    let args = vec![in alloc; arg]?;
     push(stack, Item::Code(CodeItem::Args(args)))?;
     Ok(())
 }
@@ -208,9 +214,9 @@ fn next_argument(alloc: Global, stack: &mut Vec<Item>) -> Result<(), Stop>
     ensures { Leaves result (stack_of stack.new) (next_argument_deed (stack_of stack.old)) }
 {
     let arg = pop_named(alloc, stack)?;
-    let _comma = pop_token(stack)?;
-    let mut args = pop_args(stack)?;
-    args.push(arg)?;
+    let (arg, _comma) = with(arg, pop_token(stack))?;
+    let (arg, args) = with(arg, pop_args(stack))?;
+    let args = added(args, arg)?;
     push(stack, Item::Code(CodeItem::Args(args)))?;
     Ok(())
 }
@@ -243,12 +249,13 @@ fn alone(alloc: Global, stack: &mut Vec<Item>) -> Result<(), Stop>
 {
     let value = pop_expr(stack)?;
     let place = first_place(&value);
-    let mut args = Vec::with_capacity(alloc, 1)?;
-    args.push(Arg {
-        name: None,
-        value,
-        place,
-    })?;
+    let args = vec![in alloc;
+        Arg {
+            name: None,
+            value,
+            place
+        },
+    ]?;
     push(stack, Item::Code(CodeItem::Args(args)))?;
     Ok(())
 }
@@ -259,8 +266,10 @@ fn called(alloc: Global, path: Operand, args: Vec<Arg>) -> Result<CallTree, Allo
 {
     let place = path.place;
     let hash = hash_of(&path.root);
-    let (name, name_place) = root_name(alloc, path.root, place)?;
+    let name = root_name(alloc, path.root, place);
     let base = last_name(path.steps);
+    let (rest, (name, name_place)) = with((base, args), name)?;
+    let (base, args) = rest;
     Ok(CallTree {
         name,
         name_place,
@@ -277,8 +286,8 @@ fn call(alloc: Global, stack: &mut Vec<Item>) -> Result<(), Stop>
 {
     let _end = pop_token(stack)?;
     let args = pop_args(stack)?;
-    let _begin = pop_token(stack)?;
-    let path = pop_path(stack)?;
+    let (args, _begin) = with(args, pop_token(stack))?;
+    let (args, path) = with(args, pop_path(stack))?;
     let call = called(alloc, path, args)?;
     push(stack, Item::Code(CodeItem::Call(call)))?;
     Ok(())
