@@ -1,10 +1,13 @@
+-- A signed number is passed as its bits: that takes it back.
+use Rattle.std.proofs.Common.{refl}
+use Rattle.pv_gate.proofs.ForCallers.{passed}
 use Rattle.pv_contracts_gates.proofs.frames.push_step.Goals as goal
 
 pub returns-clause-ok : goal.returns-clause-ok
-returns-clause-ok g c = c.push_step.ensures.ok
+returns-clause-ok g c = rw (passed c.args.fail _ c.ranges.fail refl) at c.push_step.ensures.ok
 
 pub returns-clause-err : goal.returns-clause-err
-returns-clause-err g c = c.push_step.ensures.err
+returns-clause-err g c = rw (passed c.args.fail _ c.ranges.fail refl) at c.push_step.ensures.err
 
 pub returns-clause-in_range : goal.returns-clause-in_range
 returns-clause-in_range g c = c.push_step.ensures.in_range

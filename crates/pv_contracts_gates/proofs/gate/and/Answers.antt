@@ -1,22 +1,25 @@
+-- A signed number is passed as its bits: that takes it back.
+use Rattle.std.proofs.Common.{refl}
+use Rattle.pv_gate.proofs.ForCallers.{passed}
 use Rattle.pv_contracts_gates.proofs.gate.and.Goals as goal
 
 pub returns-clause-literal : goal.returns-clause-literal
-returns-clause-literal c = c.and.ensures.literal
+returns-clause-literal c = rw (passed c.args.a _ c.ranges.a refl, passed c.args.b _ c.ranges.b refl) at c.and.ensures.literal
 
 pub returns-clause-nodes : goal.returns-clause-nodes
-returns-clause-nodes c = c.and.ensures.nodes
+returns-clause-nodes c = rw (passed c.args.a _ c.ranges.a refl, passed c.args.b _ c.ranges.b refl) at c.and.ensures.nodes
 
 pub returns-clause-limit : goal.returns-clause-limit
-returns-clause-limit c = c.and.ensures.limit
+returns-clause-limit c = rw (passed c.args.a _ c.ranges.a refl, passed c.args.b _ c.ranges.b refl) at c.and.ensures.limit
 
 pub returns-clause-err : goal.returns-clause-err
 returns-clause-err c = c.and.ensures.err
 
 pub returns-clause-built : goal.returns-clause-built
-returns-clause-built c = c.and.ensures.built
+returns-clause-built c = rw (passed c.args.a _ c.ranges.a refl, passed c.args.b _ c.ranges.b refl) at c.and.ensures.built
 
 pub returns-clause-value : goal.returns-clause-value
-returns-clause-value c = c.and.ensures.value
+returns-clause-value c = rw (passed c.args.a _ c.ranges.a refl, passed c.args.b _ c.ranges.b refl) at c.and.ensures.value
 
 pub returns-clause-names : goal.returns-clause-names
 returns-clause-names c = c.and.ensures.names
