@@ -1,6 +1,6 @@
 //! Expressions over the names of a block of a checked project, each with its type or with the first rule that it breaks and the place,
 //! worked out by hand from the rules of the language.
-use crate::pattern_rows::name_of;
+use crate::type_rows::name_of;
 use pv_lex::{Language, MAX_SOURCE, tokens};
 use pv_rules::{check, has_no_instructions};
 use pv_rules_decl::{RuleFault, check_expression};

@@ -1,10 +1,10 @@
 //! Patterns, each with what is answered: the cells that it reads behind whether it holds at a scan with the beginning and the end of
-//! `source`, where the scan before left a mark; or the expression that is at fault, and how. In a row the kind stands first, then the
+//! `pattern_source`, where the scan before left a mark; or the expression that is at fault, and how. In a row the kind stands first, then the
 //! texts, with `~` between them, and behind the last `@` what is answered.
 ghost use Rattle.std.specs.Prelude.{All, IsTrue};
 ghost use Rattle.pv_pattern.specs.Terms.{IsStored};
 
-use crate::source::{BEGIN, DATA, DEMO, END, OB1, bytes, project};
+use crate::pattern_source::{BEGIN, DATA, DEMO, END, OB1, bytes, project};
 use pv_lex::MAX_SOURCE;
 use pv_pattern::Pattern;
 use pv_pattern_read::{PatternFault, PatternKind, count, read};

@@ -1,19 +1,20 @@
 //! Rows, run scan by scan.
 //!
 //! A row has these parts, with `~` between them: its name; the number of the entered block and the loop bound; what the case says of
-//! inputs, by the numbers of their cells, `0` for a parameter and `0=5` for one that is bound; the symbols; the source; and the steps,
-//! with `;` between them. A step is one of these.
+//! inputs, by the numbers of their cells, `0` for a parameter and `0=5` for one that is bound; the symbols; the source, blocks of STL and
+//! behind `$` some of SCL; and the steps, with `;` between them. A step is one of these.
 //!
 //! - `start` with the parameters' values; `image` with the values that are stored.
 //! - The input, `=`, and the scan's end: the visible cells' values, or what stops it with a mark that stands at its place in the source.
 //! - `begin` and `end` with the visible cells' values at the last scan's beginning, and at the end of the last one that was done.
 ghost use Rattle.std.specs.Prelude.{◌<◌, All, IsTrue, length};
 
-use crate::reading::{FILE, project_of, unmarked};
+use crate::reading::{both_of, symbols_of, unmarked};
 use pv_cells::Table;
 use pv_mean::CaseView;
 use pv_program::make;
 use pv_replay::{Replay, ScanEnd};
+use pv_rules::check;
 use pv_tree::Project;
 use std::alloc::{AllocError, Global};
 use std::test::Fail;
@@ -107,17 +108,16 @@ fn fits(view: &CaseView, len: usize) -> bool
         && view.bound.iter().all(|b| (b.0 as usize) < len)
 }
 
-/// The place that a mark shows: how many bytes of the source stand before it.
+/// The place that a mark shows: how many bytes stand before it of those in its language.
 fn offset_of(alloc: Global, source: &str, mark: &str) -> Result<usize, AllocError> {
     let parts = match mark {
         "^" => source.split_once('^'),
         "!" => source.split_once('!'),
         _ => source.split_once('?'),
     };
-    match parts {
-        Some((front, _)) => Ok(unmarked(alloc, front)?.len()),
-        None => Ok(0),
-    }
+    let (front, _) = parts.unwrap_or(("", ""));
+    let (_, front) = front.split_once('$').unwrap_or(("", front));
+    Ok(unmarked(alloc, front)?.len())
 }
 
 /// What a scan has to be answered with.
@@ -126,7 +126,7 @@ fn wanted_of(alloc: Global, source: &str, wanted: &str) -> Result<String, AllocE
         Some((word, "^" | "!" | "?")) => {
             let (_, mark) = wanted.split_once(' ').unwrap_or((wanted, ""));
             let offset = offset_of(alloc, source, mark)?;
-            format!(in alloc; "{word} {FILE}:{offset}")
+            format!(in alloc; "{word} {offset}")
         }
         _ => String::from_str(alloc, wanted),
     }
@@ -137,12 +137,12 @@ fn answered(alloc: Global, replay: &Replay<'_>, end: ScanEnd) -> Result<String, 
     match end {
         ScanEnd::Done => shown(alloc, replay.end()),
         ScanEnd::Trap(kind, place) => {
-            let (file, offset) = (place.file, place.offset);
-            format!(in alloc; "{kind:?} {file}:{offset}")
+            let offset = place.offset;
+            format!(in alloc; "{kind:?} {offset}")
         }
         ScanEnd::Over(place) => {
-            let (file, offset) = (place.file, place.offset);
-            format!(in alloc; "Over {file}:{offset}")
+            let offset = place.offset;
+            format!(in alloc; "Over {offset}")
         }
     }
 }
@@ -242,9 +242,11 @@ fn of_row(alloc: Global, text: &str) -> Result<Option<String>, Fail> {
     let Some(row) = row_of(text) else {
         return Ok(Some(String::from_str(alloc, "no row")?));
     };
-    match project_of(alloc, row.symbols, row.source)? {
-        Some(project) => of_project(alloc, &row, &project),
-        None => Ok(Some(String::from_str(alloc, "no project")?)),
+    let blocks = both_of(alloc, row.source)?;
+    let symbols = symbols_of(alloc, row.symbols)?;
+    match check(alloc, blocks, symbols) {
+        Ok(project) => of_project(alloc, &row, &project),
+        Err(_) => Ok(Some(String::from_str(alloc, "no project")?)),
     }
 }
 

@@ -4,8 +4,8 @@
 //! least place from the statement's beginning. `f` has the variables `i` and `j` of INT, `d` of DINT and `b` of BOOL and the constant
 //! `c`, 5; the function `g` has the input `p`, the output `q` and the VAR_IN_OUT `r`, each an INT.
 use pv_lex::{Language, MAX_SOURCE, tokens};
-use pv_place::Place;
 use pv_names::{Tables, entries};
+use pv_place::Place;
 use pv_rules_code::{
     fixed_output, fixed_target, outside_loop, wrong_argument, wrong_case, wrong_condition,
     wrong_counter, wrong_step,

@@ -1,6 +1,6 @@
 //! Bodies of STL with their instructions or faults, worked out by hand from the grammar and the table of instructions.
 
-use crate::show::{Shown, put_fault, put_instr};
+use crate::stl_show::{Shown, put_fault, put_instr};
 use pv_lex::{Language, MAX_SOURCE, tokens};
 use pv_stl_parse::parse;
 use pv_tree::Body;

@@ -1,6 +1,6 @@
 //! Instructions and blocks as the rows show them, with or without all places that a tree keeps.
 
-use crate::op_words::op_word;
+use crate::stl_words::op_word;
 use pv_place::Place;
 use pv_stl_parse::ParseFault;
 use pv_tree::{Arg, CallTree, Expr, Instr, Operand, Root, Step};

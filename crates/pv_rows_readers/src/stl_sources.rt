@@ -1,6 +1,6 @@
 //! Sources of STL with their blocks or faults, worked out by hand from the grammar, and nesting.
 
-use crate::show::{
+use crate::stl_show::{
     Shown, put, put_fault, put_instr, put_literal, put_name, put_operand, put_place, ty_word,
 };
 use pv_lex::{Language, MAX_SOURCE, tokens};
