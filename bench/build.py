@@ -1,5 +1,8 @@
-"""Builds a program over the repository's libraries in a folder outside the repository, whose own programs are in crates.txt."""
+"""Builds a program over the repository's libraries in a folder outside the repository, whose own programs are in crates.txt.
+
+The program stands on the libraries of the repository that its text names, and on anyhow."""
 import pathlib
+import re
 import shutil
 import subprocess
 import sys
@@ -11,20 +14,19 @@ def library_lines():
     """What crates.txt says of each library: its line, and the libraries that it uses."""
     lines = {}
     for line in (ROOT / "crates.txt").read_text().splitlines():
-        if not line.startswith("#"):
-            name, _, used = line.partition(":")
+        name, colon, used = line.partition("#")[0].partition(":")
+        if colon:
             lines[name] = (line, used.split())
     return lines
 
 
 def below(names, lines):
     """These libraries and those of the repository that they use, each once."""
-    found = []
+    found = {}
     for name in names:
-        for other in [*below(lines[name][1], lines), name] if name in lines else []:
-            if other not in found:
-                found.append(other)
-    return found
+        if name in lines and name not in found:
+            found |= dict.fromkeys([*below(lines[name][1], lines), name])
+    return list(found)
 
 
 def copy_proofs(text, crate):
@@ -36,23 +38,34 @@ def copy_proofs(text, crate):
         shutil.copy(file, copy)
 
 
-def built(place, name, text, libraries):
-    """The program of this name whose main.rt is the text, over these libraries and anyhow, with what lies in proofs/ beside it."""
+def copied(place, name, text):
+    """The folder of the crate of this name whose main.rt is the text, in a repository that is made in this place for it and the
+    libraries below."""
     place = pathlib.Path(place)
     lines = library_lines()
-    copied = below(libraries, lines)
-    for library in copied:
+    used = [library for library in lines if re.search(rf"\b{library}\b", pathlib.Path(text).read_text())]
+    libraries = below(used, lines)
+    for library in libraries:
         left_out = shutil.ignore_patterns("must-fail", "out")
         shutil.copytree(ROOT / "crates" / library, place / "crates" / library, ignore=left_out)
     shutil.copy(ROOT / "HANDLES", place)
-    own = f"{name}: anyhow {' '.join(libraries)}"
-    (place / "crates.txt").write_text("\n".join([*(lines[library][0] for library in copied), own]) + "\n")
+    own = f"{name}: anyhow {' '.join(used)}"
+    (place / "crates.txt").write_text("\n".join([*(lines[library][0] for library in libraries), own]) + "\n")
     crate = place / "crates" / name
     (crate / "src").mkdir(parents=True)
     shutil.copy(text, crate / "src" / "main.rt")
     copy_proofs(text, crate)
-    run = subprocess.run(["rt", "run"], cwd=crate, capture_output=True, text=True)
+    return crate
+
+
+def built(place, name, text):
+    """The program of this name whose main.rt is the text, proved."""
+    crate = copied(place, name, text)
+    # (rt takes the folder with .git for a repository's)
+    (pathlib.Path(place) / ".git").mkdir()
+    # It begins with what the gate has proved on this machine, and calls the program with no words, whatever that prints.
+    run = subprocess.run(["rt", "ci"], cwd=place, stdin=subprocess.DEVNULL, stdout=subprocess.PIPE, stderr=subprocess.STDOUT, text=True)
     program = crate / "out" / name
     if not program.exists():
-        sys.exit(run.stdout + run.stderr)
+        sys.exit(run.stdout)
     return program

@@ -3,7 +3,7 @@
 
 Looked at are README.md, docs/ and crates/*/README.md: the target of each link that isn't a web address, and each word in backticks
 that begins with a folder of the repository (`docs/..`, `tools/..`), or, in a crate's README, with a folder of the crate (`specs/..`).
-Words with NAME or CRATE in them, or a `*` or `..` at the end, are patterns and passed over. A name in parentheses behind a file,
+Words with NAME or CRATE in them, or a `*` or `..` at the end, are patterns and passed over. A name in parentheses after a file,
 `file` (`name`), has to occur in it. And the section 'Stands on' of a crate's README names what crates.txt lists for it.
 
 Usage: tools/check-files.py, anywhere. Each fault is a line on standard error, and the status is then 1."""

@@ -13,7 +13,7 @@ FORMATS = "docs/FORMATS.md"
 # what the schema can't say stands in such rows
 BEYOND = "(beyond the schema)"
 
-# the tables of pv_rows_readers, each with what stands before and behind its rows
+# the tables of pv_rows_readers, each with what stands before and after its rows
 ROWS = "crates/pv_rows_readers/src/"
 FRONT = '{"version":1,"name":"t",'
 ENTRY = '"entry":"Demo",'

@@ -2,7 +2,7 @@
 """Checks that the sessions in documents are what the program says.
 
 In a document, a block whose opening fence has two words, a kind and a name, is a file of that name; a block of the kind `console` is a
-session: each line with `$ ` in front is a command for the shell, and the lines behind it are all that it prints, standard error
+session: each line with `$ ` in front is a command for the shell, and the lines after it are all that it prints, standard error
 included. `echo $?` prints the status of the command before it. Each document's files and sessions are taken in order, in a new
 folder that has the repository's plcv, tools and examples.
 

@@ -6,14 +6,14 @@ crates/pv_stl_parse/grammar/stl.txt.
 
 The numbers of kinds, and the front that both share, up to the name FRONT, go to pv_parse; the rest and the table to the
 language's own crate. Each number, body and set is what tools/ll_table.py writes; this script only parts its lines by crate, and
-stops where the two files don't begin alike. Nothing of it is trusted. Run `rt fmt` in the crates behind it.
+stops where the two files don't begin alike. Nothing of it is trusted. Run `rt fmt` in the crates that it writes to.
 """
 import re
 import subprocess
 import sys
 
 SOURCE = "crates/pv_scl_parse/grammar/scl.txt"
-EXPRESSIONS, FRONT = "source", "body"  # the first name behind expressions, and the first of the language's own
+EXPRESSIONS, FRONT = "source", "body"  # the first name after expressions, and the first of the language's own
 
 
 class Language:

@@ -23,12 +23,12 @@ Words in braces say what is made along a walk, and may be left out in the whole 
 
 SORT is a term, the name's entry of NAME_sorts; where SHAPEs stand (terms too), NAME_takes and NAME_puts have for each name
 those that it takes off the top of the stack and those that it puts there, the top first, and none for a name without.
-ACTION is a variant of the crate's enum Action with its arguments behind it: `Link Op.Or` is `Action::Link(Op::Or)` in the
+ACTION is a variant of the crate's enum Action with its arguments after it: `Link Op.Or` is `Action::Link(Op::Or)` in the
 table and `Action.Link Op.Or` in the list NAME_actions; a body without one has `Keep`. The table then has the array ACTIONS,
 and a function NAME_actions, whose clause ties it to that list.
 
 The constants of NAME's alternatives, counted from 1, are NAME_1 (its number) and NAME_1_body, and so on. The lines of --spec
-and --lists go behind imports that are written by hand; --constants has its own.
+and --lists go after imports that are written by hand; --constants has its own.
 """
 import sys
 
@@ -46,7 +46,7 @@ def marked(text):
     front, mark = text.split("{", 1)
     words, rest = mark.split("}", 1)
     if rest.strip():
-        fail([f"{text.strip()}: words behind braces"])
+        fail([f"{text.strip()}: words after braces"])
     return front.split(), words.strip()
 
 
@@ -127,7 +127,7 @@ class Table:
             pass
 
     def next(self, after, body):
-        """The kinds that can come next before a body, where these kinds can come behind it."""
+        """The kinds that can come next before a body, where these kinds can come after it."""
         found = set()
         for word in body:
             if word not in self.rules:

@@ -12,4 +12,4 @@ from doubled import doubled  # noqa: E402
 
 n = int(sys.argv[1]) if len(sys.argv) > 1 else 1000000
 orders = ["random", "rising", "falling", "clauses"]
-doubled("base_bench", HERE / "program.txt", ["pv_gate", "pv_cnf"], n, orders, lambda order, count: [order, count])
+doubled("base_bench", HERE / "program.txt", n, orders, lambda order, count: [order, count])

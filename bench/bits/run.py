@@ -15,25 +15,13 @@ import tempfile
 HERE = pathlib.Path(__file__).resolve().parent
 sys.path.insert(0, str(HERE.parent))
 sys.dont_write_bytecode = True
-from build import ROOT, below, library_lines  # noqa: E402
-
-USED = ["pv_gate", "pv_word", "pv_bits"]
+from build import copied  # noqa: E402
 
 
 def output(place):
     """What the program prints."""
-    lines = library_lines()
-    copied = below(USED, lines)
-    for library in copied:
-        left_out = shutil.ignore_patterns("must-fail", "out")
-        shutil.copytree(ROOT / "crates" / library, place / "crates" / library, ignore=left_out)
-    shutil.copy(ROOT / "HANDLES", place)
-    own = f"bits_bench: anyhow {' '.join(USED)}"
-    (place / "crates.txt").write_text("\n".join([*(lines[library][0] for library in copied), own]) + "\n")
-    source = place / "crates" / "bits_bench" / "src"
-    source.mkdir(parents=True)
-    shutil.copy(HERE / "program.txt", source / "main.rt")
-    run = subprocess.run(["rt", "try", "--steps", "1000", "--seconds", "600"], cwd=source.parent, capture_output=True, text=True)
+    crate = copied(place, "bits_bench", HERE / "program.txt")
+    run = subprocess.run(["rt", "try", "--steps", "1000", "--seconds", "600"], cwd=crate, capture_output=True, text=True)
     return run.stdout
 
 

@@ -12,4 +12,4 @@ sys.dont_write_bytecode = True
 from doubled import doubled  # noqa: E402
 
 n = int(sys.argv[1]) if len(sys.argv) > 1 else 10000
-doubled("flatten_bench", HERE / "program.txt", ["pv_types", "pv_machine", "pv_word"], n, ["deep", "refused"], lambda case, count: [case, count])
+doubled("flatten_bench", HERE / "program.txt", n, ["deep", "refused"], lambda case, count: [case, count])

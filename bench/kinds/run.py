@@ -19,7 +19,7 @@ PATTERNS = {
 
 machine()
 with tempfile.TemporaryDirectory() as place:
-    program = built(place, "kinds_bench", HERE / "main.rt.txt", ["pv_lex", "pv_parse"])
+    program = built(place, "kinds_bench", HERE / "main.rt.txt")
     for name, pattern in PATTERNS.items():
         for size in (2_000_000, 4_000_000):
             run = subprocess.run([program, pattern, str(size), "5"], capture_output=True, text=True)

@@ -139,7 +139,7 @@ def main():
     os.environ["MALLOC_MMAP_THRESHOLD_"] = "65536"
     with tempfile.TemporaryDirectory() as folder:
         place = pathlib.Path(folder)
-        program = built(place, "lex_bench", HERE / "main.rt.txt", ["pv_lex"])
+        program = built(place, "lex_bench", HERE / "main.rt.txt")
         for name, pattern in HOSTILE.items():
             grown(program, name, pattern, n)
         if shutil.which("flex"):

@@ -16,7 +16,7 @@ from build import built  # noqa: E402
 
 def build(place):
     """The two programs."""
-    program = built(place, "log_bench", HERE / "program.txt", ["pv_cnf", "pv_log"])
+    program = built(place, "log_bench", HERE / "program.txt")
     plain = place / "plain"
     subprocess.run(["cc", "-O2", "-o", plain, HERE / "plain.c"], check=True)
     return {"plcv": program, "C": plain}

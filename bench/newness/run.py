@@ -37,7 +37,7 @@ def main():
     n = int(sys.argv[1]) if len(sys.argv) > 1 else 200_000
     machine()
     with tempfile.TemporaryDirectory() as folder:
-        program = built(folder, "newness_bench", HERE / "program.txt", ["pv_cnf", "pv_log"])
+        program = built(folder, "newness_bench", HERE / "program.txt")
         for name, few, many in (("1,000 variables", 1000, 1000), ("a quarter as many variables", n // 4, n // 2)):
             rows = [(count, *micros(program, count, variables)) for count, variables in ((n, few), (2 * n, many))]
             for count, new, follows, filing in rows:

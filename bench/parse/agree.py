@@ -48,7 +48,7 @@ def main():
     count = int(sys.argv[2]) if len(sys.argv) > 2 else 1000
     answers, wrong = collections.Counter(), 0
     with tempfile.TemporaryDirectory() as place:
-        program = built(place, "parse_bench", HERE / "main.rt.txt", ["pv_lex", "pv_parse", "pv_scl_parse", "pv_stl_parse"])
+        program = built(place, "parse_bench", HERE / "main.rt.txt")
         for _ in range(count):
             mode = rng.choice(["source", "source", "expression"])
             tokens, word, at = rng.choice([flat, deep])(rng, mode)

@@ -1,7 +1,7 @@
 """SCL by plain productions, as a manual has them: a recognizer of its texts (Earley's), and random texts of it.
 
 Nothing here is taken from the table that the readers use: no production is left-factored, priorities are one name each, and a token
-is told apart only by what the production asks for. A token is behind a mark where `#` or `.` stands directly before it."""
+is told apart only by what the production asks for. A token is after a mark where `#` or `.` stands directly before it."""
 import re
 
 PRODUCTIONS = """
@@ -105,7 +105,7 @@ def is_numbered(token):
 
 
 def serves(symbol, token, marked):
-    """Whether a token, behind a mark or not, is what the production asks for."""
+    """Whether a token, after a mark or not, is what the production asks for."""
     word = token.upper()
     match symbol:
         case "word":

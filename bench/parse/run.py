@@ -24,7 +24,7 @@ ORDINARY = "IF ready AND NOT fault THEN\n  motor := valve OR #pumps;\nEND_IF;\ns
 CODE = "FUNCTION f : VOID BEGIN NETWORK "
 
 # What is read (a source of a language, or an expression), what stands at the begin, what is repeated, what stands in the middle, what is
-# repeated behind it, what stands at the end, and how the answer begins.
+# repeated after it, what stands at the end, and how the answer begins.
 TEXTS = {
     "ordinary statements": ("scl", HEAD, ORDINARY, "", "", FOOT, "reads"),
     "assignments with names of five letters": ("scl", HEAD, "speed := level;\n", "", "", FOOT, "reads"),
@@ -101,7 +101,7 @@ def main():
     machine()
     wrong = False
     with tempfile.TemporaryDirectory() as place:
-        program = built(place, "parse_bench", HERE / "main.rt.txt", ["pv_lex", "pv_parse", "pv_scl_parse", "pv_stl_parse"])
+        program = built(place, "parse_bench", HERE / "main.rt.txt")
         for name in names:
             text = TEXTS[name]
             one, two = (measured([program, *words(mode_of(text), text, size)], runs=RUNS) for size in (n, 2 * n))

@@ -11,4 +11,4 @@ sys.dont_write_bytecode = True
 from doubled import doubled  # noqa: E402
 
 n = int(sys.argv[1]) if len(sys.argv) > 1 else 8000000
-doubled("recognize_bench", HERE / "main.rt.txt", ["pv_ll"], n, ["flat", "nested"], lambda shape, count: [count, shape])
+doubled("recognize_bench", HERE / "main.rt.txt", n, ["flat", "nested"], lambda shape, count: [count, shape])

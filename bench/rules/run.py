@@ -18,7 +18,6 @@ sys.dont_write_bytecode = True
 from build import built  # noqa: E402
 from measure import compare, machine, measured  # noqa: E402
 
-LIBRARIES = ["pv_lex", "pv_tree", "pv_scl_parse", "pv_rules_decl", "pv_rules"]
 RUNS = 10
 LAYERS = 8
 
@@ -36,7 +35,7 @@ def assignments(n):
 
 
 def blocks(n):
-    """Functions in layers of n/8, as many as a chain of calls may have, each of which calls four of the layer behind its own."""
+    """Functions in layers of n/8, as many as a chain of calls may have, each of which calls four of the layer after its own."""
     wide = n // LAYERS
     text = []
     for k in range(n):
@@ -104,7 +103,7 @@ def main():
     machine()
     right = True
     with tempfile.TemporaryDirectory() as place:
-        program = built(place, "rules_bench", HERE / "main.rt.txt", LIBRARIES)
+        program = built(place, "rules_bench", HERE / "main.rt.txt")
         for case, (n, less) in CASES.items():
             if case.__name__ in names:
                 right = timed(place, program, case, n) and right

@@ -1,7 +1,7 @@
 #!/usr/bin/env python3
 """Times the scans of four blocks of SCL and two of STL beside the same blocks written in C and compiled with gcc -O1, and at twice as many scans.
 
-Usage: run.py [name ..] (all of logic, arithmetic, arrays, calls, stl_logic, stl_arithmetic). Builds bench/scans/main.rt.txt over pv_replay in a temporary copy, and
+Usage: run.py [name ..] (all of logic, arithmetic, arrays, calls, stl_logic, stl_arithmetic). Builds bench/scans/main.rt.txt over pv_program in a temporary copy, and
 needs `rt` and `gcc`. Prints the assignments a second of both programs and how many times the C program's time the interpreter takes, each
 less the time of a run without scans; then time and memory at twice the scans. Ends with status 1 where the two come to different values."""
 import pathlib
@@ -16,7 +16,6 @@ sys.dont_write_bytecode = True
 from build import built  # noqa: E402
 from measure import compare, machine, measured  # noqa: E402
 
-LIBRARIES = ["pv_machine", "pv_lex", "pv_tree", "pv_scl_parse", "pv_stl_parse", "pv_rules", "pv_mean", "pv_table", "pv_replay", "pv_replay_make"]
 INPUTS = 8
 SIZE = 100
 SCANS = 50_000
@@ -172,7 +171,7 @@ def main():
     machine()
     right = True
     with tempfile.TemporaryDirectory() as place:
-        program = built(place, "scans_bench", HERE / "main.rt.txt", LIBRARIES)
+        program = built(place, "scans_bench", HERE / "main.rt.txt")
         for case in CASES:
             if case.__name__ in names:
                 right = timed(place, program, case) and right

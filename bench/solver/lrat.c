@@ -91,7 +91,7 @@ static const char *read_hints(FILE *file) {
     int is_false = 0, many;
     while (fscanf(file, "%ld", &hint) == 1) {
         if (hint == 0) return is_false ? NULL : "no clause became false";
-        if (is_false) return "a hint stands behind a false clause";
+        if (is_false) return "a hint stands after a false clause";
         if (hint < 0 || (size_t)hint >= count) return "a hint names no earlier clause";
         int left = left_of(hint, &many);
         if (!left) {

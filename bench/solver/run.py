@@ -149,7 +149,7 @@ def main():
     machine()
     with tempfile.TemporaryDirectory() as folder:
         place = pathlib.Path(folder)
-        program = built(place, "solver_bench", HERE / "program.txt", ["pv_cnf", "pv_log", "pv_solver"])
+        program = built(place, "solver_bench", HERE / "program.txt")
         plain = place / "lrat"
         subprocess.run(["cc", "-O2", "-o", plain, HERE / "lrat.c"], check=True)
         run_all((program, plain), place, seeds, sizes)

@@ -12,4 +12,4 @@ from doubled import doubled  # noqa: E402
 
 n = int(sys.argv[1]) if len(sys.argv) > 1 else 500000
 operations = ["sums", "products", "quotients"]
-doubled("words_bench", HERE / "program.txt", ["pv_gate", "pv_bits"], n, operations, lambda operation, count: [operation, count])
+doubled("words_bench", HERE / "program.txt", n, operations, lambda operation, count: [operation, count])
