@@ -3,7 +3,7 @@ use crate::settings::last;
 use crate::text::expanded;
 use std::alloc::{AllocError, Global};
 
-/// The members of each case. Of a doubled member the last one counts, so a row's own stand behind these.
+/// The members of each case. Of a doubled member the last one counts, so a row's own stand after these.
 const FRONT: &str =
     "{\"version\":1,\"name\":\"t\",\"sources\":[{\"file\":\"a.scl\",\"language\":\"scl\"}],\
 \"entry\":\"Demo\",\"loopBound\":16,\"depth\":3,\"lemmas\":100000,\"regionWords\":1000000,\"reduce\":[]";

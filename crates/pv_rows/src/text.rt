@@ -1,8 +1,8 @@
-//! Texts of the rows' file, in which an `@` with what stands behind it means something else.
+//! Texts of the rows' file, in which an `@` with what follows it means something else.
 use std::alloc::{AllocError, Global};
 
-/// The part of a row that has this number, from 0, without the blanks around it.
-fn part(row: &str, number: u8) -> &str {
+/// The field of a row that has this number, from 0, without the blanks around it.
+fn field(row: &str, number: u8) -> &str {
     for (i, text) in row.split('|').enumerate() {
         if i == usize::from(number) {
             return text.trim();
@@ -35,7 +35,7 @@ fn put_number(
     put_both(out, text.as_bytes(), rest)
 }
 
-/// Puts what stands behind an `@`, with what its first byte means. An unknown one is left as it is.
+/// Puts what follows an `@`, with what its first byte means. An unknown one is left as it is.
 fn put_code(alloc: Global, out: &mut Vec<u8>, piece: &[u8], turn: u32) -> Result<(), AllocError> {
     match piece {
         [b'a', rest @ ..] => put_both(out, b"@", rest),
@@ -52,8 +52,8 @@ fn put_code(alloc: Global, out: &mut Vec<u8>, piece: &[u8], turn: u32) -> Result
     }
 }
 
-/// Puts a part of a row, which has no parts itself.
-fn put_part(alloc: Global, out: &mut Vec<u8>, text: &str) -> Result<(), AllocError> {
+/// Puts a field of a row, which has no fields itself.
+fn put_field(alloc: Global, out: &mut Vec<u8>, text: &str) -> Result<(), AllocError> {
     for (i, piece) in text.split('@').enumerate() {
         if i == 0 {
             out.extend_from_slice(piece.as_bytes())?;
@@ -64,7 +64,7 @@ fn put_part(alloc: Global, out: &mut Vec<u8>, text: &str) -> Result<(), AllocErr
     Ok(())
 }
 
-/// Puts what stands behind an `@`: a part of the row, or what else its first byte means.
+/// Puts what follows an `@`: a field of the row, or what else its first byte means.
 fn put_piece(
     alloc: Global,
     out: &mut Vec<u8>,
@@ -74,7 +74,7 @@ fn put_piece(
 ) -> Result<(), AllocError> {
     match piece {
         [first, rest @ ..] if matches!(first, b'1'..=b'9') => {
-            put_part(alloc, out, part(row, digit(*first).saturating_sub(1)))?;
+            put_field(alloc, out, field(row, digit(*first).saturating_sub(1)))?;
             out.extend_from_slice(rest)?;
             Ok(())
         }
@@ -100,7 +100,7 @@ fn put(
     Ok(())
 }
 
-/// Puts what stands behind an `@*`: how many times, in parentheses what is repeated, and the rest.
+/// Puts what follows an `@*`: how many times, in parentheses what is repeated, and the rest.
 fn put_repeated(alloc: Global, out: &mut Vec<u8>, text: &str, row: &str) -> Result<(), AllocError> {
     let (times, more) = text.split_once('(').unwrap_or((text, ""));
     let (body, rest) = more.split_once("@)").unwrap_or((more, ""));

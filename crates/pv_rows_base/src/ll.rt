@@ -10,8 +10,8 @@ use pv_ll::{
 use std::alloc::{AllocError, Global};
 use std::test::Fail;
 
-/// Kinds of tokens, and behind the `>` where they have their fault: whole texts; a fault at the first token, at a later one, inside
-/// parentheses; an early end; more behind a whole text.
+/// Kinds of tokens, and after the `>` where they have their fault: whole texts; a fault at the first token, at a later one, inside
+/// parentheses; an early end; more after a whole text.
 const ROWS: &str = "\
 >-|\
 0 1 0 2>-|\

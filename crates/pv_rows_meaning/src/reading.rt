@@ -128,7 +128,7 @@ fn read_as(alloc: Global, language: Language, bytes: &[u8]) -> Result<Vec<Block>
     Ok(list)
 }
 
-/// The blocks of a source that has some of STL, and behind `$` some of SCL; without `$` all are of SCL.
+/// The blocks of a source that has some of STL, and after `$` some of SCL; without `$` all are of SCL.
 pub fn both_of(alloc: Global, source: &str) -> Result<Blocks, Fail> {
     let (stl, scl) = source.split_once('$').unwrap_or(("", source));
     let bytes = unmarked(alloc, stl)?;

@@ -2,7 +2,7 @@
 //!
 //! A row has these parts, with `~` between them: its name; the number of the entered block and the loop bound; what the case says of
 //! inputs, by the numbers of their cells, `0` for a parameter and `0=5` for one that is bound; the symbols; the source, blocks of STL and
-//! behind `$` some of SCL; and the steps, with `;` between them. A step is one of these.
+//! after `$` some of SCL; and the steps, with `;` between them. A step is one of these.
 //!
 //! - `start` with the parameters' values; `image` with the values that are stored.
 //! - The input, `=`, and the scan's end: the visible cells' values, or what stops it with a mark that stands at its place in the source.

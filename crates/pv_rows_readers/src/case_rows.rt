@@ -1,5 +1,5 @@
-//! Cases that read, with what they say. A row has members that stand behind those of the usual case, of which the last of one name
-//! counts, and behind ` > ` what the case says otherwise than the usual one. Cases that are refused are rows of `pv_rows`.
+//! Cases that read, with what they say. A row has members that stand after those of the usual case, of which the last of one name
+//! counts, and after ` > ` what the case says otherwise than the usual one. Cases that are refused are rows of `pv_rows`.
 use crate::case_says::answer;
 use std::test::Fail;
 
