@@ -60,6 +60,8 @@ check "a document tells of its making" is_nowhere '\<helpers?\>' '*.md' ':!docs/
 check "a document names a clause that isn't there" python3 tools/check-clauses.py
 check "a document names a file that isn't there" python3 tools/check-files.py
 check "a proof takes more of another crate's proofs than its module ForCallers" python3 tools/check-callers.py
+check "docs/ARCHITECTURE.md maps other crates than crates.txt lists" python3 tools/check-map.py
+check "a recipe leaves out a file that its change touches" python3 tools/check-recipes.py
 check "an example is answered otherwise" examples_answer
 check "docs/case.schema.json takes or refuses a case that it should not" schema_holds
 for document in $(git grep -lE '^```console' -- '*.md'); do

@@ -17,8 +17,8 @@ use Rattle.pv_parse.specs.TokenTexts.{area_of}
 use Rattle.pv_parse.proofs.ForCallers.{tokens-sound, area, letter_of}
 use Rattle.pv_case.specs.Members.{is_short}
 use Rattle.pv_case.specs.Symbols.{IsAddressText}
-use Rattle.pv_case.specs.declared.address.Spot.{Spot}
-use Rattle.pv_case.specs.Addresses.{bytes_at, IsSpot, IsSpotAmong}
+use Rattle.pv_case.specs.declared.address.Address.{Address}
+use Rattle.pv_case.specs.Addresses.{bytes_at, IsAddressAt, IsAddressAmong}
 
 same_area : (a b : Area) (p q r s t u : ℕ) → root.Area a p q r ≡ root.Area b s t u → a ≡ b
 same_area a b p q r s t u e = cc
@@ -33,22 +33,22 @@ same_bit : (a b : Area) (p q r s t u : ℕ) → root.Area a p q r ≡ root.Area 
 same_bit a b p q r s t u e = cc
 
 -- a text's token that is an address says it
-spot_address : (text : List ℕ) (token last : Token) (its : Area) (bits byte bit : ℕ) (place : Place) → AreTokens Scl 0 text (token ∷ last ∷ [])
-    → IsSpot text token its bits byte bit place → IsAddress its bits byte bit (lexeme_of text token)
+token_address : (text : List ℕ) (token last : Token) (its : Area) (bits byte bit : ℕ) (place : Place) → AreTokens Scl 0 text (token ∷ last ∷ [])
+    → IsAddressAt text token its bits byte bit place → IsAddress its bits byte bit (lexeme_of text token)
 unfolding area_of
-spot_address text token last its bits byte bit place are spot =
+token_address text token last its bits byte bit place are address =
     let bare = bare_address (bytes_at text token) in
-    let sound = subst (λ (kind : Kind). IsSoundBy kind (bytes_at text token)) spot.kind (tokens-sound Scl 0 text (token ∷ last ∷ []) are).0 in
+    let sound = subst (λ (kind : Kind). IsSoundBy kind (bytes_at text token)) address.kind (tokens-sound Scl 0 text (token ∷ last ∷ []) are).0 in
     record {
-      kind = spot.kind;
-      of_area = subst (λ (a : Area). IsAreaLetter a bare) (same_area _ its _ _ _ bits byte bit spot.reads) (letter_of bare sound);
-      of_bits = same_bits _ its _ _ _ bits byte bit spot.reads;
-      of_byte = same_byte _ its _ _ _ bits byte bit spot.reads;
-      of_bit = same_bit _ its _ _ _ bits byte bit spot.reads;
+      kind = address.kind;
+      of_area = subst (λ (a : Area). IsAreaLetter a bare) (same_area _ its _ _ _ bits byte bit address.reads) (letter_of bare sound);
+      of_bits = same_bits _ its _ _ _ bits byte bit address.reads;
+      of_byte = same_byte _ its _ _ _ bits byte bit address.reads;
+      of_bit = same_bit _ its _ _ _ bits byte bit address.reads;
     }
 
 pub among_text : (text : List ℕ) (tokens : List Token) (its : Area) (bits byte bit : ℕ) (place : Place) → IsTrue (is_short text)
-    → AreTokens Scl 0 text tokens → IsSpotAmong text tokens its bits byte bit place → IsAddressText text its bits byte bit place
+    → AreTokens Scl 0 text tokens → IsAddressAmong text tokens its bits byte bit place → IsAddressText text its bits byte bit place
 among_text text tokens its bits byte bit place short are among =
     let cut = subst (AreTokens Scl 0 text) among.are are in
     record {
@@ -56,18 +56,18 @@ among_text text tokens its bits byte bit place short are among =
       token = among.token;
       last = among.last;
       cut = cut;
-      reads = spot_address text among.token among.last its bits byte bit place cut among.spot;
-      lies = among.spot.lies;
-      placed = among.spot.placed;
+      reads = token_address text among.token among.last its bits byte bit place cut among.address;
+      lies = among.address.lies;
+      placed = among.address.placed;
     }
 
 pub text_among : (text : List ℕ) (tokens : List Token) (its : Area) (bits byte bit : ℕ) (place : Place) → AreTokens Scl 0 text tokens
-    → IsAddressText text its bits byte bit place → IsSpotAmong text tokens its bits byte bit place
+    → IsAddressText text its bits byte bit place → IsAddressAmong text tokens its bits byte bit place
 text_among text tokens its bits byte bit place are h = record {
   token = h.token;
   last = h.last;
   are = tokens-one Scl 0 text tokens (h.token ∷ h.last ∷ []) are h.cut;
-  spot = record {
+  address = record {
     kind = h.reads.kind;
     reads = area its bits byte bit (lexeme_of text h.token) h.reads;
     lies = h.lies;
@@ -91,27 +91,27 @@ token_lies text tokens other lt are = first_lies text tokens other lt (tokens-li
 
 -- ---- what is answered
 
-pub found_in : (text bytes other : List ℕ) (tokens given : List Token) (r : Result (Option Spot) AllocError) → IsTrue (is_short text)
+pub found_in : (text bytes other : List ℕ) (tokens given : List Token) (r : Result (Option Address) AllocError) → IsTrue (is_short text)
     → bytes ≡ text → other ≡ text → given ≡ tokens → AreTokens Scl 0 bytes tokens
-    → IfOk r (λ o. IfSome o (λ s. IsSpotAmong other given s.area s.bits s.byte s.bit s.place))
+    → IfOk r (λ o. IfSome o (λ s. IsAddressAmong other given s.area s.bits s.byte s.bit s.place))
     → IfOk r (λ o. IfSome o (λ s. IsAddressText text s.area s.bits s.byte s.bit s.place))
 found_in text bytes other tokens given (Ok None) short e f g are found = found
 found_in text bytes other tokens given (Ok (Some s)) short e f g are found =
     let cut = subst (λ (b : List ℕ). AreTokens Scl 0 b tokens) e are in
-    let here = subst (λ (b : List ℕ). IsSpotAmong b given s.area s.bits s.byte s.bit s.place) f found in
+    let here = subst (λ (b : List ℕ). IsAddressAmong b given s.area s.bits s.byte s.bit s.place) f found in
     among_text text tokens s.area s.bits s.byte s.bit s.place short cut
-    (subst (λ (ts : List Token). IsSpotAmong text ts s.area s.bits s.byte s.bit s.place) g here)
+    (subst (λ (ts : List Token). IsAddressAmong text ts s.area s.bits s.byte s.bit s.place) g here)
 found_in text bytes other tokens given (Err fault) short e f g are found = found
 
-pub none_in : (text bytes other : List ℕ) (tokens given : List Token) (r : Result (Option Spot) AllocError)
+pub none_in : (text bytes other : List ℕ) (tokens given : List Token) (r : Result (Option Address) AllocError)
     → bytes ≡ text → other ≡ text → given ≡ tokens → AreTokens Scl 0 bytes tokens
-    → IfOk r (λ o. IfNone o ((its : Area) (bits byte bit : ℕ) (place : Place) → IsSpotAmong other given its bits byte bit place → ⊥))
+    → IfOk r (λ o. IfNone o ((its : Area) (bits byte bit : ℕ) (place : Place) → IsAddressAmong other given its bits byte bit place → ⊥))
     → IfOk r (λ o. IfNone o ((its : Area) (bits byte bit : ℕ) (place : Place) → IsAddressText text its bits byte bit place → ⊥))
 none_in text bytes other tokens given (Ok None) e f g are none = λ its bits byte bit place h.
     let cut = subst (λ (b : List ℕ). AreTokens Scl 0 b tokens) e are in
     let among = text_among text tokens its bits byte bit place cut h in
-    let there = subst (λ (b : List ℕ). IsSpotAmong b tokens its bits byte bit place) (sym f) among in
-    none its bits byte bit place (subst (λ (ts : List Token). IsSpotAmong other ts its bits byte bit place) (sym g) there)
+    let there = subst (λ (b : List ℕ). IsAddressAmong b tokens its bits byte bit place) (sym f) among in
+    none its bits byte bit place (subst (λ (ts : List Token). IsAddressAmong other ts its bits byte bit place) (sym g) there)
 none_in text bytes other tokens given (Ok (Some s)) e f g are none = none
 none_in text bytes other tokens given (Err fault) e f g are none = none
 

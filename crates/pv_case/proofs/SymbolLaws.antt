@@ -20,7 +20,7 @@ use Rattle.serde_json.specs.declared.value.Value.{Value}
 use Rattle.pv_case.specs.declared.fault.Kind.{Kind}
 use Rattle.pv_case.specs.declared.fault.Kind.TheVariants.{BadSymbol}
 use Rattle.pv_case.specs.declared.case.Symbol.{Symbol}
-use Rattle.pv_case.specs.declared.address.Spot.{Spot}
+use Rattle.pv_case.specs.declared.address.Address.{Address}
 use Rattle.pv_case.specs.declared.symbol_list.Symbols.{Symbols}
 use Rattle.pv_case.specs.declared.symbol_list.TypedAt.{TypedAt}
 use Rattle.pv_case.specs.Members.{text_in}
@@ -134,27 +134,27 @@ read_all symbols all xs s t u next start y is step read =
 
 -- ---- one symbol
 
-pub none_read_as : (o : Option Spot) (at ty_text : List ℕ) (its : OperandTree) (of : Ty) → o ≡ None
+pub none_read_as : (o : Option Address) (at ty_text : List ℕ) (its : OperandTree) (of : Ty) → o ≡ None
     → IfNone o ((area : Area) (bits byte bit : ℕ) (place : Place) → IsAddressText at area bits byte bit place → ⊥)
     → ReadsAs at ty_text its of → ⊥
 none_read_as None at ty_text its of e none reads = none reads.area reads.bits reads.byte reads.bit reads.place reads.address
 none_read_as (Some s) at ty_text its of e none reads = absurd (cc (e))
 
-some_spot : (x y : Spot) → Some x ≡ Some y → x ≡ y
-some_spot x y e = cc
+some_address : (x y : Address) → Some x ≡ Some y → x ≡ y
+some_address x y e = cc
 
 none_type : (w : Option Ty) (ty : Ty) → w ≡ None → w ≡ Some ty → ⊥
 none_type w ty e f = cc
 
-pub unsuited : (o : Option Spot) (s : Spot) (w : Option Ty) (at ty_text : List ℕ) (its : OperandTree) (of : Ty)
+pub unsuited : (o : Option Address) (s : Address) (w : Option Ty) (at ty_text : List ℕ) (its : OperandTree) (of : Ty)
     → IfSome o (λ s. IsAddressText at s.area s.bits s.byte s.bit s.place) → o ≡ Some s → w ≡ type_of_width s.bits ty_text → w ≡ None
     → ReadsAs at ty_text its of → ⊥
 unsuited None s w at ty_text its of found e is none reads = absurd (cc (e))
 unsuited (Some t) s w at ty_text its of found e is none reads =
-    let same : t ≡ s = some_spot t s e in
+    let same : t ≡ s = some_address t s e in
     let one = one_address at t.area reads.area t.bits t.byte t.bit reads.bits reads.byte reads.bit t.place reads.place found reads.address in
     none_type w of none
-    (is ∙ ap (λ (z : Spot). type_of_width z.bits ty_text) (sym same) ∙ ap (λ (n : ℕ). type_of_width n ty_text) one.bits ∙ reads.of_type)
+    (is ∙ ap (λ (z : Address). type_of_width z.bits ty_text) (sym same) ∙ ap (λ (n : ℕ). type_of_width n ty_text) one.bits ∙ reads.of_type)
 
 pub none_typed : (o : Option TypedAt) (at ty_text : List ℕ) (earlier : List (List ℕ)) (p : Pair) → o ≡ None
     → IfNone o ((its : OperandTree) (of : Ty) → ReadsAs at ty_text its of → ⊥) → at ≡ text_in p.1 (codes "at")

@@ -12,15 +12,15 @@ abbrev pub bytes_at : List ℕ → Token → List ℕ
 bytes_at text token = take token.len (drop token.place.offset text)
 
 -- the token is an address, and there is one of this number
-pub record IsSpot (text : List ℕ) (token : Token) (area : Area) (bits byte bit : ℕ) (place : Place) : Type 0 where
+pub record IsAddressAt (text : List ℕ) (token : Token) (area : Area) (bits byte bit : ℕ) (place : Place) : Type 0 where
   pub kind : token.kind ≡ kind.Address
   pub reads : area_of (bytes_at text token) ≡ root.Area area bits byte bit
   pub lies : IsTrue (is_address bits byte bit)
   pub placed : place ≡ token.place
 
 -- there is one token before the end, and it is such an address
-pub record IsSpotAmong (text : List ℕ) (tokens : List Token) (area : Area) (bits byte bit : ℕ) (place : Place) : Type 0 where
+pub record IsAddressAmong (text : List ℕ) (tokens : List Token) (area : Area) (bits byte bit : ℕ) (place : Place) : Type 0 where
   pub token : Token
   pub last : Token
   pub are : tokens ≡ token ∷ last ∷ []
-  pub spot : IsSpot text token area bits byte bit place
+  pub address : IsAddressAt text token area bits byte bit place

@@ -6,19 +6,19 @@ ghost use Rattle.pv_lex.specs.Tokens.{AreTokens};
 ghost use Rattle.pv_tree.specs.declared.expr.Area.{Area as An_area};
 ghost use Rattle.pv_tree.specs.Things.{is_address};
 ghost use Rattle.pv_case.specs.Symbols.{IsAddressText, type_of_width};
-ghost use Rattle.pv_case.specs.Addresses.{bytes_at, IsSpot, IsSpotAmong};
+ghost use Rattle.pv_case.specs.Addresses.{bytes_at, IsAddressAt, IsAddressAmong};
 
 use crate::members::is_short;
 use pv_lex::{Kind, Language, LexFault, Token, tokens};
-use pv_place::Place;
 use pv_parse::area_of;
+use pv_place::Place;
 use pv_tree::{Area, Root};
 use pv_word::Ty;
 use std::alloc::{AllocError, Global};
 
 /// An address in a text: of these bits of an area, from this byte on, with the place of its token.
 #[derive(Clone, Copy)]
-pub(crate) struct Spot {
+pub(crate) struct Address {
     pub area: Area,
     pub bits: u32,
     pub byte: u64,
@@ -27,7 +27,7 @@ pub(crate) struct Spot {
 }
 
 /// The address that the text is, where it is one.
-pub(crate) fn spot_in(alloc: Global, text: &str) -> Result<Option<Spot>, AllocError>
+pub(crate) fn address_in(alloc: Global, text: &str) -> Result<Option<Address>, AllocError>
     ensures found { IfOk result (λ o. IfSome o (λ s. IsAddressText text.now s.area s.bits s.byte s.bit s.place)) }
     ensures none { IfOk result (λ o. IfNone o ((area : An_area) (bits byte bit : ℕ) (place : A_place)
         → IsAddressText text.now area bits byte bit place → ⊥)) }
@@ -36,31 +36,31 @@ pub(crate) fn spot_in(alloc: Global, text: &str) -> Result<Option<Spot>, AllocEr
         return Ok(None);
     }
     match tokens(alloc, 0, Language::Scl, text.as_bytes()) {
-        Ok(tokens) => spot_of(text.as_bytes(), tokens.as_slice()),
+        Ok(tokens) => address_of(text.as_bytes(), tokens.as_slice()),
         Err(LexFault::NoToken { .. }) => Ok(None),
         Err(LexFault::NoMemory) => Err(AllocError),
     }
 }
 
 /// The address that the tokens are, where they are one and the text's end.
-fn spot_of(text: &[u8], tokens: &[Token]) -> Result<Option<Spot>, AllocError>
+fn address_of(text: &[u8], tokens: &[Token]) -> Result<Option<Address>, AllocError>
     requires { AreTokens In_scl 0 text.now tokens.now }
-    ensures found { IfOk result (λ o. IfSome o (λ s. IsSpotAmong text.now tokens.now s.area s.bits s.byte s.bit s.place)) }
+    ensures found { IfOk result (λ o. IfSome o (λ s. IsAddressAmong text.now tokens.now s.area s.bits s.byte s.bit s.place)) }
     ensures none { IfOk result (λ o. IfNone o ((area : An_area) (bits byte bit : ℕ) (place : A_place)
-        → IsSpotAmong text.now tokens.now area bits byte bit place → ⊥)) }
+        → IsAddressAmong text.now tokens.now area bits byte bit place → ⊥)) }
 {
     match tokens {
-        [token, _end] => spot_at(text, token),
+        [token, _end] => address_at(text, token),
         _ => Ok(None),
     }
 }
 
 /// The address that the token is, where it is one.
-fn spot_at(text: &[u8], token: &Token) -> Result<Option<Spot>, AllocError>
+fn address_at(text: &[u8], token: &Token) -> Result<Option<Address>, AllocError>
     requires { token.now.place.offset + token.now.len ≤ length text.now }
-    ensures found { IfOk result (λ o. IfSome o (λ s. IsSpot text.now token.now s.area s.bits s.byte s.bit s.place)) }
+    ensures found { IfOk result (λ o. IfSome o (λ s. IsAddressAt text.now token.now s.area s.bits s.byte s.bit s.place)) }
     ensures none { IfOk result (λ o. IfNone o ((area : An_area) (bits byte bit : ℕ) (place : A_place)
-        → IsSpot text.now token.now area bits byte bit place → ⊥)) }
+        → IsAddressAt text.now token.now area bits byte bit place → ⊥)) }
 {
     if token.kind != Kind::Address {
         return Ok(None);
@@ -71,7 +71,7 @@ fn spot_at(text: &[u8], token: &Token) -> Result<Option<Spot>, AllocError>
             bits,
             byte,
             bit,
-        } if is_address(bits, byte, bit) => Ok(Some(Spot {
+        } if is_address(bits, byte, bit) => Ok(Some(Address {
             area,
             bits,
             byte,

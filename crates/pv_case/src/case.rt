@@ -19,7 +19,7 @@ pub struct Case {
     pub bind: Vec<Bound>,
     /// In the order of their names' bytes.
     pub symbols: Vec<Symbol>,
-    pub pattern: Pattern,
+    pub pattern: PatternText,
     pub limits: Limits,
     pub reductions: Reductions,
     /// The certificate's file name, not empty, where the case has one.
@@ -51,7 +51,7 @@ pub struct Symbol {
 
 /// The requirement: its kind, and as many texts of expressions as the kind has.
 #[derive(Drop)]
-pub struct Pattern {
+pub struct PatternText {
     pub kind: PatternKind,
     pub expressions: Vec<String>,
 }

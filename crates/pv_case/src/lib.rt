@@ -21,7 +21,7 @@ mod symbols;
 
 pub use case::{
     Bound, Case, Limits, MAX_DEPTH, MAX_LEMMAS, MAX_LOOP_BOUND, MAX_NAME, MAX_REGION_WORDS,
-    MAX_SOURCES, MAX_TEXT, MIN_REGION_WORDS, Pattern, PatternKind, Reductions, Source, Symbol,
+    MAX_SOURCES, MAX_TEXT, MIN_REGION_WORDS, PatternKind, PatternText, Reductions, Source, Symbol,
 };
 pub use checks::Breach;
 pub use fault::{CaseFault, Kind};

@@ -8,7 +8,7 @@ ghost use Rattle.pv_case.specs.Members.{text_at, items_at, pairs_at, integer_at}
 ghost use Rattle.pv_case.specs.Fields.{lies, limits, pattern, text_of};
 ghost use Rattle.pv_case.specs.Cases.{source_data, source_of, language_of, bound_data, bound_of, truth_of, value_of, names_reduction, reductions_in, number_in, expressions_in, IsPatternOf, HasLimits};
 
-use crate::case::{Bound, Limits, Pattern, Reductions, Source};
+use crate::case::{Bound, Limits, PatternText, Reductions, Source};
 use crate::members::{integer_at, integer_of, items_at, pairs_at, text_at, text_in};
 use crate::pattern::kind_named;
 use crate::reductions::is_text;
@@ -161,7 +161,7 @@ fn expressions_in(alloc: Global, v: &Value) -> Result<Vec<String>, AllocError>
 }
 
 /// The pattern of a value that has one.
-pub(crate) fn pattern_in(alloc: Global, d: &Value) -> Result<Pattern, AllocError>
+pub(crate) fn pattern_in(alloc: Global, d: &Value) -> Result<PatternText, AllocError>
     requires { (pattern (view d.now)).keeps }
     ensures { IfOk result (λ p. IsPatternOf (view d.now) p.kind (map string_bytes p.expressions.items)) }
 {
@@ -172,7 +172,7 @@ pub(crate) fn pattern_in(alloc: Global, d: &Value) -> Result<Pattern, AllocError
         unreachable!();
     };
     let expressions = expressions_in(alloc, v)?;
-    Ok(Pattern { kind, expressions })
+    Ok(PatternText { kind, expressions })
 }
 
 // ---- the limits

@@ -15,7 +15,7 @@ ghost use Rattle.pv_case.specs.Cases.{IsNamed, AreSymbols, symbol_data};
 ghost use Rattle.pv_case.specs.Makes.{Makes};
 ghost use Rattle.pv_case.specs.SymbolLists.{IsGood, Adds};
 
-use crate::address::{spot_in, type_of_width};
+use crate::address::{address_in, type_of_width};
 use crate::case::Symbol;
 use crate::checks::Breach;
 use crate::fault::Kind;
@@ -48,23 +48,23 @@ fn operand_of(alloc: Global, at: &str, ty: &str) -> Result<Option<TypedAt>, Allo
     ensures found { IfOk result (λ o. IfSome o (λ t. ReadsAs at.now ty.now (operand_tree t.at) t.ty)) }
     ensures none { IfOk result (λ o. IfNone o ((its : OperandTree) (of : A_type) → ReadsAs at.now ty.now its of → ⊥)) }
 {
-    let Some(spot) = spot_in(alloc, at)? else {
+    let Some(address) = address_in(alloc, at)? else {
         return Ok(None);
     };
-    let Some(ty) = type_of_width(spot.bits, ty) else {
+    let Some(ty) = type_of_width(address.bits, ty) else {
         return Ok(None);
     };
     let root = Root::Area {
-        area: spot.area,
-        bits: spot.bits,
-        byte: spot.byte,
-        bit: spot.bit,
+        area: address.area,
+        bits: address.bits,
+        byte: address.byte,
+        bit: address.bit,
     };
     Ok(Some(TypedAt {
         at: Operand {
             root,
             steps: Vec::new(alloc),
-            place: spot.place,
+            place: address.place,
         },
         ty,
     }))

@@ -4,7 +4,7 @@ use Rattle.std.specs.Fmt.{digits}
 use Rattle.pv_case.specs.declared.fault.Kind.TheVariants.{MissingField}
 use Rattle.pv_lex.specs.declared.fault.FaultKind.TheVariants.{NumberTooWide}
 use Rattle.pv_tree.specs.Rules.{out_of_range}
-use Rattle.pv_command_load.specs.Spots.{FileText, spot_text}
+use Rattle.pv_command_load.specs.Positions.{FileText, position_text}
 use Rattle.pv_command_load.specs.Refusals.{not_json, broken, too_large, lex, outside, syntax, deep, rule, no_entry, too_many_cells, bound_range, pattern_text, brief_cell, read_line, case_refusal_line, source_line, project_line, table_line, fit_line}
 
 -- ---- places
@@ -13,34 +13,34 @@ use Rattle.pv_command_load.specs.Refusals.{not_json, broken, too_large, lex, out
 abbrev short : FileText
 short = record { file = codes "a.scl"; bytes = codes "FUNCTION_BLOCK Demo\nVAR x : REAL;\r\n\nEND" }
 
-first_byte : spot_text short 0 ≡ codes "a.scl:1:1"
+first_byte : position_text short 0 ≡ codes "a.scl:1:1"
 unfolding digits
 first_byte = refl
 
 -- a line feed stands at its own line's end
-at_feed : spot_text short 19 ≡ codes "a.scl:1:20"
+at_feed : position_text short 19 ≡ codes "a.scl:1:20"
 unfolding digits
 at_feed = refl
 
-behind_feed : spot_text short 20 ≡ codes "a.scl:2:1"
+behind_feed : position_text short 20 ≡ codes "a.scl:2:1"
 unfolding digits
 behind_feed = refl
 
-at_word : spot_text short 28 ≡ codes "a.scl:2:9"
+at_word : position_text short 28 ≡ codes "a.scl:2:9"
 unfolding digits
 at_word = refl
 
 -- behind CR LF, and behind an empty line
-behind_both : spot_text short 35 ≡ codes "a.scl:3:1"
+behind_both : position_text short 35 ≡ codes "a.scl:3:1"
 unfolding digits
 behind_both = refl
 
-at_end : spot_text short 39 ≡ codes "a.scl:4:4"
+at_end : position_text short 39 ≡ codes "a.scl:4:4"
 unfolding digits
 at_end = refl
 
 -- a byte is a column: a letter of two bytes between two quotes, and `;` behind them
-wide : spot_text (record { file = codes "b.scl"; bytes = 34 ∷ 195 ∷ 164 ∷ 34 ∷ 59 ∷ [] }) 4 ≡ codes "b.scl:1:5"
+wide : position_text (record { file = codes "b.scl"; bytes = 34 ∷ 195 ∷ 164 ∷ 34 ∷ 59 ∷ [] }) 4 ≡ codes "b.scl:1:5"
 unfolding digits
 wide = refl
 

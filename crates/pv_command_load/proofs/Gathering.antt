@@ -12,13 +12,13 @@ use Rattle.pv_case.specs.declared.case.TheConstants.{MAX_SOURCES}
 use Rattle.pv_case.specs.Cases.{SourceData, source_data}
 use Rattle.pv_command_load.specs.declared.source.SourceStop.{SourceStop}
 use Rattle.pv_command_load.specs.declared.sources.Sources.{Sources as Kept}
-use Rattle.pv_command_load.specs.Spots.{FileText}
+use Rattle.pv_command_load.specs.Positions.{FileText}
 use Rattle.pv_command_load.specs.Held.{Holds}
 use Rattle.pv_command_load.specs.Refusals.{SourceRefusal}
 use Rattle.pv_command_load.specs.Sources.{ReadSource, ReadsAs, HoldsSource, HoldSources, AtOne, IsAsked, IsRefused}
 use Rattle.pv_command_load.specs.Stopped.{Stopped, unread, refused, no_memory, StopsAt}
 use Rattle.pv_command_load.specs.Stops.{text_tree, source_stopped}
-use Rattle.pv_command_load.specs.declared.spot.SourceText.{SourceText}
+use Rattle.pv_command_load.specs.declared.position.SourceText.{SourceText}
 use Rattle.pv_command_load.specs.Passing.{source_named}
 use Rattle.pv_command_load.specs.Gathered.{HasSources, HasOneMore, StopsAtOne}
 

@@ -14,7 +14,7 @@ use Rattle.pv_tree.specs.Lexemes.{lexemes_of}
 use Rattle.pv_case.specs.Cases.{SourceData}
 use Rattle.pv_laws_readings.specs.Judgements.{Judgement, Judged}
 use Rattle.pv_laws_readings.specs.Judgements as j
-use Rattle.pv_command_load.specs.Spots.{spot_text}
+use Rattle.pv_command_load.specs.Positions.{position_text}
 use Rattle.pv_command_load.specs.Refusals.{SourceRefusal, too_large, lex, outside, syntax, deep}
 use Rattle.pv_command_load.specs.Sources.{HasTokens, ReadsAs, RefusesSource, ReadSource, HoldsSource, HoldSources, AtOne, IsRefused}
 use Rattle.pv_command_load.proofs.OneCase.{one_held, held_both}
@@ -83,7 +83,7 @@ blocks_by _ = None
 
 module _ (source : SourceData) (bytes : List ℕ) where
   abbrev at : ℕ → List ℕ
-  at offset = spot_text (record { file = source.file; bytes = bytes }) offset
+  at offset = position_text (record { file = source.file; bytes = bytes }) offset
 
   abbrev refusal_in : Judgement → Option SourceRefusal
   refusal_in (j.read blocks) = None

@@ -17,7 +17,7 @@ use Rattle.pv_pattern.specs.Texts.{IsTextOf, addresses_in, AreNamed, Fault, unre
 use Rattle.pv_pattern_read.specs.Kinds.{IsReadPattern}
 use Rattle.pv_case_fit.specs.Entries.{IsNameText, number_of_entry, IsEntry}
 use Rattle.pv_case_fit.specs.Inputs.{first_stray, listed, first_misfit, IsStray, IsMisfit}
-use Rattle.pv_command_load.specs.Spots.{place_text}
+use Rattle.pv_command_load.specs.Positions.{place_text}
 use Rattle.pv_command_load.specs.Refusals.{ProjectRefusal, rule, TableRefusal, no_entry, too_many_cells, FitRefusal, not_an_input, bound_range, pattern_text, pattern_rule, brief_cell, not_bool}
 use Rattle.pv_command_load.specs.Subjects.{Given, texts_of, blocks_of, project_of, RefusesProject, Entered, IsEntered, cells_of, HasTable, RefusesTable, scope_of, HasView, HasPattern, HasPatternFault, RefusesFit}
 

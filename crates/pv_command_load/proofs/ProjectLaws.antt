@@ -14,9 +14,9 @@ use Rattle.pv_tree.specs.Least.{IsLeastFault}
 use Rattle.pv_rules_decl.specs.Answers.{IsKept}
 use Rattle.pv_case.specs.declared.case.Symbol.{Symbol}
 use Rattle.pv_case.specs.Cases.{symbol_data}
-use Rattle.pv_command_load.specs.declared.spot.SourceText.{SourceText}
+use Rattle.pv_command_load.specs.declared.position.SourceText.{SourceText}
 use Rattle.pv_command_load.specs.declared.project.ProjectStop.{ProjectStop}
-use Rattle.pv_command_load.specs.Spots.{FileText, place_text}
+use Rattle.pv_command_load.specs.Positions.{FileText, place_text}
 use Rattle.pv_command_load.specs.Refusals as r
 use Rattle.pv_command_load.specs.Refusals.{ProjectRefusal}
 use Rattle.pv_command_load.specs.Subjects.{Given, project_of, symbol_of, texts_of, RefusesProject}

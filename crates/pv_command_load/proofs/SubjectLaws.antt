@@ -15,7 +15,7 @@ use Rattle.pv_cells.specs.Named.{wide_bytes}
 use Rattle.pv_case.specs.declared.case.Case.{Case}
 use Rattle.pv_case.specs.declared.case.Symbol.{Symbol}
 use Rattle.pv_case.specs.Cases.{CaseData, data_of, symbol_data}
-use Rattle.pv_command_load.specs.declared.spot.SourceText.{SourceText}
+use Rattle.pv_command_load.specs.declared.position.SourceText.{SourceText}
 use Rattle.pv_command_load.specs.declared.subject.Subject.{Subject}
 use Rattle.pv_command_load.specs.declared.subject.SubjectStop.TheVariants as stop_at
 use Rattle.pv_command_load.specs.declared.sources.Sources.{Sources}

@@ -1,6 +1,6 @@
 -- what public clauses cite, from the bottom up
 pub mod Held
-pub mod Spots
+pub mod Positions
 pub mod Words
 pub mod Refusals
 pub mod Sources

@@ -20,7 +20,7 @@ use Rattle.pv_cells.specs.Named.{wide_bytes}
 use Rattle.pv_case.specs.declared.case.Case.{Case}
 use Rattle.pv_case.specs.declared.case.Symbol.{Symbol}
 use Rattle.pv_case.specs.Cases.{CaseData, bound_data, symbol_data}
-use Rattle.pv_command_load.specs.declared.spot.SourceText.{SourceText}
+use Rattle.pv_command_load.specs.declared.position.SourceText.{SourceText}
 use Rattle.pv_command_load.specs.declared.subject.Subject.{Subject}
 use Rattle.pv_command_load.specs.Subjects.{Given, texts_of, blocks_of, project_of, Entered, HasTable, cells_of, HasView, HasPattern, SubjectData, source_in}
 use Rattle.pv_command_load.specs.Stops.{text_tree}

@@ -7,14 +7,14 @@ use Rattle.pv_lex.specs.declared.fault.LexFault.TheVariants as lex_fault
 use Rattle.pv_parse.specs.declared.fault.ParseFault.{ParseFault}
 use Rattle.pv_parse.specs.declared.fault.ParseFault.TheVariants as parse_fault
 use Rattle.pv_case.specs.Cases.{SourceData}
-use Rattle.pv_command_load.specs.declared.spot.SourceText.{SourceText}
+use Rattle.pv_command_load.specs.declared.position.SourceText.{SourceText}
 use Rattle.pv_command_load.specs.declared.reading.ReadStop.{ReadStop}
 use Rattle.pv_command_load.specs.declared.reading.ReadStop.TheVariants as read_stop
 use Rattle.pv_command_load.specs.declared.case.CaseStop.{CaseStop}
 use Rattle.pv_command_load.specs.declared.case.CaseStop.TheVariants as case_stop
 use Rattle.pv_command_load.specs.declared.source.SourceStop.{SourceStop}
 use Rattle.pv_command_load.specs.declared.source.SourceStop.TheVariants as source_stop
-use Rattle.pv_command_load.specs.Spots.{FileText, spot_text}
+use Rattle.pv_command_load.specs.Positions.{FileText, position_text}
 use Rattle.pv_command_load.specs.Refusals.{SourceRefusal, lex, outside, syntax, deep}
 use Rattle.pv_command_load.specs.Stopped.{Stopped, refused, no_memory}
 
@@ -37,13 +37,13 @@ pub record IsWordAt (bytes : List ℕ) (place : Place) (len : ℕ) : Type 0 wher
 
 -- a source without tokens
 abbrev pub lex_stopped : FileText → LexFault → Stopped SourceRefusal
-lex_stopped text (lex_fault.NoToken kind place) = refused (lex kind (spot_text text place.offset))
+lex_stopped text (lex_fault.NoToken kind place) = refused (lex kind (position_text text place.offset))
 lex_stopped text lex_fault.NoMemory = no_memory
 
 -- a source that doesn't read
 abbrev pub parse_stopped : FileText → ParseFault → Stopped SourceRefusal
 parse_stopped text (parse_fault.Outside place len) =
-    refused (outside (take len (drop place.offset text.bytes)) (spot_text text place.offset))
-parse_stopped text (parse_fault.Syntax place) = refused (syntax (spot_text text place.offset))
-parse_stopped text (parse_fault.Deep place) = refused (deep (spot_text text place.offset))
+    refused (outside (take len (drop place.offset text.bytes)) (position_text text place.offset))
+parse_stopped text (parse_fault.Syntax place) = refused (syntax (position_text text place.offset))
+parse_stopped text (parse_fault.Deep place) = refused (deep (position_text text place.offset))
 parse_stopped text parse_fault.NoMemory = no_memory

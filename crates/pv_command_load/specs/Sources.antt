@@ -13,7 +13,7 @@ use Rattle.pv_tree.specs.Outside.{IsFirstOutside}
 use Rattle.pv_tree.specs.Reading.{ReadAsBlocks, IsRead, IsTooDeep, IsSyntaxFaultAt}
 use Rattle.pv_case.specs.Cases.{SourceData}
 use Rattle.pv_command_load.specs.Held.{Holds, HoldsBytes}
-use Rattle.pv_command_load.specs.Spots.{FileText, spot_text}
+use Rattle.pv_command_load.specs.Positions.{FileText, position_text}
 use Rattle.pv_command_load.specs.Refusals.{SourceRefusal, too_large, lex, outside, syntax, deep}
 
 -- ---- one source, by its number and its bytes, in its language
@@ -32,15 +32,15 @@ pub record ReadsAs (number : ℕ) (source : SourceData) (bytes : List ℕ) (bloc
 -- ---- why it is refused
 
 -- this is printed for what begins behind so many of its bytes
-abbrev pub IsSpot : SourceData → List ℕ → ℕ → List ℕ → Type 0
-IsSpot source bytes offset at = at ≡ spot_text (record { file = source.file; bytes = bytes }) offset
+abbrev pub IsPosition : SourceData → List ℕ → ℕ → List ℕ → Type 0
+IsPosition source bytes offset at = at ≡ position_text (record { file = source.file; bytes = bytes }) offset
 
 -- no token begins there
 pub record HasNoToken (number : ℕ) (source : SourceData) (bytes at : List ℕ) (kind : FaultKind) : Type 0 where
   pub short : length bytes ≤ MAX_SOURCE
   pub place : Place
   pub fault : IsFault source.language number bytes kind place
-  pub is_there : IsSpot source bytes place.offset at
+  pub is_there : IsPosition source bytes place.offset at
 
 -- the first word outside the profile stands there
 pub record HasOutside (number : ℕ) (source : SourceData) (bytes word at : List ℕ) : Type 0 where
@@ -49,7 +49,7 @@ pub record HasOutside (number : ℕ) (source : SourceData) (bytes word at : List
   pub token : Lexeme
   pub first : IsFirstOutside source.language (lexemes_of bytes tokens) token
   pub spelled : word ≡ token.bytes
-  pub is_there : IsSpot source bytes token.place.offset at
+  pub is_there : IsPosition source bytes token.place.offset at
 
 -- no blocks read, and none with the tokens up to there and with that one
 pub record HasSyntaxFault (number : ℕ) (source : SourceData) (bytes at : List ℕ) : Type 0 where
@@ -57,7 +57,7 @@ pub record HasSyntaxFault (number : ℕ) (source : SourceData) (bytes at : List 
   pub cut : HasTokens number source bytes tokens
   pub place : Place
   pub fault : IsSyntaxFaultAt (ReadAsBlocks source.language) source.language (lexemes_of bytes tokens) place
-  pub is_there : IsSpot source bytes place.offset at
+  pub is_there : IsPosition source bytes place.offset at
 
 -- what begins there is the first that nests too deep
 pub record IsNestedTooDeep (number : ℕ) (source : SourceData) (bytes at : List ℕ) : Type 0 where
@@ -65,7 +65,7 @@ pub record IsNestedTooDeep (number : ℕ) (source : SourceData) (bytes at : List
   pub cut : HasTokens number source bytes tokens
   pub place : Place
   pub fault : IsTooDeep source.language (lexemes_of bytes tokens) place
-  pub is_there : IsSpot source bytes place.offset at
+  pub is_there : IsPosition source bytes place.offset at
 
 abbrev pub RefusesSource : ℕ → SourceData → List ℕ → SourceRefusal → Type 0
 RefusesSource number source bytes too_large = MAX_SOURCE < length bytes

@@ -3,8 +3,8 @@ use Rattle.std.specs.Prelude.{◌≡◌, ℕ, List, Option, string_bytes}
 use Rattle.pv_edge.specs.Files.{FileMap}
 use Rattle.pv_rules_decl.specs.Names.{rule_of}
 use Rattle.pv_case.specs.Cases.{SourceData, CaseData}
-use Rattle.pv_command_load.specs.declared.spot.Spot.{Spot}
-use Rattle.pv_command_load.specs.declared.spot.SourceText.{SourceText}
+use Rattle.pv_command_load.specs.declared.position.SourcePosition.{SourcePosition}
+use Rattle.pv_command_load.specs.declared.position.SourceText.{SourceText}
 use Rattle.pv_command_load.specs.declared.reading.ReadStop.{ReadStop}
 use Rattle.pv_command_load.specs.declared.reading.ReadStop.TheVariants as read_stop
 use Rattle.pv_command_load.specs.declared.case.CaseStop.{CaseStop}
@@ -19,7 +19,7 @@ use Rattle.pv_command_load.specs.declared.fit.FitStop.{FitStop}
 use Rattle.pv_command_load.specs.declared.fit.FitStop.TheVariants as fit_stop
 use Rattle.pv_command_load.specs.declared.subject.SubjectStop.{SubjectStop}
 use Rattle.pv_command_load.specs.declared.subject.SubjectStop.TheVariants as subject_stop
-use Rattle.pv_command_load.specs.Spots.{FileText, printed}
+use Rattle.pv_command_load.specs.Positions.{FileText, printed}
 use Rattle.pv_command_load.specs.Refusals as r
 use Rattle.pv_command_load.specs.Refusals.{CaseRefusal, SourceRefusal, ProjectRefusal, TableRefusal, FitRefusal, table_status, case_refusal_line, source_line, project_line, table_line, fit_line}
 use Rattle.pv_command_load.specs.Sources.{RefusesSource, AtOne, IsAsked, IsRefused}
@@ -32,7 +32,7 @@ use Rattle.pv_command_load.specs.Stopped.{Stopped, unread, refused, no_memory, S
 abbrev pub text_tree : SourceText → FileText
 text_tree text = record { file = string_bytes text.file; bytes = text.bytes.items }
 
-abbrev pub at_text : Spot → List ℕ
+abbrev pub at_text : SourcePosition → List ℕ
 at_text at = printed (string_bytes at.file) at.line at.column
 
 -- a file that isn't read; nothing is refused there

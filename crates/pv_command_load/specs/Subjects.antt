@@ -18,7 +18,7 @@ use Rattle.pv_pattern_read.specs.Kinds.{IsReadPattern}
 use Rattle.pv_case.specs.Cases.{CaseData, SymbolData}
 use Rattle.pv_case_fit.specs.Entries.{IsEntry}
 use Rattle.pv_case_fit.specs.Inputs.{Views, IsStray, IsMisfit}
-use Rattle.pv_command_load.specs.Spots.{FileText, place_text}
+use Rattle.pv_command_load.specs.Positions.{FileText, place_text}
 use Rattle.pv_command_load.specs.Refusals.{ProjectRefusal, rule, TableRefusal, no_entry, too_many_cells, FitRefusal, not_an_input, bound_range, pattern_text, pattern_rule, brief_cell, not_bool}
 use Rattle.pv_command_load.specs.Sources.{ReadSource}
 

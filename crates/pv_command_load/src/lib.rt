@@ -8,22 +8,22 @@
 mod case;
 mod fit;
 pub mod laws;
+mod position;
 mod project;
 mod reading;
 mod source;
 mod sources;
-mod spot;
 mod status;
 mod subject;
 mod table;
 
 pub use case::{CaseStop, case_in};
 pub use fit::{FitStop, fitted};
+pub use position::{SourcePosition, SourceText};
 pub use project::{ProjectStop, project_of};
 pub use reading::{ReadStop, read, read_line};
 pub use source::{SourceStop, blocks_of};
 pub use sources::{Sources, sources_in};
-pub use spot::{SourceText, Spot};
 pub use status::{
     CASE_REFUSED, HOLDS, HOLDS_NOT, NO_MEMORY, READ_FAULT, SOURCE_REFUSED, Status, TEXT_REFUSED,
     UNDECIDED, WORDS_REFUSED, WRITE_FAULT,

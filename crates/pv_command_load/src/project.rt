@@ -3,15 +3,15 @@ ghost use Rattle.std.specs.Prelude.{◌≡◌, map, Some, IfOk, IfErr, string_by
 ghost use Rattle.pv_rules_decl.specs.Names.{rule_of};
 ghost use Rattle.pv_command_load.specs.Refusals as refusals;
 ghost use Rattle.pv_command_load.specs.Refusals.{project_line};
-ghost use Rattle.pv_command_load.specs.Spots.{place_text};
+ghost use Rattle.pv_command_load.specs.Positions.{place_text};
 ghost use Rattle.pv_command_load.specs.Subjects.{Given};
 ghost use Rattle.pv_command_load.specs.Stopped.{refused, stopped_status, stopped_text};
 ghost use Rattle.pv_command_load.specs.Stops.{text_tree, at_text, project_stopped, StopsProject};
 ghost use Rattle.pv_command_load.specs.Made.{AreGiven, IsProjectOf, in_project};
 ghost use Rattle.pv_command_load.specs.declared.project.ProjectStop.TheVariants.{NoMemory};
 
+use crate::position::{SourcePosition, SourceText};
 use crate::source::place_line;
-use crate::spot::{SourceText, Spot};
 use crate::status::{NO_MEMORY, SOURCE_REFUSED, Status};
 use pv_case::Symbol;
 use pv_rules::check;
@@ -27,7 +27,7 @@ use thiserror::Error;
 pub enum ProjectStop {
     /// The first breach, with its place.
     #[error("a rule is broken")]
-    Broken { rule: Rule, at: Spot },
+    Broken { rule: Rule, at: SourcePosition },
     #[error("out of memory")]
     NoMemory,
 }
@@ -41,7 +41,7 @@ impl From<AllocError> for ProjectStop {
 }
 
 /// The fault line of a broken rule.
-fn rule_line(alloc: Global, rule: Rule, at: &Spot) -> Result<String, AllocError>
+fn rule_line(alloc: Global, rule: Rule, at: &SourcePosition) -> Result<String, AllocError>
     ensures { IfOk result (λ text. string_bytes text ≡ project_line (refusals.rule (rule_of rule) (at_text at.now))) }
 {
     let number = rule.number();
@@ -85,7 +85,7 @@ fn broken(alloc: Global, sources: &[SourceText], breach: Breach) -> Result<Proje
     ensures { IfOk result (λ stop. project_stopped stop
         ≡ refused (refusals.rule (rule_of breach.rule) (place_text (map text_tree sources.now) breach.place))) }
 {
-    let at = Spot::of(alloc, sources, breach.place)?;
+    let at = SourcePosition::of(alloc, sources, breach.place)?;
     Ok(ProjectStop::Broken {
         rule: breach.rule,
         at,

@@ -14,12 +14,12 @@ ghost use Rattle.pv_command_load.specs.Stops.{text_tree, at_text, source_stopped
 ghost use Rattle.pv_command_load.specs.Passing.{source_named, IsWordAt, lex_stopped, parse_stopped};
 ghost use Rattle.pv_command_load.specs.declared.source.SourceStop.TheVariants.{NoMemory};
 
+use crate::position::{SourcePosition, SourceText};
 use crate::reading::{ReadStop, read_line};
-use crate::spot::{SourceText, Spot};
 use crate::status::{NO_MEMORY, READ_FAULT, SOURCE_REFUSED, Status};
 use pv_lex::{FaultKind, Language, LexFault, MAX_SOURCE, Token, tokens};
-use pv_place::Place;
 use pv_parse::ParseFault;
+use pv_place::Place;
 use pv_tree::Blocks;
 use std::alloc::{AllocError, Global};
 use thiserror::Error;
@@ -35,16 +35,16 @@ pub enum SourceStop {
     TooLarge,
     /// No token begins there.
     #[error("no token begins there")]
-    Lex { kind: FaultKind, at: Spot },
+    Lex { kind: FaultKind, at: SourcePosition },
     /// A word stands there that is outside the profile, spelled so.
     #[error("{word} is outside the profile")]
-    Outside { word: String, at: Spot },
+    Outside { word: String, at: SourcePosition },
     /// The grammar doesn't allow what stands there.
     #[error("the grammar doesn't allow this")]
-    Syntax { at: Spot },
+    Syntax { at: SourcePosition },
     /// What begins there is nested too deep.
     #[error("the source nests too deep")]
-    Deep { at: Spot },
+    Deep { at: SourcePosition },
     #[error("out of memory")]
     NoMemory,
 }
@@ -84,14 +84,18 @@ fn name_of(kind: FaultKind) -> &'static str
 }
 
 /// The fault line of a place in a source.
-pub(crate) fn place_line(alloc: Global, at: &Spot, what: &str) -> Result<String, AllocError>
+pub(crate) fn place_line(
+    alloc: Global,
+    at: &SourcePosition,
+    what: &str,
+) -> Result<String, AllocError>
     ensures { IfOk result (λ text. string_bytes text ≡ place_line (at_text at.now) what.now) }
 {
     let at = at.text(alloc)?;
     format!(in alloc; "plcv: {at}: {what}\n")
 }
 
-fn lex_line(alloc: Global, at: &Spot, kind: FaultKind) -> Result<String, AllocError>
+fn lex_line(alloc: Global, at: &SourcePosition, kind: FaultKind) -> Result<String, AllocError>
     ensures { IfOk result (λ text. string_bytes text ≡ place_line (at_text at.now) (codes "Lex " ++ lex_word kind)) }
 {
     let at = at.text(alloc)?;
@@ -99,7 +103,7 @@ fn lex_line(alloc: Global, at: &Spot, kind: FaultKind) -> Result<String, AllocEr
     format!(in alloc; "plcv: {at}: Lex {kind}\n")
 }
 
-fn outside_line(alloc: Global, at: &Spot, word: &String) -> Result<String, AllocError>
+fn outside_line(alloc: Global, at: &SourcePosition, word: &String) -> Result<String, AllocError>
     ensures { IfOk result (λ text. string_bytes text ≡ place_line (at_text at.now) (codes "Outside " ++ string_bytes word.now)) }
 {
     let at = at.text(alloc)?;
@@ -163,7 +167,7 @@ fn of_lex(alloc: Global, source: &SourceText, fault: LexFault) -> Result<SourceS
 {
     match fault {
         LexFault::NoToken { kind, place } => {
-            let at = source.spot(alloc, place.offset)?;
+            let at = source.position(alloc, place.offset)?;
             Ok(SourceStop::Lex { kind, at })
         }
         LexFault::NoMemory => Ok(SourceStop::NoMemory),
@@ -180,7 +184,7 @@ fn outside(
     ensures { IfOk result (λ stop. source_stopped stop ≡ parse_stopped (text_tree source.now) (Is_outside place len)) }
 {
     let word = word_at(alloc, source, place, len)?;
-    let at = source.spot(alloc, place.offset)?;
+    let at = source.position(alloc, place.offset)?;
     Ok(SourceStop::Outside { word, at })
 }
 
@@ -192,11 +196,11 @@ fn of_parse(alloc: Global, source: &SourceText, fault: ParseFault) -> Result<Sou
     match fault {
         ParseFault::Outside { place, len } => outside(alloc, source, place, len),
         ParseFault::Syntax { place } => {
-            let at = source.spot(alloc, place.offset)?;
+            let at = source.position(alloc, place.offset)?;
             Ok(SourceStop::Syntax { at })
         }
         ParseFault::Deep { place } => {
-            let at = source.spot(alloc, place.offset)?;
+            let at = source.position(alloc, place.offset)?;
             Ok(SourceStop::Deep { at })
         }
         ParseFault::NoMemory => Ok(SourceStop::NoMemory),

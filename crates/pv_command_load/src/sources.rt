@@ -7,9 +7,9 @@ ghost use Rattle.pv_command_load.specs.Held.{Holds, Counts};
 ghost use Rattle.pv_command_load.specs.Stops.{text_tree, source_status, StopsSource};
 ghost use Rattle.pv_command_load.specs.Gathered.{HasSources, HasOneMore, StopsAtOne};
 
+use crate::position::SourceText;
 use crate::reading::read;
 use crate::source::{SourceStop, blocks_of};
-use crate::spot::SourceText;
 use pv_case::{Case, Source};
 use pv_edge::Files;
 use pv_tree::Blocks;

@@ -10,10 +10,10 @@ ghost use Rattle.pv_command_load.specs.declared.subject.SubjectStop.TheVariants.
 
 use crate::case::{CaseStop, case_in};
 use crate::fit::{FitStop, fitted};
+use crate::position::SourceText;
 use crate::project::{ProjectStop, project_of};
 use crate::source::SourceStop;
 use crate::sources::sources_in;
-use crate::spot::SourceText;
 use crate::status::Status;
 use crate::table::{TableStop, table_of};
 use pv_case::{Case, Symbol};

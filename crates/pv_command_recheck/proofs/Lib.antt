@@ -1,4 +1,3 @@
-pub mod Alike
 pub mod Queries
 pub mod Requirements
 pub mod Subjects

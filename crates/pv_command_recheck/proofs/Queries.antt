@@ -31,7 +31,7 @@ use Rattle.pv_pattern.specs.Patterns.{Pattern, invariant, is_true_value}
 use Rattle.pv_pattern.specs.Failing.{Cause, pattern, is_failure, ends_by, ends_as, mark_of}
 use Rattle.pv_pattern.specs.Sources.{image_in, prev_in, step_of, machine_of}
 use Rattle.pv_pattern.proofs.ForCallers.{lawful}
-use Rattle.pv_command_recheck.proofs.Alike.{AreAlike}
+use Rattle.pv_machine.specs.Same.{IsSame}
 
 -- ---- cells of the first form
 
@@ -127,13 +127,13 @@ module _ (block : BlockTree) (patterns : List OperandTree) (bound : ℕ) (a : Ex
       ∙ ends-bits source a (prev_in source s) (scan source s i) (program_end source a s i)
       (keeps (program_of source a) (bits_of s) (bits_of i)) same.ends same.holds
 
-  pub alike : AreAlike (machine_of source (invariant a)) (program_machine (program_of source a))
+  pub alike : IsSame (machine_of source (invariant a)) (program_machine (program_of source a))
   alike = record {
     state = append-nil (image_ranges source.cells) ∙ first_image_ranges source.cells cells
         ∙ ap (λ n. replicate n bit_range) (sym (stored_bits source.cells cells));
     input = first_input_ranges source.cells cells ∙ ap (λ n. replicate n bit_range) (sym (taken_bits source.cells cells));
     params = no_params source.cells cells;
-    start = λ p. append-nil (start source p) ∙ start_is_programs block patterns bound a p is are;
+    start = λ p in_range. append-nil (start source p) ∙ start_is_programs block patterns bound a p is are;
     step = λ s i is_state is_input. step_is s i (plain_state s is_state) is_input;
     fails = λ s i is_state is_input. fails_is s i (plain_state s is_state) is_input;
   }

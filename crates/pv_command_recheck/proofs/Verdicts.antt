@@ -21,7 +21,7 @@ use Rattle.pv_recheck.specs.Validity.{IsValid}
 use Rattle.pv_recheck.proofs.ForCallers.{no_step}
 use Rattle.pv_command_load.specs.Subjects.{SubjectData, source_in}
 use Rattle.pv_command_recheck.specs.Forms.{ReadsFirst, program_of}
-use Rattle.pv_command_recheck.proofs.Alike.{same_step}
+use Rattle.pv_machine.proofs.ForCallers.{same_step}
 use Rattle.pv_command_recheck.proofs.Queries.{lawful_source, alike}
 use Rattle.pv_command_recheck.proofs.Subjects.{OneReading, of_form}
 

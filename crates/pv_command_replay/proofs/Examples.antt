@@ -6,7 +6,7 @@ use Rattle.pv_place.specs.declared.trap.TrapKind.TheVariants.{DivideByZero, Inde
 use Rattle.pv_case.specs.declared.case.PatternKind.TheVariants.{Invariant, Between, Reach}
 use Rattle.pv_mean.specs.Endings.{ended, trapped, over}
 use Rattle.pv_mean.specs.Scans.{Scan, ScanEnd}
-use Rattle.pv_command_load.specs.Spots.{FileText}
+use Rattle.pv_command_load.specs.Positions.{FileText}
 use Rattle.pv_command_replay.specs.declared.end.Cause.TheVariants.{Pattern, Trap}
 use Rattle.pv_command_replay.specs.declared.end.End.TheVariants.{Kept, Broken, Over, Reached, NotReached}
 use Rattle.pv_command_replay.specs.Ends.{done_in, last_trap}

@@ -5,7 +5,7 @@ use Rattle.pv_place.specs.declared.trap.TrapKind.{TrapKind}
 use Rattle.pv_place.specs.declared.trap.TrapKind.TheVariants.{DivideByZero, Index, Unset}
 use Rattle.pv_case.specs.declared.case.PatternKind.{PatternKind}
 use Rattle.pv_case.specs.declared.case.PatternKind.TheVariants.{Invariant, Forbidden, Implication, Within, Between, Reach}
-use Rattle.pv_command_load.specs.Spots.{FileText, place_text}
+use Rattle.pv_command_load.specs.Positions.{FileText, place_text}
 use Rattle.pv_command_replay.specs.declared.end.Cause.{Cause}
 use Rattle.pv_command_replay.specs.declared.end.Cause.TheVariants.{Pattern, Trap}
 use Rattle.pv_command_replay.specs.declared.end.End.{End}

@@ -1,6 +1,6 @@
 //! The report of a replay.
 ghost use Rattle.std.specs.Prelude.{◌≡◌, IfOk, map, string_bytes};
-ghost use Rattle.pv_command_load.specs.Spots as spots;
+ghost use Rattle.pv_command_load.specs.Positions as positions;
 ghost use Rattle.pv_command_load.specs.Stops.{text_tree};
 ghost use Rattle.pv_command_replay.specs.Reports as reports;
 ghost use Rattle.pv_command_replay.specs.Reports.{pattern_word, trap_word, head_text, end_text, report_text};
@@ -8,7 +8,7 @@ ghost use Rattle.pv_command_replay.specs.declared.end.End.TheVariants.{Broken, O
 
 use crate::end::{Cause, End};
 use pv_case::PatternKind;
-use pv_command_load::{SourceText, Spot};
+use pv_command_load::{SourcePosition, SourceText};
 use pv_place::{Place, TrapKind};
 use std::alloc::{AllocError, Global};
 
@@ -37,9 +37,9 @@ fn name_of_trap(kind: TrapKind) -> &'static str
 }
 
 fn place_text(alloc: Global, sources: &[SourceText], place: Place) -> Result<String, AllocError>
-    ensures { IfOk result (λ text. string_bytes text ≡ spots.place_text (map text_tree sources.now) place) }
+    ensures { IfOk result (λ text. string_bytes text ≡ positions.place_text (map text_tree sources.now) place) }
 {
-    let at = Spot::of(alloc, sources, place)?;
+    let at = SourcePosition::of(alloc, sources, place)?;
     at.text(alloc)
 }
 

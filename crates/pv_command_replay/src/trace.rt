@@ -11,8 +11,8 @@ ghost use Rattle.pv_command_replay.specs.declared.trace.TraceStop.TheVariants.{N
 use pv_cert::{CertFault, Trace};
 use pv_command_load::{NO_MEMORY, READ_FAULT, ReadStop, Status, TEXT_REFUSED, read, read_line};
 use pv_edge::Files;
-use pv_place::Role;
 use pv_mean::Cell;
+use pv_place::Role;
 use pv_trace::read_trace;
 use pv_word::{greatest, least};
 use std::alloc::{AllocError, Global};

@@ -43,7 +43,7 @@ last_scans m k (suc d) s (i ∷ j ∷ inputs) is all count f =
     last_scans m k d f.0 (j ∷ inputs) (next_reachable m s i f.0 is all.0 f.1.done) all.1 (omega arith) f.2
 
 -- a run that fails has at least one scan
-some_scan : (m : Machine) (s : Values) (inputs : List Values) → FailsAtLast m s inputs → 1 ≤ length inputs
+pub some_scan : (m : Machine) (s : Values) (inputs : List Values) → FailsAtLast m s inputs → 1 ≤ length inputs
 some_scan m s [] f = absurd f
 some_scan m s (i ∷ inputs) f = omega arith
 

@@ -1,2 +1,5 @@
 pub mod ForCallers
 pub mod Induction
+pub mod Same
+pub mod Reducing
+pub mod Examples

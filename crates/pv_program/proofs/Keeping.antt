@@ -9,11 +9,11 @@ use Rattle.pv_tree.specs.Callees.{CallSite, Callee, runs, not_declared, not_call
 use Rattle.pv_tree.specs.Parts.{operand_of}
 use Rattle.pv_mean.specs.Sources.{Source}
 use Rattle.pv_mean.specs.Instructions.{site_of}
-use Rattle.pv_stl_run.specs.declared.instr.Deed.{Deed}
-use Rattle.pv_stl_run.specs.declared.instr.Deed.TheVariants as deed
+use Rattle.pv_stl_run.specs.declared.instr.Action.{Action}
+use Rattle.pv_stl_run.specs.declared.instr.Action.TheVariants as action
 use Rattle.pv_stl_run.specs.declared.instr.Instr.{Instr}
 use Rattle.pv_stl_run.specs.Code as stl
-use Rattle.pv_stl_run.specs.Code.{IsDeed, changes, joins, writes, finds_edge, loads, transfers, jumps, ends, ends_where}
+use Rattle.pv_stl_run.specs.Code.{IsAction, changes, joins, writes, finds_edge, loads, transfers, jumps, ends, ends_where}
 use Rattle.pv_stl_run.specs.Going.{Does, IsInstr, AreInstrs, ranges_in}
 use Rattle.pv_run.specs.declared.program.Span.{Span}
 use Rattle.pv_run.specs.declared.program.Body.{Body}
@@ -185,50 +185,50 @@ taken-kept {n = n} x t = record {
   locates = t.locates;
 }
 
-pub deed-kept : {source : Source} {block : BlockTree} {p q : Program} {d : Deed} {i : InstrTree} → Extends p q
-    → IsDeed source block p.targets.items p.scratch d i → IsDeed source block q.targets.items q.scratch d i
-deed-kept x (changes row) = changes row
-deed-kept x (joins o e t row) = joins o e (taken-kept x t) row
-deed-kept x (writes o e t row) = writes o e (taken-kept x t) row
-deed-kept x (finds_edge o e t row) = finds_edge o e (taken-kept x t) row
-deed-kept x (loads o e none t ty row) = loads o e none (taken-kept x t) ty row
-deed-kept x (transfers o e t ty row) = transfers o e (taken-kept x t) ty row
-deed-kept x (jumps row) = jumps row
-deed-kept x (ends row) = ends row
-deed-kept x (ends_where row) = ends_where row
+pub action-kept : {source : Source} {block : BlockTree} {p q : Program} {d : Action} {i : InstrTree} → Extends p q
+    → IsAction source block p.targets.items p.scratch d i → IsAction source block q.targets.items q.scratch d i
+action-kept x (changes row) = changes row
+action-kept x (joins o e t row) = joins o e (taken-kept x t) row
+action-kept x (writes o e t row) = writes o e (taken-kept x t) row
+action-kept x (finds_edge o e t row) = finds_edge o e (taken-kept x t) row
+action-kept x (loads o e none t ty row) = loads o e none (taken-kept x t) ty row
+action-kept x (transfers o e t ty row) = transfers o e (taken-kept x t) ty row
+action-kept x (jumps row) = jumps row
+action-kept x (ends row) = ends row
+action-kept x (ends_where row) = ends_where row
 
-pub does-kept : (source : Source) (block : BlockTree) (i : InstrTree) (d : Deed) {p q : Program} → Extends p q
+pub does-kept : (source : Source) (block : BlockTree) (i : InstrTree) (d : Action) {p q : Program} → Extends p q
     → Does source block p.targets.items p.scratch d i → Does source block q.targets.items q.scratch d i
-does-kept source block i (deed.Change c) x h = (h.0, deed-kept x h.1)
-does-kept source block i (deed.Join j n) x h = (h.0, deed-kept x h.1)
-does-kept source block i (deed.Write w n) x h = (h.0, deed-kept x h.1)
-does-kept source block i (deed.Edge rising n) x h = (h.0, deed-kept x h.1)
-does-kept source block i (deed.Load ty n) x h = (h.0, deed-kept x h.1)
-does-kept source block i (deed.Transfer ty n) x h = (h.0, deed-kept x h.1)
-does-kept source block i (deed.Jump w goal) x h = (h.0, deed-kept x h.1)
-does-kept source block i deed.End x h = (h.0, deed-kept x h.1)
-does-kept source block i deed.EndWhere x h = (h.0, deed-kept x h.1)
-does-kept source block i (deed.Call n) x h = h
+does-kept source block i (action.Change c) x h = (h.0, action-kept x h.1)
+does-kept source block i (action.Join j n) x h = (h.0, action-kept x h.1)
+does-kept source block i (action.Write w n) x h = (h.0, action-kept x h.1)
+does-kept source block i (action.Edge rising n) x h = (h.0, action-kept x h.1)
+does-kept source block i (action.Load ty n) x h = (h.0, action-kept x h.1)
+does-kept source block i (action.Transfer ty n) x h = (h.0, action-kept x h.1)
+does-kept source block i (action.Jump w goal) x h = (h.0, action-kept x h.1)
+does-kept source block i action.End x h = (h.0, action-kept x h.1)
+does-kept source block i action.EndWhere x h = (h.0, action-kept x h.1)
+does-kept source block i (action.Call n) x h = h
 
-pub calls-kept : (source : Source) (block : BlockTree) (i : InstrTree) (d : Deed) {p q : Program} → Extends p q
+pub calls-kept : (source : Source) (block : BlockTree) (i : InstrTree) (d : Action) {p q : Program} → Extends p q
     → CallsSo source block p i d → CallsSo source block q i d
-calls-kept source block i (deed.Change c) x h = h
-calls-kept source block i (deed.Join j n) x h = h
-calls-kept source block i (deed.Write w n) x h = h
-calls-kept source block i (deed.Edge rising n) x h = h
-calls-kept source block i (deed.Load ty n) x h = h
-calls-kept source block i (deed.Transfer ty n) x h = h
-calls-kept source block i (deed.Jump w goal) x h = h
-calls-kept source block i deed.End x h = h
-calls-kept source block i deed.EndWhere x h = h
-calls-kept source block i (deed.Call n) x h = λ call e. call-kept x (h call e)
+calls-kept source block i (action.Change c) x h = h
+calls-kept source block i (action.Join j n) x h = h
+calls-kept source block i (action.Write w n) x h = h
+calls-kept source block i (action.Edge rising n) x h = h
+calls-kept source block i (action.Load ty n) x h = h
+calls-kept source block i (action.Transfer ty n) x h = h
+calls-kept source block i (action.Jump w goal) x h = h
+calls-kept source block i action.End x h = h
+calls-kept source block i action.EndWhere x h = h
+calls-kept source block i (action.Call n) x h = λ call e. call-kept x (h call e)
 
 pub instr-kept : {source : Source} {block : BlockTree} {p q : Program} {all : List InstrTree} {code : List Instr} {k : ℕ} {c : Instr}
     {i : InstrTree} → Extends p q → IsInstr source block p.targets.items p.scratch all code k c i
     → IsInstr source block q.targets.items q.scratch all code k c i
 instr-kept {source} {block} {p} {q} {all} {code} {k} {c} {i} x h = record {
   place = h.place;
-  does = does-kept source block i c.deed x h.does;
+  does = does-kept source block i c.action x h.does;
   range = h.range;
   jumps = h.jumps;
   nests = h.nests;
@@ -238,7 +238,7 @@ pub made-kept : {source : Source} {block : BlockTree} {p q : Program} {all : Lis
     → AreMadeInstrs source block p all code → AreMadeInstrs source block q all code
 made-kept {source} {block} x h = λ k c i at is. record {
   is = instr-kept x (h k c i at is).is;
-  calls = calls-kept source block i c.deed x (h k c i at is).calls;
+  calls = calls-kept source block i c.action x (h k c i at is).calls;
 }
 
 are-kept : {source : Source} {block : BlockTree} {p q : Program} {all : List InstrTree} {code : List Instr} → Extends p q
@@ -259,7 +259,7 @@ instrs-kept {source = source} {block = block} {p = p} {q = q} {s = s} {all = all
       are = subst (λ l. AreInstrs source block q.targets.items q.scratch l all) same (are-kept x h.are);
       ranges = subst (λ l. ranges_in l ≤ q.ranges) same (omega (arith, h.ranges, x.ranges));
       calls = subst (λ l. (k c : ℕ) (code : Instr) (i : InstrTree) (call : CallPlain) → slice_get l k ≡ Some code → slice_get all k ≡ Some i
-          → code.deed ≡ deed.Call c → i.call ≡ Some call → IsCall source block q c (site_of i call)) same
+          → code.action ≡ action.Call c → i.call ≡ Some call → IsCall source block q c (site_of i call)) same
           (λ k c code i call at is makes of. call-kept x (h.calls k c code i call at is makes of));
     }
 

@@ -12,6 +12,6 @@ mod Reaching
 mod Measuring
 mod Forms
 mod Labelled
-mod Deeds
+mod Actions
 mod Instructing
 mod Placing

@@ -18,10 +18,10 @@ use Rattle.pv_stl_run.specs.declared.instr.Change.{Change}
 use Rattle.pv_stl_run.specs.declared.instr.Change.TheVariants.{Combine, Shift}
 use Rattle.pv_stl_run.specs.declared.instr.Written.{Written}
 use Rattle.pv_stl_run.specs.declared.instr.When.{When}
-use Rattle.pv_stl_run.specs.declared.instr.Deed.{Deed}
+use Rattle.pv_stl_run.specs.declared.instr.Action.{Action}
 use Rattle.pv_stl_run.specs.Views.{junction_of}
 use Rattle.pv_stl_run.specs.Rows.{row_of}
-use Rattle.pv_stl_run.specs.Code.{HasRow, jump_row, written_of, IsDeed}
+use Rattle.pv_stl_run.specs.Code.{HasRow, jump_row, written_of, IsAction}
 use Rattle.std.specs.Prelude.{Bool as Truth, true, false}
 
 -- which words have a row of each kind
@@ -95,10 +95,10 @@ WordWrites op written =
 abbrev pub WordFindsEdge : Op → Truth → Type 0
 WordFindsEdge op rising = WordHas op (λ source act i. m.finds_edge source act i rising)
 
--- a deed of the word alone
-abbrev pub WordDoes : Op → Deed → Type 0
+-- an action of the word alone
+abbrev pub WordDoes : Op → Action → Type 0
 WordDoes op d = (source : Source) (block : BlockTree) (targets : List Target) (room : ℕ)
-    (i : InstrTree) → op ≡ i.op → IsDeed source block targets room d i
+    (i : InstrTree) → op ≡ i.op → IsAction source block targets room d i
 
 -- an instruction that changes the registers alone
 abbrev pub ChangesBy : InstrTree → Change → Type 0

@@ -15,12 +15,12 @@ ghost use Rattle.pv_program.specs.Growth.{Extends};
 ghost use Rattle.pv_program.specs.Labels.{FindsLabels, FindsJumps};
 ghost use Rattle.pv_program.specs.Bodies.{Outside, AreMadeInstrs};
 
-use crate::deed::deed_of;
+use crate::action::action_of;
 use crate::grow::{append_instrs, make_ranges};
 use crate::label::{Labels, labels_of, range_at};
 use pv_resolve::{Context, ResolveFault};
 use pv_run::{Program, Span};
-use pv_stl_run::{Change, Deed, Instr as Code};
+use pv_stl_run::{Action, Change, Instr as Code};
 use pv_tree::Instr;
 use std::alloc::Global;
 
@@ -55,28 +55,28 @@ fn nested_by(change: Change, depth: u32) -> Result<u32, ResolveFault>
 }
 
 /// How many nestings are open behind an instruction, where so many were before it. A jump has to stand in none.
-fn nested(deed: Deed, depth: u32) -> Result<u32, ResolveFault>
-    ensures opened { IfOk result (λ n. n ≡ opened deed depth) }
-    ensures may { OnOk result (MayDo deed depth) }
-    ensures outside { OnOk result (Outside deed depth) }
+fn nested(action: Action, depth: u32) -> Result<u32, ResolveFault>
+    ensures opened { IfOk result (λ n. n ≡ opened action depth) }
+    ensures may { OnOk result (MayDo action depth) }
+    ensures outside { OnOk result (Outside action depth) }
 {
-    match deed {
-        Deed::Change(change) => nested_by(change, depth),
-        Deed::Jump(..) => {
+    match action {
+        Action::Change(change) => nested_by(change, depth),
+        Action::Jump(..) => {
             if depth == 0 {
                 Ok(depth)
             } else {
                 Err(ResolveFault::TooLarge)
             }
         }
-        Deed::Join(..) => Ok(depth),
-        Deed::Write(..) => Ok(depth),
-        Deed::Edge(..) => Ok(depth),
-        Deed::Load(..) => Ok(depth),
-        Deed::Transfer(..) => Ok(depth),
-        Deed::End => Ok(depth),
-        Deed::EndWhere => Ok(depth),
-        Deed::Call(_) => Ok(depth),
+        Action::Join(..) => Ok(depth),
+        Action::Write(..) => Ok(depth),
+        Action::Edge(..) => Ok(depth),
+        Action::Load(..) => Ok(depth),
+        Action::Transfer(..) => Ok(depth),
+        Action::End => Ok(depth),
+        Action::EndWhere => Ok(depth),
+        Action::Call(_) => Ok(depth),
     }
 }
 
@@ -102,11 +102,11 @@ fn add_instr(
         → AreMadeInstrs source (block_in context.now) program.old all made.old.items
         → OnOk result (AreMadeInstrs source (block_in context.now) program.new all made.new.items) }
 {
-    let deed = deed_of(alloc, context, program, labels, k, instr)?;
-    let behind = nested(deed, depth)?;
+    let action = action_of(alloc, context, program, labels, k, instr)?;
+    let behind = nested(action, depth)?;
     let range = range_at(labels, k, instr);
     made.push(Code {
-        deed,
+        action,
         place: instr.place,
         range,
     })?;

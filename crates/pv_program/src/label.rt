@@ -11,8 +11,8 @@ ghost use Rattle.pv_program.specs.Labels.{label_tree, ends_here, FindsLabels, Fi
 
 use crate::grow::number;
 use crate::word::when;
-use pv_place::Place;
 use pv_names::Firsts;
+use pv_place::Place;
 use pv_resolve::ResolveFault;
 use pv_stl_run::Goal;
 use pv_tree::{Instr, Operand, Root};

@@ -5,10 +5,10 @@
 //! (`Extends`), and what the number that it gives means there (`IsValue`, `IsBody`, `IsCall`, ..), for every source of the context.
 #![tactic(auto)]
 
+mod action;
 mod block;
 mod call;
 mod choice;
-mod deed;
 mod fault;
 mod grow;
 mod instance;

@@ -2,7 +2,7 @@
 //! parts of its arguments at which something may trap. Words that can't keep their own.
 //!
 //! The copy goes as deep as expressions stand inside each other.
-ghost use Rattle.std.specs.Prelude.{◌≡◌, map, IfOk};
+ghost use Rattle.std.specs.Prelude.{◌≡◌, map, IfOk, Ok, Err};
 ghost use Rattle.pv_tree.specs.View.{expr_tree, exprs_of, operand_tree, step_tree, steps_of, arg_tree, call_tree};
 ghost use Rattle.pv_mean.specs.Placed.{placed, all_placed, placed_operand, step_placed, steps_placed, arg_placed, call_placed};
 
@@ -10,6 +10,17 @@ use pv_place::Place;
 use pv_tree::{Arg, CallTree, Expr, Operand, Root, Step};
 use pv_types::Name;
 use std::alloc::{AllocError, Global};
+
+/// The value beside what the result holds; where it holds none, the value is let go.
+fn with<A: Drop, B, E>(first: A, second: Result<B, E>) -> Result<(A, B), E>
+    ensures ok { (b : _) → second ≡ Ok b → result ≡ Ok (first, b) }
+    ensures err { (e : _) → second ≡ Err e → result ≡ Err e }
+{
+    match second {
+        Ok(second) => Ok((first, second)),
+        Err(stop) => Err(stop),
+    }
+}
 
 fn copy_name(name: &Option<(Name, Place)>) -> Result<Option<(Name, Place)>, AllocError>
     ensures { IfOk result (λ copy. copy ≡ name.now) }
@@ -66,12 +77,17 @@ fn placed(alloc: Global, at: Place, e: &Expr) -> Result<Expr, AllocError>
             left,
             right,
             ..
-        } => Ok(Expr::Binary {
-            op: *op,
-            place: at,
-            left: Box::new(alloc, placed(alloc, at, left)?)?,
-            right: Box::new(alloc, placed(alloc, at, right)?)?,
-        }),
+        } => {
+            let left = Box::new(alloc, placed(alloc, at, left)?)?;
+            let (left, right) = with(left, placed(alloc, at, right))?;
+            let (left, right) = with(left, Box::new(alloc, right))?;
+            Ok(Expr::Binary {
+                op: *op,
+                place: at,
+                left,
+                right,
+            })
+        }
         Expr::Std { function, args, .. } => Ok(Expr::Std {
             function: *function,
             place: at,
@@ -99,7 +115,7 @@ fn placed_operand(alloc: Global, at: Place, operand: &Operand) -> Result<Operand
         (λ copy. operand_tree copy ≡ placed_operand at (operand_tree operand.now)) }
 {
     let root = copy_root(&operand.root)?;
-    let steps = steps_placed(alloc, at, &operand.steps)?;
+    let (root, steps) = with(root, steps_placed(alloc, at, &operand.steps))?;
     Ok(Operand {
         root,
         steps,
@@ -133,7 +149,7 @@ fn arg_placed(alloc: Global, at: Place, arg: &Arg) -> Result<Arg, AllocError>
     ensures { IfOk result (λ copy. arg_tree copy ≡ arg_placed at (arg_tree arg.now)) }
 {
     let name = copy_name(&arg.name)?;
-    let value = placed(alloc, at, &arg.value)?;
+    let (name, value) = with(name, placed(alloc, at, &arg.value))?;
     Ok(Arg {
         name,
         value,

@@ -7,7 +7,8 @@ ghost use Rattle.pv_tree.specs.InstructionGroups.{group_of, is_jump};
 ghost use Rattle.pv_program.specs.Rows.{is_joined, is_taken, is_edge, is_end, is_change, is_combined, is_shift, WordChanges, WordCombines, WordShifts, WordJumps, WordJoins, WordWrites, WordFindsEdge, WordDoes};
 
 use pv_stl_run::{
-    Change, Combining, Deed, Joining, Junction, Math, Part, Relation, Shifting, Test, When, Written,
+    Action, Change, Combining, Joining, Junction, Math, Part, Relation, Shifting, Test, When,
+    Written,
 };
 use pv_tree::Op;
 
@@ -83,16 +84,16 @@ pub(crate) fn edge(op: Op) -> Option<bool>
 }
 
 /// What ends the block.
-pub(crate) fn end(op: Op) -> Option<Deed>
+pub(crate) fn end(op: Op) -> Option<Action>
     ensures row { IfSome result (λ d. WordDoes op d) }
     ensures each { is_some result ≡ is_end (group_of op) }
     ensures leads { (all : List InstrTree) (k : ℕ) (i : InstrTree)
         → IfSome result (λ d. LeadsSo all k i d) }
 {
     match op {
-        Op::Be => Some(Deed::End),
-        Op::Beu => Some(Deed::End),
-        Op::Bec => Some(Deed::EndWhere),
+        Op::Be => Some(Action::End),
+        Op::Beu => Some(Action::End),
+        Op::Bec => Some(Action::EndWhere),
         _ => None,
     }
 }

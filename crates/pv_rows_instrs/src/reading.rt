@@ -1,8 +1,8 @@
 //! What instructions of rows are read as.
 use pv_place::Place;
 use pv_stl_run::{
-    Change, Combining, Deed, Goal, Instr, Joining, Junction, Math, Part, Relation, Shifting, Test,
-    When, Written,
+    Action, Change, Combining, Goal, Instr, Joining, Junction, Math, Part, Relation, Shifting,
+    Test, When, Written,
 };
 use pv_word::Ty;
 
@@ -75,20 +75,20 @@ pub fn function(word: &str) -> Junction {
 }
 
 /// Instructions on bits of the chain, with the operand 0.
-fn bit_deed(word: &str, operand: &str) -> Option<Deed> {
+fn bit_action(word: &str, operand: &str) -> Option<Action> {
     match (word, operand) {
-        ("O", "") => Some(Deed::Change(Change::KeepOr)),
-        ("A" | "AN" | "O" | "ON" | "X" | "XN", _) => Some(Deed::Join(function(word), 0)),
-        (")", _) => Some(Deed::Change(Change::Close)),
-        ("=", _) => Some(Deed::Write(Written::Result, 0)),
-        ("S", _) => Some(Deed::Write(Written::Where(true), 0)),
-        ("R", _) => Some(Deed::Write(Written::Where(false), 0)),
-        ("NOT", _) => Some(Deed::Change(Change::Negate)),
-        ("SET", _) => Some(Deed::Change(Change::Put(true))),
-        ("CLR", _) => Some(Deed::Change(Change::Put(false))),
-        ("FP", _) => Some(Deed::Edge(true, 0)),
-        ("FN", _) => Some(Deed::Edge(false, 0)),
-        ("SAVE" | "NOP" | "BLD", _) => Some(Deed::Change(Change::Nothing)),
+        ("O", "") => Some(Action::Change(Change::KeepOr)),
+        ("A" | "AN" | "O" | "ON" | "X" | "XN", _) => Some(Action::Join(function(word), 0)),
+        (")", _) => Some(Action::Change(Change::Close)),
+        ("=", _) => Some(Action::Write(Written::Result, 0)),
+        ("S", _) => Some(Action::Write(Written::Where(true), 0)),
+        ("R", _) => Some(Action::Write(Written::Where(false), 0)),
+        ("NOT", _) => Some(Action::Change(Change::Negate)),
+        ("SET", _) => Some(Action::Change(Change::Put(true))),
+        ("CLR", _) => Some(Action::Change(Change::Put(false))),
+        ("FP", _) => Some(Action::Edge(true, 0)),
+        ("FN", _) => Some(Action::Edge(false, 0)),
+        ("SAVE" | "NOP" | "BLD", _) => Some(Action::Change(Change::Nothing)),
         _ => None,
     }
 }
@@ -171,32 +171,32 @@ fn when(word: &str) -> Option<When> {
 }
 
 /// What an instruction does whose value has the type. A jump goes to the goal, a CALL makes the call 0.
-pub fn deed_of(word: &str, operand: &str, ty: Ty, goal: Goal) -> Deed {
+pub fn action_of(word: &str, operand: &str, ty: Ty, goal: Goal) -> Action {
     if let Some((function_word, "")) = word.split_once('(') {
-        return Deed::Change(Change::Open(function(function_word)));
+        return Action::Change(Change::Open(function(function_word)));
     }
-    if let Some(deed) = bit_deed(word, operand) {
-        return deed;
+    if let Some(action) = bit_action(word, operand) {
+        return action;
     }
     if let Some(op) = math(word) {
-        return Deed::Change(Change::Calculate(op));
+        return Action::Change(Change::Calculate(op));
     }
     if let Some((relation, part)) = comparison(word) {
-        return Deed::Change(Change::Compare(relation, part));
+        return Action::Change(Change::Compare(relation, part));
     }
     if let Some(change) = word_change(word, operand) {
-        return Deed::Change(change);
+        return Action::Change(change);
     }
     if let Some(test) = when(word) {
-        return Deed::Jump(test, goal);
+        return Action::Jump(test, goal);
     }
     match (word, operand) {
-        ("L", "v" | "w") => Deed::Load(ty, if operand == "v" { 1 } else { 2 }),
-        ("L", _) => Deed::Change(Change::Load(literal(operand))),
-        ("T", _) => Deed::Transfer(ty, if operand == "v" { 1 } else { 2 }),
-        ("BEC", _) => Deed::EndWhere,
-        ("CALL", _) => Deed::Call(0),
-        _ => Deed::End,
+        ("L", "v" | "w") => Action::Load(ty, if operand == "v" { 1 } else { 2 }),
+        ("L", _) => Action::Change(Change::Load(literal(operand))),
+        ("T", _) => Action::Transfer(ty, if operand == "v" { 1 } else { 2 }),
+        ("BEC", _) => Action::EndWhere,
+        ("CALL", _) => Action::Call(0),
+        _ => Action::End,
     }
 }
 
@@ -204,7 +204,7 @@ pub fn deed_of(word: &str, operand: &str, ty: Ty, goal: Goal) -> Deed {
 pub fn instr_of(text: &str, ty: Ty, goal: Goal, offset: u32) -> Instr {
     let (word, operand) = text.split_once(' ').unwrap_or((text, ""));
     Instr {
-        deed: deed_of(word, operand, ty, goal),
+        action: action_of(word, operand, ty, goal),
         place: Place { file: 0, offset },
         range: None,
     }

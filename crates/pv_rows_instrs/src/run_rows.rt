@@ -1,5 +1,5 @@
 //! Runs of bodies.
-use crate::reading::deed_of;
+use crate::reading::action_of;
 use crate::state::targets;
 use pv_place::Place;
 use pv_stl_run::{Goal, Going, Instr, Stop, Turn};
@@ -114,7 +114,7 @@ fn code_of(alloc: Global, parts: &str) -> Result<Vec<Instr>, AllocError> {
             offset: short(k),
         };
         out.push(Instr {
-            deed: deed_of(word, operand, Ty::Int, goal_of(parts, k, operand)),
+            action: action_of(word, operand, Ty::Int, goal_of(parts, k, operand)),
             place,
             range: if begins_range(parts, k) {
                 Some(place)

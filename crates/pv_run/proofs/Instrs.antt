@@ -16,8 +16,8 @@ use Rattle.pv_mean.specs.InstructionRuns.{here, follow, run_instructions}
 use Rattle.pv_eval.specs.Writes.{TypesOf}
 use Rattle.pv_eval.specs.declared.target.Target.{Target}
 use Rattle.pv_stl_run.specs.declared.instr.Instr.{Instr}
-use Rattle.pv_stl_run.specs.declared.instr.Deed.{Deed}
-use Rattle.pv_stl_run.specs.declared.instr.Deed.TheVariants as deed
+use Rattle.pv_stl_run.specs.declared.instr.Action.{Action}
+use Rattle.pv_stl_run.specs.declared.instr.Action.TheVariants as action
 use Rattle.pv_stl_run.specs.declared.registers.Registers.{Registers}
 use Rattle.pv_stl_run.specs.declared.registers.Nesting.{Nesting}
 use Rattle.pv_stl_run.specs.declared.stop.Stop as stl
@@ -57,7 +57,7 @@ pub record Coded (source : Source) (block : BlockTree) (p : Program) (all : List
   pub are : AreInstrs source block p.targets.items p.scratch code all
   pub ranges : ranges_in code ≤ room
   pub calls : (k n : ℕ) (c : Instr) (i : InstrTree) (call : CallPlain) → slice_get code k ≡ Some c → slice_get all k ≡ Some i
-      → c.deed ≡ deed.Call n → i.call ≡ Some call → IsCall source block p n (site_of i call)
+      → c.action ≡ action.Call n → i.call ≡ Some call → IsCall source block p n (site_of i call)
 
 pub coded : {source : Source} {block : BlockTree} {p : Program} {s : Span} {all : List InstrTree} → HasInstrs source block p s all
     → (code : List Instr) → code ≡ instrs_in p s → (room : ℕ) → p.ranges ≤ room → Coded source block p all code room
@@ -167,16 +167,16 @@ pub record AtCall (source : Source) (block : BlockTree) (p : Program) (all : Lis
   pub its : tree.call ≡ Some call
   pub means : IsCall source block p n (site_of tree call)
 
-does_call : (source : Source) (block : BlockTree) (p : Program) (d : Deed) (n : ℕ) (i : InstrTree)
-    → Does source block p.targets.items p.scratch d i → d ≡ deed.Call n → (call : CallPlain) × (i.call ≡ Some call)
+does_call : (source : Source) (block : BlockTree) (p : Program) (d : Action) (n : ℕ) (i : InstrTree)
+    → Does source block p.targets.items p.scratch d i → d ≡ action.Call n → (call : CallPlain) × (i.call ≡ Some call)
 does_call source block p d n i does e = subst (λ x. Does source block p.targets.items p.scratch x i) e does
 
 pub at_call : {source : Source} {block : BlockTree} {p : Program} {all : List InstrTree} {code : List Instr} {room : ℕ}
     → Coded source block p all code room
-    → (at n : ℕ) (c : Instr) → slice_get code at ≡ Some c → c.deed ≡ deed.Call n → AtCall source block p all at n
+    → (at n : ℕ) (c : Instr) → slice_get code at ≡ Some c → c.action ≡ action.Call n → AtCall source block p all at n
 at_call {source} {block} {p} {all} {code} h at n c e d =
     let found = beside code all at c h.are.same e in
-    let its = does_call source block p c.deed n found.0 (h.are.each at c found.0 e found.1).does d in
+    let its = does_call source block p c.action n found.0 (h.are.each at c found.0 e found.1).does d in
     record {
       tree = found.0;
       is = found.1;

@@ -20,7 +20,7 @@ use Rattle.pv_eval.specs.Means.{activation}
 use Rattle.pv_eval.specs.Ready.{Evaluates, Locates}
 use Rattle.pv_eval.specs.Writes.{TypesOf}
 use Rattle.pv_stl_run.specs.declared.instr.Instr.{Instr}
-use Rattle.pv_stl_run.specs.declared.instr.Deed.TheVariants as deed
+use Rattle.pv_stl_run.specs.declared.instr.Action.TheVariants as action
 use Rattle.pv_stl_run.specs.Going.{AreInstrs, ranges_in}
 use Rattle.pv_run.specs.declared.program.TheConstants.{MOST_STATEMENTS}
 use Rattle.pv_run.specs.declared.program.Span.{Span}
@@ -271,7 +271,7 @@ pub record HasInstrs (source : Source) (block : BlockTree) (p : Program) (s : Sp
   pub ranges : ranges_in (instrs_in p s) ≤ p.ranges
   pub calls : (k c : ℕ) (code : Instr) (i : InstrTree) (call : CallPlain)
       → slice_get (instrs_in p s) k ≡ Some code → slice_get all k ≡ Some i
-      → code.deed ≡ deed.Call c → i.call ≡ Some call
+      → code.action ≡ action.Call c → i.call ≡ Some call
       → IsCall source block p c (site_of i call)
 
 -- a body: statements of SCL, or instructions of STL

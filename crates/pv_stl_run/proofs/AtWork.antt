@@ -13,16 +13,16 @@ use Rattle.pv_eval.specs.declared.target.Target.{Target}
 use Rattle.pv_eval.specs.declared.trap.Trap.{Trap}
 use Rattle.pv_stl_run.specs.declared.instr.Goal.{Goal}
 use Rattle.pv_stl_run.specs.declared.instr.Change.TheVariants as change
-use Rattle.pv_stl_run.specs.declared.instr.Deed.{Deed}
-use Rattle.pv_stl_run.specs.declared.instr.Deed.TheVariants as deed
+use Rattle.pv_stl_run.specs.declared.instr.Action.{Action}
+use Rattle.pv_stl_run.specs.declared.instr.Action.TheVariants as action
 use Rattle.pv_stl_run.specs.declared.instr.Instr.{Instr}
 use Rattle.pv_stl_run.specs.declared.registers.Registers.{Registers}
 use Rattle.pv_stl_run.specs.declared.steps.Next as steps
 use Rattle.pv_stl_run.specs.declared.steps.Next.TheVariants as next
 use Rattle.pv_stl_run.specs.declared.stop.Stop.{Stop}
 use Rattle.pv_stl_run.specs.declared.turns.Turn.{Turn}
-use Rattle.pv_stl_run.specs.Code.{IsDeed, working, next_of, GoesBy, opened, MayDo}
-use Rattle.pv_stl_run.specs.Deeds.{call_of}
+use Rattle.pv_stl_run.specs.Code.{IsAction, working, next_of, GoesBy, opened, MayDo}
+use Rattle.pv_stl_run.specs.Actions.{call_of}
 use Rattle.pv_stl_run.specs.Going.{entered_of, resumed, HasRanges, Does, Jumps, JumpsSo, IsInstr, AreInstrs, Nested, nested_at, left_of, frame_end, Went, Fell, WhereOn, GoesTo, did, then_follows, UpToCall}
 use Rattle.pv_stl_run.proofs.Moves.{tree_beside, tree_at, tree_past}
 use Rattle.pv_stl_run.proofs.Goes.{past_end, traps_at, goes_at, nested_next}
@@ -68,36 +68,36 @@ at_end {source} {calls} {act} {all} {code} {turns} {entered} {at} {w} g are e =
 pub at_call : {source : Source} {calls : Calls} {act : Activation} {all : List InstrTree} {code : List Instr} {turns : List Turn}
     {entered at : ℕ} {w : Working} {depth : ℕ} {before : Ended Next}
     → GoesOn source calls act all code turns entered at w depth before → (block : BlockTree) (c : Instr) (n : ℕ)
-    → slice_get code at ≡ Some c → call_of c.deed ≡ Some n
+    → slice_get code at ≡ Some c → call_of c.action ≡ Some n
     → UpToCall source block code turns entered at depth n (left_of source calls act all turns entered at w) before
-at_call g block c n e f = record { same = g.same; call = c; at_call = e; is = call_is c.deed f; nested = g.nested } where
-  call_is : (d : Deed) → call_of d ≡ Some n → d ≡ deed.Call n
-  call_is (deed.Call m) h = let same : m ≡ n = cc in ap deed.Call same
-  call_is (deed.Change x) h = absurd (cc)
-  call_is (deed.Join x y) h = absurd (cc)
-  call_is (deed.Write x y) h = absurd (cc)
-  call_is (deed.Edge x y) h = absurd (cc)
-  call_is (deed.Load x y) h = absurd (cc)
-  call_is (deed.Transfer x y) h = absurd (cc)
-  call_is (deed.Jump x y) h = absurd (cc)
-  call_is deed.End h = absurd (cc)
-  call_is deed.EndWhere h = absurd (cc)
+at_call g block c n e f = record { same = g.same; call = c; at_call = e; is = call_is c.action f; nested = g.nested } where
+  call_is : (d : Action) → call_of d ≡ Some n → d ≡ action.Call n
+  call_is (action.Call m) h = let same : m ≡ n = cc in ap action.Call same
+  call_is (action.Change x) h = absurd (cc)
+  call_is (action.Join x y) h = absurd (cc)
+  call_is (action.Write x y) h = absurd (cc)
+  call_is (action.Edge x y) h = absurd (cc)
+  call_is (action.Load x y) h = absurd (cc)
+  call_is (action.Transfer x y) h = absurd (cc)
+  call_is (action.Jump x y) h = absurd (cc)
+  call_is action.End h = absurd (cc)
+  call_is action.EndWhere h = absurd (cc)
 
 -- ---- one instruction that isn't a call
 
 pub does_plainly : {source : Source} {block : BlockTree} {targets : List Target} {room : ℕ}
-    (d : Deed) (i : InstrTree) → Does source block targets room d i → call_of d ≡ None
-    → (i.call ≡ None) × IsDeed source block targets room d i
-does_plainly (deed.Call m) i does h = absurd (cc)
-does_plainly (deed.Change x) i does h = does
-does_plainly (deed.Join x y) i does h = does
-does_plainly (deed.Write x y) i does h = does
-does_plainly (deed.Edge x y) i does h = does
-does_plainly (deed.Load x y) i does h = does
-does_plainly (deed.Transfer x y) i does h = does
-does_plainly (deed.Jump x y) i does h = does
-does_plainly deed.End i does h = does
-does_plainly deed.EndWhere i does h = does
+    (d : Action) (i : InstrTree) → Does source block targets room d i → call_of d ≡ None
+    → (i.call ≡ None) × IsAction source block targets room d i
+does_plainly (action.Call m) i does h = absurd (cc)
+does_plainly (action.Change x) i does h = does
+does_plainly (action.Join x y) i does h = does
+does_plainly (action.Write x y) i does h = does
+does_plainly (action.Edge x y) i does h = does
+does_plainly (action.Load x y) i does h = does
+does_plainly (action.Transfer x y) i does h = does
+does_plainly (action.Jump x y) i does h = does
+does_plainly action.End i does h = does
+does_plainly action.EndWhere i does h = does
 
 pub at_trap : {source : Source} {calls : Calls} {act : Activation} {all : List InstrTree} {code : List Instr} {turns : List Turn}
     {entered at : ℕ} {w : Working} {depth : ℕ} {before : Ended Next}
@@ -121,7 +121,7 @@ pub at_next : {source : Source} {calls : Calls} {act : Activation} {all : List I
 at_next {source} {calls} {act} {all} {code} {turns} {entered} {at} {w} g i n r frame is none e =
     sym (goes_at source calls act all turns entered at i w (did i n (working r frame)) is none (sym (next_did i n r frame) ∙ e)) ∙ g.same
 
-pub leads : (all : List InstrTree) (code : List Instr) (k : ℕ) (i : InstrTree) (d : Deed) (n : steps.Next)
+pub leads : (all : List InstrTree) (code : List Instr) (k : ℕ) (i : InstrTree) (d : Action) (n : steps.Next)
     → GoesBy d (Ok n) → JumpsSo all code k i d → GoesTo all k i n
 leads all code k i d next.Onward g j = tt
 leads all code k i d (next.To goal) g j =
@@ -149,78 +149,78 @@ where_on false p e h = absurd (cc)
 
 -- ---- nestings
 
-pub may_less : (d : Deed) (n m : ℕ) → n ≤ m → MayDo d m → MayDo d n
-may_less (deed.Change (change.Open j)) n m h may = omega arith
-may_less (deed.Change change.Close) n m h may = tt
-may_less (deed.Change change.Nothing) n m h may = tt
-may_less (deed.Change change.KeepOr) n m h may = tt
-may_less (deed.Change change.Negate) n m h may = tt
-may_less (deed.Change (change.Put b)) n m h may = tt
-may_less (deed.Change (change.Load v)) n m h may = tt
-may_less (deed.Change (change.Calculate x)) n m h may = tt
-may_less (deed.Change (change.Compare x y)) n m h may = tt
-may_less (deed.Change (change.Combine x y z)) n m h may = tt
-may_less (deed.Change (change.Shift x y z)) n m h may = tt
-may_less (deed.Change change.Extend) n m h may = tt
-may_less (deed.Change change.Swap) n m h may = tt
-may_less (deed.Change change.Push) n m h may = tt
-may_less (deed.Change change.Pop) n m h may = tt
-may_less (deed.Join x y) n m h may = tt
-may_less (deed.Write x y) n m h may = tt
-may_less (deed.Edge x y) n m h may = tt
-may_less (deed.Load x y) n m h may = tt
-may_less (deed.Transfer x y) n m h may = tt
-may_less (deed.Jump x y) n m h may = tt
-may_less deed.End n m h may = tt
-may_less deed.EndWhere n m h may = tt
-may_less (deed.Call x) n m h may = tt
+pub may_less : (d : Action) (n m : ℕ) → n ≤ m → MayDo d m → MayDo d n
+may_less (action.Change (change.Open j)) n m h may = omega arith
+may_less (action.Change change.Close) n m h may = tt
+may_less (action.Change change.Nothing) n m h may = tt
+may_less (action.Change change.KeepOr) n m h may = tt
+may_less (action.Change change.Negate) n m h may = tt
+may_less (action.Change (change.Put b)) n m h may = tt
+may_less (action.Change (change.Load v)) n m h may = tt
+may_less (action.Change (change.Calculate x)) n m h may = tt
+may_less (action.Change (change.Compare x y)) n m h may = tt
+may_less (action.Change (change.Combine x y z)) n m h may = tt
+may_less (action.Change (change.Shift x y z)) n m h may = tt
+may_less (action.Change change.Extend) n m h may = tt
+may_less (action.Change change.Swap) n m h may = tt
+may_less (action.Change change.Push) n m h may = tt
+may_less (action.Change change.Pop) n m h may = tt
+may_less (action.Join x y) n m h may = tt
+may_less (action.Write x y) n m h may = tt
+may_less (action.Edge x y) n m h may = tt
+may_less (action.Load x y) n m h may = tt
+may_less (action.Transfer x y) n m h may = tt
+may_less (action.Jump x y) n m h may = tt
+may_less action.End n m h may = tt
+may_less action.EndWhere n m h may = tt
+may_less (action.Call x) n m h may = tt
 
-opened_more : (d : Deed) (n m : ℕ) → n ≤ m → opened d n ≤ opened d m
-opened_more (deed.Change (change.Open j)) n m h = omega arith
-opened_more (deed.Change change.Close) n m h = omega arith
-opened_more (deed.Change change.Nothing) n m h = h
-opened_more (deed.Change change.KeepOr) n m h = h
-opened_more (deed.Change change.Negate) n m h = h
-opened_more (deed.Change (change.Put b)) n m h = h
-opened_more (deed.Change (change.Load v)) n m h = h
-opened_more (deed.Change (change.Calculate x)) n m h = h
-opened_more (deed.Change (change.Compare x y)) n m h = h
-opened_more (deed.Change (change.Combine x y z)) n m h = h
-opened_more (deed.Change (change.Shift x y z)) n m h = h
-opened_more (deed.Change change.Extend) n m h = h
-opened_more (deed.Change change.Swap) n m h = h
-opened_more (deed.Change change.Push) n m h = h
-opened_more (deed.Change change.Pop) n m h = h
-opened_more (deed.Join x y) n m h = h
-opened_more (deed.Write x y) n m h = h
-opened_more (deed.Edge x y) n m h = h
-opened_more (deed.Load x y) n m h = h
-opened_more (deed.Transfer x y) n m h = h
-opened_more (deed.Jump x y) n m h = h
-opened_more deed.End n m h = h
-opened_more deed.EndWhere n m h = h
-opened_more (deed.Call x) n m h = h
+opened_more : (d : Action) (n m : ℕ) → n ≤ m → opened d n ≤ opened d m
+opened_more (action.Change (change.Open j)) n m h = omega arith
+opened_more (action.Change change.Close) n m h = omega arith
+opened_more (action.Change change.Nothing) n m h = h
+opened_more (action.Change change.KeepOr) n m h = h
+opened_more (action.Change change.Negate) n m h = h
+opened_more (action.Change (change.Put b)) n m h = h
+opened_more (action.Change (change.Load v)) n m h = h
+opened_more (action.Change (change.Calculate x)) n m h = h
+opened_more (action.Change (change.Compare x y)) n m h = h
+opened_more (action.Change (change.Combine x y z)) n m h = h
+opened_more (action.Change (change.Shift x y z)) n m h = h
+opened_more (action.Change change.Extend) n m h = h
+opened_more (action.Change change.Swap) n m h = h
+opened_more (action.Change change.Push) n m h = h
+opened_more (action.Change change.Pop) n m h = h
+opened_more (action.Join x y) n m h = h
+opened_more (action.Write x y) n m h = h
+opened_more (action.Edge x y) n m h = h
+opened_more (action.Load x y) n m h = h
+opened_more (action.Transfer x y) n m h = h
+opened_more (action.Jump x y) n m h = h
+opened_more action.End n m h = h
+opened_more action.EndWhere n m h = h
+opened_more (action.Call x) n m h = h
 
 pub depth_on : (code : List Instr) (k to depth now : ℕ) (c : Instr) → slice_get code k ≡ Some c → depth ≤ nested_at code k
-    → now ≤ opened c.deed depth → to ≡ suc k → now ≤ nested_at code to
+    → now ≤ opened c.action depth → to ≡ suc k → now ≤ nested_at code to
 depth_on code k to depth now c e h g t =
-    omega (arith, opened_more c.deed depth (nested_at code k) h, nested_next code k c e, ap (nested_at code) t)
+    omega (arith, opened_more c.action depth (nested_at code k) h, nested_next code k c e, ap (nested_at code) t)
 
-pub depth_jump : (all : List InstrTree) (code : List Instr) (k to depth now : ℕ) (i : InstrTree) (d : Deed) (goal : Goal)
+pub depth_jump : (all : List InstrTree) (code : List Instr) (k to depth now : ℕ) (i : InstrTree) (d : Action) (goal : Goal)
     → GoesBy d (Ok (next.To goal)) → JumpsSo all code k i d → depth ≤ nested_at code k → now ≤ opened d depth → now ≤ nested_at code to
 depth_jump all code k to depth now i d goal g j h o =
     let its : Jumps all code k i goal = subst (JumpsSo all code k i) g.1 j in
-    let same : opened d depth ≡ depth = ap (λ (x : Deed). opened x depth) g.1 in
+    let same : opened d depth ≡ depth = ap (λ (x : Action). opened x depth) g.1 in
     let none : nested_at code k ≡ 0 = its.outside in
     omega arith
 
 -- behind an instruction, wherever it goes on
 pub depth_behind : (all : List InstrTree) (code : List Instr) (k to depth now : ℕ) (i : InstrTree) (c : Instr) (n : steps.Next)
-    (r : Result Bool Stop) → r ≡ Ok true → slice_get code k ≡ Some c → GoesBy c.deed (Ok n) → JumpsSo all code k i c.deed
-    → depth ≤ nested_at code k → now ≤ opened c.deed depth → (n ≡ next.Onward → WhereOn r (to ≡ suc k)) → (n ≡ next.Left → r ≡ Ok false)
+    (r : Result Bool Stop) → r ≡ Ok true → slice_get code k ≡ Some c → GoesBy c.action (Ok n) → JumpsSo all code k i c.action
+    → depth ≤ nested_at code k → now ≤ opened c.action depth → (n ≡ next.Onward → WhereOn r (to ≡ suc k)) → (n ≡ next.Left → r ≡ Ok false)
     → now ≤ nested_at code to
 depth_behind all code k to depth now i c next.Onward r ok e g j h o onward left =
     depth_on code k to depth now c e h o (subst (λ x. WhereOn x (to ≡ suc k)) ok (onward refl))
-depth_behind all code k to depth now i c (next.To goal) r ok e g j h o onward left = depth_jump all code k to depth now i c.deed goal g j h o
+depth_behind all code k to depth now i c (next.To goal) r ok e g j h o onward left = depth_jump all code k to depth now i c.action goal g j h o
 depth_behind all code k to depth now i c next.Left r ok e g j h o onward left =
     let both : ◌≡◌ {A = Result Bool Stop} (Ok true) (Ok false) = sym ok ∙ left refl in absurd (cc)

@@ -18,8 +18,8 @@ use Rattle.pv_stl_run.specs.declared.instr.Goal.{Goal}
 use Rattle.pv_stl_run.specs.declared.instr.When.{When}
 use Rattle.pv_stl_run.specs.declared.instr.Written.{Written}
 use Rattle.pv_stl_run.specs.declared.instr.Change.{Change}
-use Rattle.pv_stl_run.specs.declared.instr.Deed.{Deed}
-use Rattle.pv_stl_run.specs.declared.instr.Deed.TheVariants as deed
+use Rattle.pv_stl_run.specs.declared.instr.Action.{Action}
+use Rattle.pv_stl_run.specs.declared.instr.Action.TheVariants as action
 use Rattle.pv_stl_run.specs.declared.registers.Junction.{Junction}
 use Rattle.pv_stl_run.specs.declared.registers.Registers.{Registers}
 use Rattle.pv_stl_run.specs.declared.steps.Next as steps
@@ -27,12 +27,12 @@ use Rattle.pv_stl_run.specs.declared.steps.Next.TheVariants as next
 use Rattle.pv_stl_run.specs.Views.{junction_of}
 use Rattle.pv_stl_run.specs.Rows.{row_of, left_in}
 use Rattle.pv_stl_run.specs.Code as code
-use Rattle.pv_stl_run.specs.Code.{IsTarget, HasType, IsDeed, written_of, jump_row, next_of, onward_in, IsNoJump, IsGoal, GoesBy}
+use Rattle.pv_stl_run.specs.Code.{IsTarget, HasType, IsAction, written_of, jump_row, next_of, onward_in, IsNoJump, IsGoal, GoesBy}
 
 -- ---- rows, by what the code makes
 
 pub no_call : (source : Source) (block : BlockTree) (targets : List Target) (room n : ℕ) (i : InstrTree)
-    → IsDeed source block targets room (deed.Call n) i → ⊥
+    → IsAction source block targets room (action.Call n) i → ⊥
 no_call source block targets room n i d = elim d [ ]
 
 changed : (done : Result Unit Trap) (r : Registers) (frame : Frame)
@@ -42,7 +42,7 @@ changed (Err t) r frame = refl
 
 pub change_effect : (source : Source) (block : BlockTree) (targets : List Target) (room : ℕ) (c : Change) (i : InstrTree) (first : ℕ)
     (place : Place) (old : m.Registers) (frame : Frame) (done : Result Unit Trap) (r : Registers)
-    → IsDeed source block targets room (deed.Change c) i → i.place ≡ place → left_in done r ≡ row_of c place old
+    → IsAction source block targets room (action.Change c) i → i.place ≡ place → left_in done r ≡ row_of c place old
     → onward_in done r frame ≡ effect source (activation block first) i i.op (record { registers = old; frame = frame })
 change_effect source block targets room c i first place old frame done r (code.changes row) p e =
     changed done r frame
@@ -50,67 +50,67 @@ change_effect source block targets room c i first place old frame done r (code.c
     ∙ sym (row first (record { registers = old; frame = frame }))
 
 pub join_effect : (source : Source) (block : BlockTree) (targets : List Target) (room n : ℕ) (j : Junction) (i : InstrTree) (first : ℕ)
-    (w : Working) (e : Ended Next) → IsDeed source block targets room (deed.Join j n) i
+    (w : Working) (e : Ended Next) → IsAction source block targets room (action.Join j n) i
     → ((o : OperandTree) → i.operand ≡ Some o → IsTarget source block targets room n o
     → e ≡ rows.joins source (activation block first) i (junction_of j) w)
     → e ≡ effect source (activation block first) i i.op w
 join_effect source block targets room n j i first w e (code.joins o is target row) h = h o is target ∙ sym (row first w)
 
 pub write_effect : (source : Source) (block : BlockTree) (targets : List Target) (room n : ℕ) (t : Written) (i : InstrTree) (first : ℕ)
-    (w : Working) (e : Ended Next) → IsDeed source block targets room (deed.Write t n) i
+    (w : Working) (e : Ended Next) → IsAction source block targets room (action.Write t n) i
     → ((o : OperandTree) → i.operand ≡ Some o → IsTarget source block targets room n o
     → e ≡ rows.writes source (activation block first) i (λ b. written_of t b) w)
     → e ≡ effect source (activation block first) i i.op w
 write_effect source block targets room n t i first w e (code.writes o is target row) h = h o is target ∙ sym (row first w)
 
 pub edge_effect : (source : Source) (block : BlockTree) (targets : List Target) (room n : ℕ) (rising : Bool) (i : InstrTree) (first : ℕ)
-    (w : Working) (e : Ended Next) → IsDeed source block targets room (deed.Edge rising n) i
+    (w : Working) (e : Ended Next) → IsAction source block targets room (action.Edge rising n) i
     → ((o : OperandTree) → i.operand ≡ Some o → IsTarget source block targets room n o
     → e ≡ rows.finds_edge source (activation block first) i rising w)
     → e ≡ effect source (activation block first) i i.op w
 edge_effect source block targets room n rising i first w e (code.finds_edge o is target row) h = h o is target ∙ sym (row first w)
 
 pub load_effect : (source : Source) (block : BlockTree) (targets : List Target) (room n : ℕ) (ty : Ty) (i : InstrTree) (first : ℕ)
-    (w : Working) (e : Ended Next) → IsDeed source block targets room (deed.Load ty n) i
+    (w : Working) (e : Ended Next) → IsAction source block targets room (action.Load ty n) i
     → ((o : OperandTree) → i.operand ≡ Some o → IsTarget source block targets room n o → i.literal ≡ None → HasType source block i ty
     → e ≡ rows.loads source (activation block first) i w)
     → e ≡ effect source (activation block first) i i.op w
 load_effect source block targets room n ty i first w e (code.loads o is none target its_type row) h = h o is target none its_type ∙ sym (row first w)
 
 pub transfer_effect : (source : Source) (block : BlockTree) (targets : List Target) (room n : ℕ) (ty : Ty) (i : InstrTree) (first : ℕ)
-    (w : Working) (e : Ended Next) → IsDeed source block targets room (deed.Transfer ty n) i
+    (w : Working) (e : Ended Next) → IsAction source block targets room (action.Transfer ty n) i
     → ((o : OperandTree) → i.operand ≡ Some o → IsTarget source block targets room n o → HasType source block i ty
     → e ≡ rows.transfers source (activation block first) i w)
     → e ≡ effect source (activation block first) i i.op w
 transfer_effect source block targets room n ty i first w e (code.transfers o is target its_type row) h = h o is target its_type ∙ sym (row first w)
 
 pub jump_effect : (source : Source) (block : BlockTree) (targets : List Target) (room : ℕ) (when : When) (goal : Goal) (i : InstrTree)
-    (first : ℕ) (w : Working) → IsDeed source block targets room (deed.Jump when goal) i
+    (first : ℕ) (w : Working) → IsAction source block targets room (action.Jump when goal) i
     → jump_row when i w ≡ effect source (activation block first) i i.op w
 jump_effect source block targets room when goal i first w (code.jumps row) = sym (row first w)
 
 pub end_effect : (source : Source) (block : BlockTree) (targets : List Target) (room : ℕ) (i : InstrTree)
-    (first : ℕ) (w : Working) → IsDeed source block targets room deed.End i
+    (first : ℕ) (w : Working) → IsAction source block targets room action.End i
     → ended (left w.frame) ≡ effect source (activation block first) i i.op w
 end_effect source block targets room i first w (code.ends row) = sym (row first w)
 
 pub where_effect : (source : Source) (block : BlockTree) (targets : List Target) (room : ℕ) (i : InstrTree)
-    (first : ℕ) (w : Working) → IsDeed source block targets room deed.EndWhere i
+    (first : ℕ) (w : Working) → IsAction source block targets room action.EndWhere i
     → by_result i w ends_where ≡ effect source (activation block first) i i.op w
 where_effect source block targets room i first w (code.ends_where row) = sym (row first w)
 
 -- ---- where it goes on
 
-pub goes_plainly : (d : Deed) (r : Result steps.Next Trap) → IfOk r IsNoJump → GoesBy d r
+pub goes_plainly : (d : Action) (r : Result steps.Next Trap) → IfOk r IsNoJump → GoesBy d r
 goes_plainly d (Ok next.Onward) h = tt
 goes_plainly d (Ok (next.To goal)) h = absurd h
 goes_plainly d (Ok next.Left) h = tt
 goes_plainly d (Err t) h = tt
 
-pub goes_jumping : (d : Deed) (w : When) (goal : Goal) (r : Result steps.Next Trap) → d ≡ deed.Jump w goal → IfOk r (IsGoal goal)
+pub goes_jumping : (d : Action) (w : When) (goal : Goal) (r : Result steps.Next Trap) → d ≡ action.Jump w goal → IfOk r (IsGoal goal)
     → GoesBy d r
 goes_jumping d w goal (Ok next.Onward) e h = tt
-goes_jumping d w goal (Ok (next.To g)) e h = (w, e ∙ ap (deed.Jump w) (sym h))
+goes_jumping d w goal (Ok (next.To g)) e h = (w, e ∙ ap (action.Jump w) (sym h))
 goes_jumping d w goal (Ok next.Left) e h = tt
 goes_jumping d w goal (Err t) e h = tt
 

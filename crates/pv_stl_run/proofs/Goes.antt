@@ -116,14 +116,14 @@ goes_at source calls act all turns entered at i w next is none e =
 
 -- ---- nestings
 
-pub nested_next : (code : List Instr) (k : ℕ) (c : Instr) → slice_get code k ≡ Some c → nested_at code (suc k) ≡ opened c.deed (nested_at code k)
+pub nested_next : (code : List Instr) (k : ℕ) (c : Instr) → slice_get code k ≡ Some c → nested_at code (suc k) ≡ opened c.action (nested_at code k)
 nested_next code k c e = behind_next code k 0 e where
-  behind_next : (xs : List Instr) (j n : ℕ) → slice_get xs j ≡ Some c → nested_behind (take (suc j) xs) n ≡ opened c.deed (nested_behind (take j xs) n)
+  behind_next : (xs : List Instr) (j n : ℕ) → slice_get xs j ≡ Some c → nested_behind (take (suc j) xs) n ≡ opened c.action (nested_behind (take j xs) n)
   behind_next [] j n h = absurd (cc)
-  behind_next (x ∷ xs) zero n h = ap (λ (i : Instr). opened i.deed n) (first_is x h) where
+  behind_next (x ∷ xs) zero n h = ap (λ (i : Instr). opened i.action n) (first_is x h) where
     first_is : (a : Instr) → Some a ≡ Some c → a ≡ c
     first_is a g = cc
-  behind_next (x ∷ xs) (suc j) n h = behind_next xs j (opened x.deed n) h
+  behind_next (x ∷ xs) (suc j) n h = behind_next xs j (opened x.action n) h
 
 -- ---- for the moves of the code
 

@@ -18,7 +18,7 @@ use Rattle.pv_mean.specs.Registers.{Logic, Junction, Registers, Working, had, re
 use Rattle.pv_mean.specs.BitLogic.{join, edge}
 use Rattle.pv_mean.specs.Accumulators.{loaded}
 use Rattle.pv_mean.specs.Instructions.{Next, onward, spot_behind, type_behind, bit_at, with_registers, joins, writes, finds_edge, loads, transfers}
-use Rattle.pv_stl_run.specs.Deeds.{frame_taking}
+use Rattle.pv_stl_run.specs.Actions.{frame_taking}
 
 -- the spot of an instruction with an operand
 spot_is : (source : Source) (act : Activation) (frame : Frame) (i : InstrTree) (o : OperandTree) → i.operand ≡ Some o

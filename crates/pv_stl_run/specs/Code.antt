@@ -20,8 +20,8 @@ use Rattle.pv_stl_run.specs.declared.instr.Written.TheVariants as written
 use Rattle.pv_stl_run.specs.declared.instr.When.{When}
 use Rattle.pv_stl_run.specs.declared.instr.When.TheVariants as when
 use Rattle.pv_stl_run.specs.declared.instr.Goal.{Goal}
-use Rattle.pv_stl_run.specs.declared.instr.Deed.{Deed}
-use Rattle.pv_stl_run.specs.declared.instr.Deed.TheVariants as deed
+use Rattle.pv_stl_run.specs.declared.instr.Action.{Action}
+use Rattle.pv_stl_run.specs.declared.instr.Action.TheVariants as action
 use Rattle.pv_stl_run.specs.declared.registers.Junction.{Junction}
 use Rattle.pv_stl_run.specs.declared.registers.Registers.{Registers}
 use Rattle.pv_stl_run.specs.declared.steps.Next.{Next}
@@ -57,37 +57,37 @@ abbrev pub HasType : Source → BlockTree → InstrTree → Ty → Type 0
 HasType source block i ty = (first : ℕ) → ty ≡ type_behind source (activation block first) i
 
 -- what an instruction does that isn't a call
-pub data IsDeed (source : Source) (block : BlockTree) (targets : List Target) (room : ℕ) : Deed
+pub data IsAction (source : Source) (block : BlockTree) (targets : List Target) (room : ℕ) : Action
     → InstrTree → Type 0 where
   changes : {c : Change} {i : InstrTree}
       → HasRow source block i (λ act. on_registers (λ r. row_of c i.place r))
-      → IsDeed source block targets room (deed.Change c) i
+      → IsAction source block targets room (action.Change c) i
   joins : {j : Junction} {n : ℕ} {i : InstrTree} (o : OperandTree)
       → i.operand ≡ Some o → IsTarget source block targets room n o
       → HasRow source block i (λ act. m.joins source act i (junction_of j))
-      → IsDeed source block targets room (deed.Join j n) i
+      → IsAction source block targets room (action.Join j n) i
   writes : {w : Written} {n : ℕ} {i : InstrTree} (o : OperandTree)
       → i.operand ≡ Some o → IsTarget source block targets room n o
       → HasRow source block i (λ act. m.writes source act i (λ e. written_of w e))
-      → IsDeed source block targets room (deed.Write w n) i
+      → IsAction source block targets room (action.Write w n) i
   finds_edge : {rising : Truth} {n : ℕ} {i : InstrTree} (o : OperandTree)
       → i.operand ≡ Some o → IsTarget source block targets room n o
       → HasRow source block i (λ act. m.finds_edge source act i rising)
-      → IsDeed source block targets room (deed.Edge rising n) i
+      → IsAction source block targets room (action.Edge rising n) i
   loads : {ty : Ty} {n : ℕ} {i : InstrTree} (o : OperandTree)
       → i.operand ≡ Some o → i.literal ≡ None → IsTarget source block targets room n o
       → HasType source block i ty → HasRow source block i (λ act. m.loads source act i)
-      → IsDeed source block targets room (deed.Load ty n) i
+      → IsAction source block targets room (action.Load ty n) i
   transfers : {ty : Ty} {n : ℕ} {i : InstrTree} (o : OperandTree)
       → i.operand ≡ Some o → IsTarget source block targets room n o
       → HasType source block i ty → HasRow source block i (λ act. m.transfers source act i)
-      → IsDeed source block targets room (deed.Transfer ty n) i
+      → IsAction source block targets room (action.Transfer ty n) i
   jumps : {w : When} {goal : Goal} {i : InstrTree} → HasRow source block i (λ act. jump_row w i)
-      → IsDeed source block targets room (deed.Jump w goal) i
+      → IsAction source block targets room (action.Jump w goal) i
   ends : {i : InstrTree} → HasRow source block i (λ act. m.ends)
-      → IsDeed source block targets room deed.End i
+      → IsAction source block targets room action.End i
   ends_where : {i : InstrTree} → HasRow source block i (λ act w. by_result i w m.ends_where)
-      → IsDeed source block targets room deed.EndWhere i
+      → IsAction source block targets room action.EndWhere i
 
 -- ---- one step
 
@@ -117,9 +117,9 @@ IsGoal goal (next.To g) = g ≡ goal
 IsGoal goal next.Left = Unit {0}
 
 -- a jump goes where its code says
-abbrev pub GoesBy : Deed → Result Next Trap → Type 0
+abbrev pub GoesBy : Action → Result Next Trap → Type 0
 GoesBy d (Ok next.Onward) = Unit {0}
-GoesBy d (Ok (next.To goal)) = (w : When) × (d ≡ deed.Jump w goal)
+GoesBy d (Ok (next.To goal)) = (w : When) × (d ≡ action.Jump w goal)
 GoesBy d (Ok next.Left) = Unit {0}
 GoesBy d (Err t) = Unit {0}
 
@@ -131,8 +131,8 @@ opened_by (Open j) n = suc n
 opened_by Close n = n - 1
 opened_by other n = n
 
-abbrev pub opened : Deed → ℕ → ℕ
-opened (deed.Change c) n = opened_by c n
+abbrev pub opened : Action → ℕ → ℕ
+opened (action.Change c) n = opened_by c n
 opened other n = n
 
 -- at most seven
@@ -140,6 +140,6 @@ abbrev pub MayOpen : Change → ℕ → Type 0
 MayOpen (Open j) n = n < 7
 MayOpen other n = Unit {0}
 
-abbrev pub MayDo : Deed → ℕ → Type 0
-MayDo (deed.Change c) n = MayOpen c n
+abbrev pub MayDo : Action → ℕ → Type 0
+MayDo (action.Change c) n = MayOpen c n
 MayDo other n = Unit {0}

@@ -14,8 +14,8 @@ use Rattle.pv_mean.specs.InstructionRuns.{is_named, is_jumped_to, again, turns, 
 use Rattle.pv_eval.specs.declared.target.Target.{Target}
 use Rattle.pv_stl_run.specs.declared.instr.Goal.{Goal}
 use Rattle.pv_stl_run.specs.declared.instr.Goal.TheVariants.{Ahead, Back}
-use Rattle.pv_stl_run.specs.declared.instr.Deed.{Deed}
-use Rattle.pv_stl_run.specs.declared.instr.Deed.TheVariants.{Jump, Call}
+use Rattle.pv_stl_run.specs.declared.instr.Action.{Action}
+use Rattle.pv_stl_run.specs.declared.instr.Action.TheVariants.{Jump, Call}
 use Rattle.pv_stl_run.specs.declared.instr.Instr.{Instr}
 use Rattle.pv_stl_run.specs.declared.steps.Next as steps
 use Rattle.pv_stl_run.specs.declared.steps.Next.TheVariants as next
@@ -23,7 +23,7 @@ use Rattle.pv_stl_run.specs.declared.stop.Stop.{Stop}
 use Rattle.pv_stl_run.specs.declared.stop.Stop.TheVariants as stop
 use Rattle.pv_stl_run.specs.declared.turns.Turn.{Turn}
 use Rattle.pv_stl_run.specs.declared.go.Going.{Going}
-use Rattle.pv_stl_run.specs.Code.{IsDeed, MayDo, opened}
+use Rattle.pv_stl_run.specs.Code.{IsAction, MayDo, opened}
 
 -- ---- ranges that were entered
 
@@ -101,15 +101,15 @@ LeadsTo all k key (Back to) = IsBack all k key to
 -- how many nestings are open behind instructions, at most
 abbrev pub nested_behind : List Instr → ℕ → ℕ
 nested_behind [] n = n
-nested_behind (c ∷ cs) n = nested_behind cs (opened c.deed n)
+nested_behind (c ∷ cs) n = nested_behind cs (opened c.action n)
 
 abbrev pub nested_at : List Instr → ℕ → ℕ
 nested_at code k = nested_behind (take k code) 0
 
 -- a call, or an instruction that isn't one; which call it is says who makes it
-abbrev pub Does : Source → BlockTree → List Target → ℕ → Deed → InstrTree → Type 0
+abbrev pub Does : Source → BlockTree → List Target → ℕ → Action → InstrTree → Type 0
 Does source block targets room (Call n) i = (call : CallPlain) × (i.call ≡ Some call)
-Does source block targets room d i = (i.call ≡ None) × IsDeed source block targets room d i
+Does source block targets room d i = (i.call ≡ None) × IsAction source block targets room d i
 
 -- a jump that isn't within a nesting, and where it leads
 pub record Jumps (all : List InstrTree) (code : List Instr) (k : ℕ) (i : InstrTree) (goal : Goal)
@@ -119,7 +119,7 @@ pub record Jumps (all : List InstrTree) (code : List Instr) (k : ℕ) (i : Instr
   pub leads : LeadsTo all k label.0.key goal
   pub outside : nested_at code k ≡ 0
 
-abbrev pub JumpsSo : List InstrTree → List Instr → ℕ → InstrTree → Deed → Type 0
+abbrev pub JumpsSo : List InstrTree → List Instr → ℕ → InstrTree → Action → Type 0
 JumpsSo all code k i (Jump w goal) = Jumps all code k i goal
 JumpsSo all code k i d = Unit {0}
 
@@ -127,10 +127,10 @@ JumpsSo all code k i d = Unit {0}
 pub record IsInstr (source : Source) (block : BlockTree) (targets : List Target) (room : ℕ)
     (all : List InstrTree) (code : List Instr) (k : ℕ) (c : Instr) (i : InstrTree) : Type 0 where
   pub place : i.place ≡ c.place
-  pub does : Does source block targets room c.deed i
+  pub does : Does source block targets room c.action i
   pub range : c.range ≡ range_of (drop k all)
-  pub jumps : JumpsSo all code k i c.deed
-  pub nests : MayDo c.deed (nested_at code k)
+  pub jumps : JumpsSo all code k i c.action
+  pub nests : MayDo c.action (nested_at code k)
 
 -- a body
 pub record AreInstrs (source : Source) (block : BlockTree) (targets : List Target) (room : ℕ)
@@ -286,7 +286,7 @@ pub record UpToCall (source : Source) (block : BlockTree) (code : List Instr) (t
   pub same : now ≡ before
   pub call : Instr
   pub at_call : slice_get code at ≡ Some call
-  pub is : call.deed ≡ Call n
+  pub is : call.action ≡ Call n
   pub nested : Nested code turns entered (suc at)
 
 abbrev pub Gone : Result (Option ℕ) Stop → (ℕ → Type 0) → Frame → Ended Next → Type 0

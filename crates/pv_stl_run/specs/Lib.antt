@@ -6,4 +6,4 @@ pub mod Going
 -- what private clauses cite
 pub mod Made
 pub mod Deciding
-pub mod Deeds
+pub mod Actions

@@ -1,8 +1,8 @@
 //! Instructions one behind another.
 ghost use Rattle.std.specs.Prelude.{◌≡◌, slice_get, option_copied};
-ghost use Rattle.pv_stl_run.specs.Deeds.{call_of};
+ghost use Rattle.pv_stl_run.specs.Actions.{call_of};
 
-use crate::instr::{Deed, Goal, Instr};
+use crate::instr::{Action, Goal, Instr};
 use crate::registers::Registers;
 use crate::steps::{Next, step};
 use crate::stop::Stop;
@@ -11,11 +11,11 @@ use pv_eval::Target;
 use pv_word::Ty;
 
 /// The number of the call that an instruction makes, if it is one.
-fn call_of(deed: Deed) -> Option<u32>
-    ensures { result ≡ call_of deed }
+fn call_of(action: Action) -> Option<u32>
+    ensures { result ≡ call_of action }
 {
-    match deed {
-        Deed::Call(call) => Some(call),
+    match action {
+        Action::Call(call) => Some(call),
         _ => None,
     }
 }
@@ -279,7 +279,7 @@ impl Going {
             (most_left bound code.now self.old.at turns.old self.old.entered) }
     {
         while let Some(instr) = instr_at(code, self.at) {
-            if let Some(call) = call_of(instr.deed) {
+            if let Some(call) = call_of(instr.action) {
                 return Ok(Some(call));
             }
             let next = match step(

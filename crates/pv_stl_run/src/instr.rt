@@ -118,7 +118,7 @@ pub enum When {
 
 /// What an instruction does. Operands and calls go by their numbers in the program.
 #[derive(Clone, Copy)]
-pub enum Deed {
+pub enum Action {
     Change(Change),
     /// A, AN, O, ON, X and XN with an operand.
     Join(Junction, u32),
@@ -141,7 +141,7 @@ pub enum Deed {
 /// back, `range` is the label's place.
 #[derive(Clone, Copy)]
 pub struct Instr {
-    pub deed: Deed,
+    pub action: Action,
     pub place: Place,
     pub range: Option<Place>,
 }

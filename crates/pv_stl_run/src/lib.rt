@@ -18,7 +18,7 @@ mod turns;
 
 pub use go::Going;
 pub use instr::{
-    Change, Combining, Deed, Goal, Instr, Math, Relation, Shifting, Test, When, Written,
+    Action, Change, Combining, Goal, Instr, Math, Relation, Shifting, Test, When, Written,
 };
 pub use numbers::Part;
 pub use registers::{Codes, Joining, Junction, Logic, MOST_NESTINGS, Nesting, Registers};

@@ -15,7 +15,7 @@ ghost use Rattle.pv_eval.specs.Traps.{tried, located};
 ghost use Rattle.pv_eval.specs.Writes.{TypesOf};
 ghost use Rattle.pv_stl_run.specs.Views.{junction_of, frame_in};
 ghost use Rattle.pv_stl_run.specs.Code.{IsTarget, HasType, written_of, working, onward_in};
-ghost use Rattle.pv_stl_run.specs.Deeds.{frame_taking};
+ghost use Rattle.pv_stl_run.specs.Actions.{frame_taking};
 
 use crate::change::load;
 use crate::instr::Written;

@@ -14,10 +14,10 @@ ghost use Rattle.pv_stl_run.specs.declared.registers.Registers.{Registers};
 ghost use Rattle.pv_stl_run.specs.Views.{logic_of, registers_of, frame_in};
 ghost use Rattle.pv_stl_run.specs.Deciding.{decided, ends_chain, is_result, counting, decision, decided_in};
 ghost use Rattle.pv_stl_run.specs.Rows.{test_of};
-ghost use Rattle.pv_stl_run.specs.Code.{working, next_of, onward_in, IsGoal, IsNoJump, IsDeed, MayDo, GoesBy, opened, jump_row};
+ghost use Rattle.pv_stl_run.specs.Code.{working, next_of, onward_in, IsGoal, IsNoJump, IsAction, MayDo, GoesBy, opened, jump_row};
 
 use crate::change::changes;
-use crate::instr::{Deed, Goal, Instr, Test, When};
+use crate::instr::{Action, Goal, Instr, Test, When};
 use crate::logic::result_of;
 use crate::numbers::{Part, put};
 use crate::operand::{finds_edge, joins, loads, transfers, writes};
@@ -193,34 +193,36 @@ fn effect(
 ) -> Result<Next, Trap>
     ensures same { (source : Source) (block : BlockTree) (room : ℕ) (i : InstrTree)
         → TypesOf source types.now
-        → room ≤ length scratch.old → i.place ≡ instr.now.place → MayDo instr.now.deed r.old.depth
-        → IsDeed source block targets.now room instr.now.deed i
+        → room ≤ length scratch.old → i.place ≡ instr.now.place → MayDo instr.now.action r.old.depth
+        → IsAction source block targets.now room instr.now.action i
         → next_of i result r.new (frame_in visible.new own.new)
         ≡ m.effect source (activation block first) i i.op
         (working r.old (frame_in visible.old own.old)) }
-    ensures goes { GoesBy instr.now.deed result }
-    ensures depth { IsOk result → r.new.depth ≤ opened instr.now.deed r.old.depth }
+    ensures goes { GoesBy instr.now.action result }
+    ensures depth { IsOk result → r.new.depth ≤ opened instr.now.action r.old.depth }
 {
     let place = instr.place;
-    match instr.deed {
-        Deed::Change(change) => onward(changes(r, change, place)),
-        Deed::Join(junction, n) => onward(joins(
+    match instr.action {
+        Action::Change(change) => onward(changes(r, change, place)),
+        Action::Join(junction, n) => onward(joins(
             r, junction, targets, n, first, visible, own, scratch, place,
         )),
-        Deed::Write(written, n) => onward(writes(
+        Action::Write(written, n) => onward(writes(
             r, written, targets, types, n, first, visible, own, scratch, place,
         )),
-        Deed::Edge(rising, n) => onward(finds_edge(
+        Action::Edge(rising, n) => onward(finds_edge(
             r, rising, targets, types, n, first, visible, own, scratch, place,
         )),
-        Deed::Load(ty, n) => onward(loads(r, ty, targets, n, first, visible, own, scratch, place)),
-        Deed::Transfer(ty, n) => onward(transfers(
+        Action::Load(ty, n) => onward(loads(
+            r, ty, targets, n, first, visible, own, scratch, place,
+        )),
+        Action::Transfer(ty, n) => onward(transfers(
             r, ty, targets, types, n, first, visible, own, scratch, place,
         )),
-        Deed::Jump(when, goal) => jumps(r, when, goal, place),
-        Deed::End => Ok(Next::Left),
-        Deed::EndWhere => ends_where(r, place),
-        Deed::Call(_) => Ok(Next::Onward),
+        Action::Jump(when, goal) => jumps(r, when, goal, place),
+        Action::End => Ok(Next::Left),
+        Action::EndWhere => ends_where(r, place),
+        Action::Call(_) => Ok(Next::Onward),
     }
 }
 
@@ -241,14 +243,14 @@ pub fn step(
 ) -> Result<Next, Trap>
     ensures same { (source : Source) (block : BlockTree) (room : ℕ) (i : InstrTree)
         → TypesOf source types.now
-        → room ≤ length scratch.old → i.place ≡ instr.now.place → MayDo instr.now.deed r.old.depth
-        → IsDeed source block targets.now room instr.now.deed i
+        → room ≤ length scratch.old → i.place ≡ instr.now.place → MayDo instr.now.action r.old.depth
+        → IsAction source block targets.now room instr.now.action i
         → next_of i result r.new (frame_in visible.new own.new)
         ≡ m.at_word i.place
         (m.effect source (activation block first) i i.op
         (working r.old (frame_in visible.old own.old))) }
-    ensures goes { GoesBy instr.now.deed result }
-    ensures depth { IsOk result → r.new.depth ≤ opened instr.now.deed r.old.depth }
+    ensures goes { GoesBy instr.now.action result }
+    ensures depth { IsOk result → r.new.depth ≤ opened instr.now.action r.old.depth }
 {
     match effect(r, instr, targets, types, first, visible, own, scratch) {
         Ok(next) => Ok(next),

@@ -2,7 +2,7 @@ use Rattle.pv_bool_form.specs.Programs.{first_source, program_of as program_of_s
 use Rattle.pv_bool.specs.Machine.{machine_of as program_machine}
 use Rattle.pv_pattern.specs.Patterns.{invariant}
 use Rattle.pv_pattern.specs.Sources.{machine_of}
-use Rattle.pv_command_recheck.proofs.Alike.{same_base, same_step}
+use Rattle.pv_machine.proofs.ForCallers.{same_base, same_step}
 use Rattle.pv_command_recheck.proofs.Queries.{lawful_source, alike}
 use Rattle.pv_command_recheck.proofs.laws.queries_are_the_programs.Goals as goal
 

@@ -43,11 +43,11 @@ returns-in-Err-clause-same c = λ source calls block room all b types fits are n
     let x = c.in-Some.instr.now in
     let g = s.invariant.same source calls block room all b types fits are nested ranges depth in
     let its = here_is are s.self.at x (sym c.in-Some.ensures) in
-    let does = does_plainly x.deed its.tree its.instr.does (sym c.in_default-call_of.ensures) in
+    let does = does_plainly x.action its.tree its.instr.does (sym c.in_default-call_of.ensures) in
     let enough : room ≤ length s.scratch = omega (arith, fits, s.invariant.scratch) in
     at_trap g its.tree c.in-Err.trap its.is does.0
     (c.in-Err.ensures.same source block room its.tree types enough its.instr.place
-    (may_less x.deed s.self.registers.depth (nested_at c.args.code.now s.self.at) g.depth_is its.instr.nests) does.1)
+    (may_less x.action s.self.registers.depth (nested_at c.args.code.now s.self.at) g.depth_is its.instr.nests) does.1)
 
 pub returns-in-Ok-false-clause-same : goal.returns-in-Ok-false-clause-same
 returns-in-Ok-false-clause-same c = λ source calls block room all b types fits are nested ranges depth.
@@ -55,14 +55,14 @@ returns-in-Ok-false-clause-same c = λ source calls block room all b types fits 
     let x = c.in-Some.instr.now in
     let g = s.invariant.same source calls block room all b types fits are nested ranges depth in
     let its = here_is are s.self.at x (sym c.in-Some.ensures) in
-    let does = does_plainly x.deed its.tree its.instr.does (sym c.in_default-call_of.ensures) in
+    let does = does_plainly x.action its.tree its.instr.does (sym c.in_default-call_of.ensures) in
     let enough : room ≤ length s.scratch = omega (arith, fits, s.invariant.scratch) in
     let turns : ranges_in c.args.code.now ≤ length s.turns = omega (arith, ranges, s.invariant.room) in
     let behind = frame_in c.step.new.visible c.step.new.own in
     let before = at_next g its.tree c.in-Ok.next c.step.new.r behind its.is does.0
     (c.in-Ok.ensures.same source block room its.tree types enough its.instr.place
-    (may_less x.deed s.self.registers.depth (nested_at c.args.code.now s.self.at) g.depth_is its.instr.nests) does.1) in
-    let goes = leads all c.args.code.now s.self.at its.tree x.deed c.in-Ok.next c.in-Ok.ensures.goes its.instr.jumps in
+    (may_less x.action s.self.registers.depth (nested_at c.args.code.now s.self.at) g.depth_is its.instr.nests) does.1) in
+    let goes = leads all c.args.code.now s.self.at its.tree x.action c.in-Ok.next c.in-Ok.ensures.goes its.instr.jumps in
     ap frame_end (sym before)
     ∙ went_off _ _ _ behind c.in-Ok-false.field-0-test
     (c.in-Ok-false.ensures.same source calls (activation block c.args.first) all its.tree (working c.step.new.r behind) b (has_ranges are)
@@ -74,14 +74,14 @@ returns-in-Err-follows-clause-same c = λ source calls block room all b types fi
     let x = c.in-Some.instr.now in
     let g = s.invariant.same source calls block room all b types fits are nested ranges depth in
     let its = here_is are s.self.at x (sym c.in-Some.ensures) in
-    let does = does_plainly x.deed its.tree its.instr.does (sym c.in_default-call_of.ensures) in
+    let does = does_plainly x.action its.tree its.instr.does (sym c.in_default-call_of.ensures) in
     let enough : room ≤ length s.scratch = omega (arith, fits, s.invariant.scratch) in
     let turns : ranges_in c.args.code.now ≤ length s.turns = omega (arith, ranges, s.invariant.room) in
     let behind = frame_in c.step.new.visible c.step.new.own in
     let before = at_next g its.tree c.in-Ok.next c.step.new.r behind its.is does.0
     (c.in-Ok.ensures.same source block room its.tree types enough its.instr.place
-    (may_less x.deed s.self.registers.depth (nested_at c.args.code.now s.self.at) g.depth_is its.instr.nests) does.1) in
-    let goes = leads all c.args.code.now s.self.at its.tree x.deed c.in-Ok.next c.in-Ok.ensures.goes its.instr.jumps in
+    (may_less x.action s.self.registers.depth (nested_at c.args.code.now s.self.at) g.depth_is its.instr.nests) does.1) in
+    let goes = leads all c.args.code.now s.self.at its.tree x.action c.in-Ok.next c.in-Ok.ensures.goes its.instr.jumps in
     c.in-Err-follows.ensures.same source calls (activation block c.args.first) all its.tree (working c.step.new.r behind) b (has_ranges are)
     are.short g.nested turns goes
     ∙ before
@@ -105,13 +105,13 @@ loop-instr-preserved c =
       same = λ source calls block room all b types fits are nested ranges depth.
           let g = s.invariant.same source calls block room all b types fits are nested ranges depth in
           let its = here_is are s.self.at x e in
-          let does = does_plainly x.deed its.tree its.instr.does (sym c.in_default-call_of.ensures) in
+          let does = does_plainly x.action its.tree its.instr.does (sym c.in_default-call_of.ensures) in
           let enough : room ≤ length s.scratch = omega (arith, fits, s.invariant.scratch) in
           let turns : ranges_in c.args.code.now ≤ length s.turns = omega (arith, ranges, s.invariant.room) in
           let before = at_next g its.tree c.in-Ok.next c.step.new.r behind its.is does.0
           (c.in-Ok.ensures.same source block room its.tree types enough its.instr.place
-          (may_less x.deed s.self.registers.depth (nested_at c.args.code.now s.self.at) g.depth_is its.instr.nests) does.1) in
-          let goes = leads all c.args.code.now s.self.at its.tree x.deed c.in-Ok.next c.in-Ok.ensures.goes its.instr.jumps in
+          (may_less x.action s.self.registers.depth (nested_at c.args.code.now s.self.at) g.depth_is its.instr.nests) does.1) in
+          let goes = leads all c.args.code.now s.self.at its.tree x.action c.in-Ok.next c.in-Ok.ensures.goes its.instr.jumps in
           let same : now.registers ≡ c.step.new.r = c.in-Ok-true.ensures.registers in
           let deep : now.registers.depth ≡ c.step.new.r.depth = ap (λ r. r.depth) same in record {
             same =

@@ -1,0 +1,2 @@
+pub mod Toggles
+pub mod Leaving
