@@ -1,6 +1,6 @@
 #!/usr/bin/env python3
 """Holds docs/case.schema.json against the cases that the repository has: the examples', those of docs/FORMATS.md, where each row of
-the block 'cases' changes the whole case above it and says what is answered, and the rows of pv_rows_readers. Needs Debian's
+the block 'cases' changes the whole case above it and says what is answered, and the rows of pv_rows. Needs Debian's
 python3-jsonschema."""
 import glob
 import json
@@ -13,21 +13,11 @@ FORMATS = "docs/FORMATS.md"
 # what the schema can't say stands in such rows
 BEYOND = "(beyond the schema)"
 
-# the tables of pv_rows_readers, each with what stands before and after its rows
-ROWS = "crates/pv_rows_readers/src/"
-FRONT = '{"version":1,"name":"t",'
-ENTRY = '"entry":"Demo",'
-TABLES = [
-    ("case_rows.rt", "WHOLE", "", ""),
-    ("case_rows.rt", "FIRST", "{", ",<SOURCES>" + ENTRY + "<PATTERN><LIMITS>}"),
-    ("case_rows.rt", "OF_SOURCES", FRONT, "," + ENTRY + "<PATTERN><LIMITS>}"),
-    ("case_rows.rt", "INPUTS", FRONT + "<SOURCES>", ",<PATTERN><LIMITS>}"),
-    ("case_rows.rt", "PATTERNS", FRONT + "<SOURCES>" + ENTRY + '"pattern":', ",<LIMITS>}"),
-    ("case_rows.rt", "OF_LIMITS", FRONT + "<SOURCES>" + ENTRY + "<PATTERN>", "}"),
-    ("case_rows.rt", "LAST", FRONT + "<SOURCES>" + ENTRY + "<PATTERN><LIMITS>,", "}"),
-    ("case_symbols.rt", "SYMBOLS", FRONT + "<SOURCES>" + ENTRY + '"symbols":', ",<PATTERN><LIMITS>}"),
-    ("case_symbols.rt", "OPERANDS", FRONT + "<SOURCES>" + ENTRY + '"symbols":{"S":{"at":"', '"}},<PATTERN><LIMITS>}'),
-]
+# the parts of the rows of pv_rows that have whole cases: this setting, and the text with `@1` for the row
+ROWS = "crates/pv_rows/"
+SETTING = "file c.json "
+# what an answer begins with where the case reads and the file that it names first isn't there
+READ = "6 plcv: read "
 
 
 def merged(target, patch):
@@ -50,23 +40,25 @@ def block(text, kind):
     return found.group(1)
 
 
-def literal(file, name):
-    with open(ROWS + file, encoding="utf-8") as text:
-        found = re.search(r"const " + name + r': &str = r#"(.*?)"#;', text.read(), re.S)
-    if not found:
-        sys.exit(f"{ROWS}{file} has no {name}")
-    return found.group(1)
+def answers():
+    """What is answered to each row, by its part and number."""
+    with open(ROWS + "stdout", encoding="utf-8") as file:
+        return dict(line.rstrip("\n").split(": ", 1) for line in file)
 
 
 def rows():
-    """The rows of pv_rows_readers: the table, the row, the case's text and its answer."""
-    parts = {name: literal("case_rows.rt", name) for name in ("SOURCES", "PATTERN", "LIMITS")}
-    for file, table, front, back in TABLES:
-        front, back = (re.sub("<([A-Z]+)>", lambda m: parts[m.group(1)], t) for t in (front, back))
-        for row in literal(file, table).split("\n"):
-            members, arrow, answer = row.rpartition(" > ")
-            if arrow:
-                yield table, row, front + members + back, answer
+    """The rows of pv_rows that are cases by themselves: the part and the number, the row, the case's text and whether it reads."""
+    said = answers()
+    with open(ROWS + "stdin", encoding="utf-8") as file:
+        parts = file.read().split("\npart ")[1:]
+    for part in parts:
+        name, *lines = part.split("\n")
+        front, _, back = lines[0].removeprefix(SETTING).partition("@1")
+        if not name.startswith(("cases, ", "whole texts")) or not lines[0].startswith(SETTING):
+            continue
+        for number, row in enumerate((line for line in lines if line.startswith("row")), 1):
+            members = row.removeprefix("row").strip().replace("@x20", " ")
+            yield f"{name} {number}", row, front + members + back, said[f"{name} {number}"].startswith(READ)
 
 
 def parsed(text):
@@ -106,12 +98,12 @@ def main():
         good = validator.is_valid(merged(whole, json.loads(patch)))
         if good != (answer == "read" or answer.endswith(BEYOND)):
             faults.append(f"{FORMATS}: the schema {'takes' if good else 'refuses'} {row}")
-    for table, row, case, answer in rows():
+    for name, row, case, reads in rows():
         count += 1
         value = parsed(case)
         good = validator.is_valid(value)
-        if good != answer.startswith("read") and not (good and has_twins(value)):
-            faults.append(f"{table}: the schema {'takes' if good else 'refuses'} {row}")
+        if good != reads and not (good and has_twins(value)):
+            faults.append(f"{name}: the schema {'takes' if good else 'refuses'} {row}")
     for fault in faults:
         print(fault, file=sys.stderr)
     if not faults:

@@ -4,8 +4,8 @@ ghost use Rattle.pv_mean.specs.Cells.{byte_path, byte_cell};
 
 use itoa::Buffer;
 use pv_edge::Text;
-use pv_place::Role;
 use pv_mean::Cell;
+use pv_place::Role;
 use pv_word::Ty;
 use std::alloc::{AllocError, Global};
 

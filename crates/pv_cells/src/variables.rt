@@ -7,8 +7,8 @@ ghost use Rattle.pv_mean.specs.Cells as table;
 ghost use Rattle.pv_cells.specs.Forms.{formed};
 
 use pv_edge::Text;
-use pv_place::Role;
 use pv_mean::Cell;
+use pv_place::Role;
 use pv_types::{FlattenFault, Leaf, MAX_LEAVES, Section, Types, Var, flatten};
 use std::alloc::{AllocError, Global};
 use std::slice::from_ref;

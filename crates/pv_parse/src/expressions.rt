@@ -1,13 +1,15 @@
 //! What alternatives of expressions and operands make of what lies on the stack.
 ghost use Rattle.std.specs.Prelude.{◌≡◌, ◌∷◌, ◌++◌, Some, None, IfOk, map, option_and_then};
 ghost use Rattle.pv_tree.specs.declared.expr.Root.TheVariants.{Named};
-ghost use Rattle.pv_tree.specs.View.{expr_tree, exprs_of};
+ghost use Rattle.pv_tree.specs.View.{expr_tree, exprs_of, step_tree};
 ghost use Rattle.pv_tree.specs.Words.{pair_name};
-ghost use Rattle.pv_parse.specs.Items.{stack_of, lexeme_of_slice, path, path_tree, expr, Leaves, Pops, Finds};
-ghost use Rattle.pv_parse.specs.ExprDeeds.{rooted, hashed, function_expr, word_deed, quoted_deed, numbered_deed, pair_deed, area_deed, field_deed, index_deed, read_deed, hash_read_deed, number_deed, truth_deed, paren_deed, unary_deed, link_deed, one_deed, two_deed, three_deed, argument_on, later_on, opening_on, expr_deed};
+ghost use Rattle.pv_parse.specs.Items.{stack_of, lexeme_of_slice, path, path_tree, expr, expr_on, word_of, Leaves, Pops, Finds};
+ghost use Rattle.pv_parse.specs.DeclStack.{word_on};
+ghost use Rattle.pv_parse.specs.ExprDeeds.{rooted, stepped, hashed, function_expr, word_deed, quoted_deed, numbered_deed, pair_deed, area_deed, field_deed, index_deed, read_deed, hash_read_deed, number_deed, truth_deed, paren_deed, unary_deed, link_deed, one_deed, two_deed, three_deed, argument_on, later_on, opening_on, expr_deed};
 ghost use Rattle.pv_parse.specs.TokenTexts.{times_of, compare_of};
 
 use crate::action::ExprAction;
+use crate::held::{added, with};
 use crate::item::{Item, Sliced};
 use crate::numbers::{area_of, number_type};
 use crate::stack::{Stop, pop_expr, pop_path, pop_token, push, word_in};
@@ -111,17 +113,59 @@ pub fn area(alloc: Global, stack: &mut Vec<Item>) -> Result<(), Stop>
     Ok(())
 }
 
+/// The name and the place of the word that a path is.
+fn word_of(path: Operand) -> Result<(Name, Place), Stop>
+    ensures { Finds (λ word. word) result (word_of (path_tree path).root) }
+{
+    drop(path.steps);
+    word_in(path.root)
+}
+
+/// Takes a word that was read as an operand without steps.
+pub fn pop_word(stack: &mut Vec<Item>) -> Result<(Name, Place), Stop>
+    ensures { Pops (λ word. word) result (stack_of stack.new) (word_on (stack_of stack.old)) }
+{
+    let path = pop_path(stack)?;
+    let word = word_of(path)?;
+    Ok(word)
+}
+
+/// Puts a path with one more step on the stack.
+pub fn push_step(from: Operand, step: Step, stack: &mut Vec<Item>) -> Result<(), Stop>
+    ensures { Leaves result (stack_of stack.new) (Some
+        (path (stepped (path_tree from) (step_tree step)) ∷ stack_of stack.old)) }
+{
+    let steps = added(from.steps, step);
+    let (root, steps) = with(from.root, steps)?;
+    push(
+        stack,
+        Item::Path(Operand {
+            root,
+            steps,
+            place: from.place,
+        }),
+    )?;
+    Ok(())
+}
+
 /// A step to a field, whose word was read behind its dot.
 pub fn field(stack: &mut Vec<Item>) -> Result<(), Stop>
     ensures { Leaves result (stack_of stack.new) (field_deed (stack_of stack.old)) }
 {
     let field = pop_path(stack)?;
-    let (name, place) = word_in(field.root)?;
-    let _dot = pop_token(stack)?;
-    let mut path = pop_path(stack)?;
-    path.steps.push(Step::Field(name, place))?;
-    push(stack, Item::Path(path))?;
-    Ok(())
+    let word = word_of(field)?;
+    let (word, _dot) = with(word, pop_token(stack))?;
+    let (word, path) = with(word, pop_path(stack))?;
+    push_step(path, Step::Field(word.0, word.1), stack)
+}
+
+/// Takes an expression into a box.
+fn pop_boxed(alloc: Global, stack: &mut Vec<Item>) -> Result<Box<Expr>, Stop>
+    ensures { Pops (λ inner. expr_tree inner.value) result (stack_of stack.new) (expr_on (stack_of stack.old)) }
+{
+    let inner = pop_expr(stack)?;
+    let inner = Box::new(alloc, inner)?;
+    Ok(inner)
 }
 
 /// A step to the element at an index.
@@ -129,13 +173,10 @@ pub fn index(alloc: Global, stack: &mut Vec<Item>) -> Result<(), Stop>
     ensures { Leaves result (stack_of stack.new) (index_deed (stack_of stack.old)) }
 {
     let _end = pop_token(stack)?;
-    let at = pop_expr(stack)?;
-    let begin = pop_token(stack)?;
-    let mut path = pop_path(stack)?;
-    let at = Box::new(alloc, at)?;
-    path.steps.push(Step::Index(at, begin.place))?;
-    push(stack, Item::Path(path))?;
-    Ok(())
+    let at = pop_boxed(alloc, stack)?;
+    let (at, begin) = with(at, pop_token(stack))?;
+    let (at, path) = with(at, pop_path(stack))?;
+    push_step(path, Step::Index(at, begin.place), stack)
 }
 
 /// What a path leads to is read.
@@ -151,17 +192,13 @@ pub fn read(stack: &mut Vec<Item>) -> Result<(), Stop>
 fn hashed(path: Operand, place: Place) -> Result<Operand, Stop>
     ensures { Finds path_tree result (hashed (path_tree path) place) }
 {
-    let (name, at) = word_in(path.root)?;
+    let (steps, (name, at)) = with(path.steps, word_in(path.root))?;
     let root = Root::Local {
         name,
         hash: true,
         place: at,
     };
-    Ok(Operand {
-        root,
-        steps: path.steps,
-        place,
-    })
+    Ok(Operand { root, steps, place })
 }
 
 /// What a path behind `#` leads to is read.
@@ -169,7 +206,7 @@ pub fn hash_read(stack: &mut Vec<Item>) -> Result<(), Stop>
     ensures { Leaves result (stack_of stack.new) (hash_read_deed (stack_of stack.old)) }
 {
     let path = pop_path(stack)?;
-    let hash = pop_token(stack)?;
+    let (path, hash) = with(path, pop_token(stack))?;
     let path = hashed(path, hash.place)?;
     push(stack, Item::Expr(Expr::Read(path)))?;
     Ok(())
@@ -214,9 +251,8 @@ pub fn paren(alloc: Global, stack: &mut Vec<Item>) -> Result<(), Stop>
     ensures { Leaves result (stack_of stack.new) (paren_deed (stack_of stack.old)) }
 {
     let _end = pop_token(stack)?;
-    let inner = pop_expr(stack)?;
-    let begin = pop_token(stack)?;
-    let inner = Box::new(alloc, inner)?;
+    let inner = pop_boxed(alloc, stack)?;
+    let (inner, begin) = with(inner, pop_token(stack))?;
     push(stack, Item::Expr(Expr::Paren(begin.place, inner)))?;
     Ok(())
 }
@@ -225,9 +261,8 @@ pub fn paren(alloc: Global, stack: &mut Vec<Item>) -> Result<(), Stop>
 pub fn unary(alloc: Global, op: UnaryOp, stack: &mut Vec<Item>) -> Result<(), Stop>
     ensures { Leaves result (stack_of stack.new) (unary_deed op (stack_of stack.old)) }
 {
-    let arg = pop_expr(stack)?;
-    let token = pop_token(stack)?;
-    let arg = Box::new(alloc, arg)?;
+    let arg = pop_boxed(alloc, stack)?;
+    let (arg, token) = with(arg, pop_token(stack))?;
     push(
         stack,
         Item::Expr(Expr::Unary {
@@ -243,11 +278,9 @@ pub fn unary(alloc: Global, op: UnaryOp, stack: &mut Vec<Item>) -> Result<(), St
 pub fn link(alloc: Global, op: BinaryOp, stack: &mut Vec<Item>) -> Result<(), Stop>
     ensures { Leaves result (stack_of stack.new) (link_deed (λ t. op) (stack_of stack.old)) }
 {
-    let right = pop_expr(stack)?;
-    let token = pop_token(stack)?;
-    let left = pop_expr(stack)?;
-    let left = Box::new(alloc, left)?;
-    let right = Box::new(alloc, right)?;
+    let right = pop_boxed(alloc, stack)?;
+    let (right, token) = with(right, pop_token(stack))?;
+    let (right, left) = with(right, pop_boxed(alloc, stack))?;
     push(
         stack,
         Item::Expr(Expr::Binary {
@@ -265,12 +298,10 @@ pub fn times(alloc: Global, stack: &mut Vec<Item>) -> Result<(), Stop>
     ensures { Leaves result (stack_of stack.new) (link_deed (λ t. times_of t.bytes)
         (stack_of stack.old)) }
 {
-    let right = pop_expr(stack)?;
-    let token = pop_token(stack)?;
-    let left = pop_expr(stack)?;
+    let right = pop_boxed(alloc, stack)?;
+    let (right, token) = with(right, pop_token(stack))?;
+    let (right, left) = with(right, pop_boxed(alloc, stack))?;
     let op = times_of(token.bytes);
-    let left = Box::new(alloc, left)?;
-    let right = Box::new(alloc, right)?;
     push(
         stack,
         Item::Expr(Expr::Binary {
@@ -288,12 +319,10 @@ pub fn compare(alloc: Global, stack: &mut Vec<Item>) -> Result<(), Stop>
     ensures { Leaves result (stack_of stack.new) (link_deed (λ t. compare_of t.bytes)
         (stack_of stack.old)) }
 {
-    let right = pop_expr(stack)?;
-    let token = pop_token(stack)?;
-    let left = pop_expr(stack)?;
+    let right = pop_boxed(alloc, stack)?;
+    let (right, token) = with(right, pop_token(stack))?;
+    let (right, left) = with(right, pop_boxed(alloc, stack))?;
     let op = compare_of(token.bytes);
-    let left = Box::new(alloc, left)?;
-    let right = Box::new(alloc, right)?;
     push(
         stack,
         Item::Expr(Expr::Binary {
@@ -319,8 +348,8 @@ fn pop_argument(stack: &mut Vec<Item>) -> Result<Expr, Stop>
     ensures { Pops expr_tree result (stack_of stack.new) (argument_on (stack_of stack.old)) }
 {
     let value = pop_expr(stack)?;
-    let _sign = pop_token(stack)?;
-    let _word = pop_token(stack)?;
+    let (value, _sign) = with(value, pop_token(stack))?;
+    let (value, _word) = with(value, pop_token(stack))?;
     Ok(value)
 }
 
@@ -329,7 +358,7 @@ fn pop_later(stack: &mut Vec<Item>) -> Result<Expr, Stop>
     ensures { Pops expr_tree result (stack_of stack.new) (later_on (stack_of stack.old)) }
 {
     let value = pop_argument(stack)?;
-    let _comma = pop_token(stack)?;
+    let (value, _comma) = with(value, pop_token(stack))?;
     Ok(value)
 }
 
@@ -339,7 +368,7 @@ fn push_function(args: Vec<Expr>, stack: &mut Vec<Item>) -> Result<(), Stop>
         (expr (function_expr f.0 (exprs_of (map expr_tree args.items))) ∷ f.1))
         (opening_on (stack_of stack.old))) }
 {
-    let word = pop_opening(stack)?;
+    let (args, word) = with(args, pop_opening(stack))?;
     let function = function_of(word.bytes);
     push(
         stack,
@@ -358,8 +387,7 @@ pub fn one(alloc: Global, stack: &mut Vec<Item>) -> Result<(), Stop>
 {
     let _end = pop_token(stack)?;
     let value = pop_expr(stack)?;
-    let mut args = Vec::new(alloc);
-    args.push(value)?;
+    let args = vec![in alloc; value]?;
     push_function(args, stack)
 }
 
@@ -369,10 +397,8 @@ pub fn two(alloc: Global, stack: &mut Vec<Item>) -> Result<(), Stop>
 {
     let _end = pop_token(stack)?;
     let second = pop_later(stack)?;
-    let first = pop_argument(stack)?;
-    let mut args = Vec::new(alloc);
-    args.push(first)?;
-    args.push(second)?;
+    let (second, first) = with(second, pop_argument(stack))?;
+    let args = vec![in alloc; first, second]?;
     push_function(args, stack)
 }
 
@@ -382,12 +408,9 @@ pub fn three(alloc: Global, stack: &mut Vec<Item>) -> Result<(), Stop>
 {
     let _end = pop_token(stack)?;
     let third = pop_later(stack)?;
-    let second = pop_later(stack)?;
-    let first = pop_argument(stack)?;
-    let mut args = Vec::new(alloc);
-    args.push(first)?;
-    args.push(second)?;
-    args.push(third)?;
+    let (third, second) = with(third, pop_later(stack))?;
+    let (later, first) = with((second, third), pop_argument(stack))?;
+    let args = vec![in alloc; first, later.0, later.1]?;
     push_function(args, stack)
 }
 

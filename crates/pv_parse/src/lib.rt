@@ -10,6 +10,7 @@ mod entries;
 mod expr_shades;
 mod expressions;
 mod fault;
+mod held;
 mod instr_shades;
 mod item;
 mod kind;
@@ -31,8 +32,9 @@ pub use action::{
 pub use code_item::{CodeItem, Value};
 pub use decl_item::{Bounds, DeclItem, Fields, Heading};
 pub use depth::find_too_deep;
-pub use expressions::{act_on_expr, joined_name};
+pub use expressions::{act_on_expr, joined_name, pop_word, push_step};
 pub use fault::{ParseFault, ReadFault};
+pub use held::{added, with};
 pub use item::{Item, Sliced};
 pub use laws::{fronts_have_front_kinds, kinds_have_witnesses, tokens_have_kinds};
 pub use numbers::{area_of, number_type};

@@ -1,19 +1,21 @@
 //! What alternatives of instructions make of what lies on the stack.
-ghost use Rattle.std.specs.Prelude.{◌≡◌, OnOk, IfOk, option_map};
+ghost use Rattle.std.specs.Prelude.{◌≡◌, OnOk, option_map};
 ghost use Rattle.pv_tree.specs.View.{operand_tree, call_tree};
 ghost use Rattle.pv_parse.specs.Items.{stack_of, item_of, token, Leaves};
-ghost use Rattle.pv_parse.specs.CallDeeds.{name_of_root};
 ghost use Rattle.pv_parse_instr.specs.Fronts.{front_tree};
 ghost use Rattle.pv_parse.specs.InstrDeeds.{no_token, instr_of, added, new_code_deed, begun_deed, no_label_deed, label_deed, opening_deed, operand_deed, literal_deed, alone_deed, base_deed, bare_deed, call_deed, instr_deed};
 
 use crate::literals::{negative, number, truth};
 use crate::op_texts::{op_of, opening_of};
-use crate::parts::{Front, pop_call, pop_front, pop_instrs, pop_words, put_instrs};
+use crate::parts::{Front, pop_front, pop_instrs, put_instrs};
 use pv_lex::Kind;
+use pv_parse::{
+    CallAction, DeclItem, InstrAction, Item, Sliced, Stop, added, pop_path, pop_token, push,
+    push_step, with,
+};
+use pv_parse_call::{act_on_call, path_name, pop_call, pop_literal, pop_words};
 use pv_place::Place;
-use pv_parse::{CallAction, DeclItem, InstrAction, Item, Sliced, Stop, pop_path, pop_token, push};
-use pv_parse_stmt::{act_on_call, pop_literal};
-use pv_tree::{CallTree, Instr, Op, Operand, Root, Step};
+use pv_tree::{CallTree, Instr, Op, Operand, Step};
 use pv_types::{Literal, Name};
 use std::alloc::{AllocError, Global};
 
@@ -29,8 +31,8 @@ fn new_code(alloc: Global, stack: &mut Vec<Item>) -> Result<(), Stop>
 fn begun(alloc: Global, stack: &mut Vec<Item>) -> Result<(), Stop>
     ensures { Leaves result (stack_of stack.new) (begun_deed (stack_of stack.old)) }
 {
-    let mut list = pop_instrs(alloc, stack)?;
-    let _word = pop_token(stack)?;
+    let list = pop_instrs(alloc, stack)?;
+    let (mut list, _word) = with(list, pop_token(stack))?;
     list.shrink_to_fit();
     put_instrs(stack, list)?;
     Ok(())
@@ -50,10 +52,9 @@ fn label(alloc: Global, stack: &mut Vec<Item>) -> Result<(), Stop>
 {
     let _colon = pop_token(stack)?;
     let token = pop_token(stack)?;
-    let _none = pop_words(stack)?;
+    drop(pop_words(stack)?);
     let name = Name::plain(alloc, token.bytes)?;
-    let mut words = Vec::with_capacity(alloc, 1)?;
-    words.push((name, token.place))?;
+    let words = vec![in alloc; (name, token.place)]?;
     push(stack, Item::Decl(DeclItem::Words(words)))?;
     Ok(())
 }
@@ -70,15 +71,15 @@ fn add(
     ensures { OnOk result (stack_of stack.new ≡ added (front_tree front.entry) (instr_of (front_tree front.entry) op
         (option_map operand_tree operand) literal (option_map call_tree call)) (stack_of stack.old)) }
 {
-    let mut list = front.list;
-    list.push(Instr {
+    let instr = Instr {
         label: front.label,
         op,
         operand,
         literal,
         call,
         place: front.token.place,
-    })?;
+    };
+    let list = added(front.list, instr)?;
     put_instrs(stack, list)
 }
 
@@ -98,7 +99,7 @@ fn operand(alloc: Global, stack: &mut Vec<Item>) -> Result<(), Stop>
     ensures { Leaves result (stack_of stack.new) (operand_deed (stack_of stack.old)) }
 {
     let path = pop_path(stack)?;
-    let front = pop_front(alloc, stack)?;
+    let (path, front) = with(path, pop_front(alloc, stack))?;
     let op = op_of(front.token.bytes);
     add(stack, front, op, Some(path), None, None)?;
     Ok(())
@@ -125,35 +126,15 @@ fn alone(alloc: Global, stack: &mut Vec<Item>) -> Result<(), Stop>
     Ok(())
 }
 
-/// The name with which a path begins, with its own place. An address has none, and never stands for one.
-fn name_of(alloc: Global, root: Root, place: Place) -> Result<(Name, Place), AllocError>
-    ensures { IfOk result (λ name. name ≡ name_of_root root place) }
-{
-    match root {
-        Root::Local {
-            name,
-            place: at,
-            ..
-        } => Ok((name, at)),
-        Root::Named(name) => Ok((name, place)),
-        Root::Area { .. } => {
-            let name = Name::plain(alloc, b"")?;
-            Ok((name, place))
-        }
-    }
-}
-
 /// A called function block has an instance data block, behind its comma.
 fn base(alloc: Global, stack: &mut Vec<Item>) -> Result<(), Stop>
     ensures { Leaves result (stack_of stack.new) (base_deed (stack_of stack.old)) }
 {
     let second = pop_path(stack)?;
-    let _comma = pop_token(stack)?;
-    let mut path = pop_path(stack)?;
-    let (name, place) = name_of(alloc, second.root, second.place)?;
-    path.steps.push(Step::Field(name, place))?;
-    push(stack, Item::Path(path))?;
-    Ok(())
+    let (second, _comma) = with(second, pop_token(stack))?;
+    let (second, path) = with(second, pop_path(stack))?;
+    let (path, (name, place)) = with(path, path_name(alloc, second))?;
+    push_step(path, Step::Field(name, place), stack)
 }
 
 /// A parenthesis of a call that has none in the text.
@@ -182,8 +163,8 @@ fn bare(alloc: Global, stack: &mut Vec<Item>) -> Result<(), Stop>
 fn call(alloc: Global, stack: &mut Vec<Item>) -> Result<(), Stop>
     ensures { Leaves result (stack_of stack.new) (call_deed (stack_of stack.old)) }
 {
-    let mut call = pop_call(stack)?;
-    let front = pop_front(alloc, stack)?;
+    let call = pop_call(stack)?;
+    let (mut call, front) = with(call, pop_front(alloc, stack))?;
     let op = op_of(front.token.bytes);
     call.place = front.token.place;
     add(stack, front, op, None, None, Some(call))?;

@@ -8,8 +8,8 @@ ghost use Rattle.pv_tree.specs.Literals.{is_based, loaded_type};
 ghost use Rattle.pv_parse.specs.Items.{stack_of, lexeme_of_slice, Finds, Leaves};
 ghost use Rattle.pv_parse.specs.InstrDeeds.{type_behind, number_behind, number_deed, negative_deed, truth_deed};
 
-use pv_place::Place;
 use pv_parse::{Item, Sliced, Stop, is_text, number_type, pop_token, push, truth_of};
+use pv_place::Place;
 use pv_types::Literal;
 use pv_word::Ty;
 

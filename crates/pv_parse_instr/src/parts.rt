@@ -2,18 +2,15 @@
 //! one word.
 ghost use Rattle.std.specs.Prelude.{◌≡◌, OnOk, ◌∷◌, [], map};
 ghost use Rattle.pv_tree.specs.Tree.{stl};
-ghost use Rattle.pv_tree.specs.View.{body_tree, call_tree, instr_tree};
-ghost use Rattle.pv_parse.specs.CodeItems.{code_of};
-ghost use Rattle.pv_parse.specs.CodeStack.{call_in, call_on};
-ghost use Rattle.pv_parse.specs.DeclItems.{decl_of};
-ghost use Rattle.pv_parse.specs.Items.{stack_of, item_of, body, code_in, decl_in, decl_on, Pops, Finds};
-ghost use Rattle.pv_parse.specs.DeclStack.{words_in, words_on, body_in, body_on};
+ghost use Rattle.pv_tree.specs.View.{body_tree, instr_tree};
+ghost use Rattle.pv_parse.specs.Items.{stack_of, body, Pops};
 ghost use Rattle.pv_parse.specs.InstrStack.{instrs_of, instrs_on, last_word, front_on};
 ghost use Rattle.pv_parse_instr.specs.Fronts.{front_tree};
 
+use pv_parse::{DeclItem, Item, Sliced, Stop, pop_token, push, with};
+use pv_parse_call::{pop_body, pop_words};
 use pv_place::Place;
-use pv_parse::{CodeItem, DeclItem, Item, Sliced, Stop, mistyped, pop_item, pop_token, push};
-use pv_tree::{Body, CallTree, Instr};
+use pv_tree::{Body, Instr};
 use pv_types::Name;
 use std::alloc::{AllocError, Global};
 
@@ -25,81 +22,12 @@ pub struct Front<'a> {
     pub list: Vec<Instr>,
 }
 
-/// A part is another than what was asked for. It is dropped here, so that no proof has a case for each part of it.
-fn other_part(part: DeclItem) -> Stop
-    ensures { result ≡ Stop.Mistyped }
-{
-    drop(part);
-    Stop::Mistyped
-}
-
-/// So is a part of a call.
-fn other_code(part: CodeItem) -> Stop
-    ensures { result ≡ Stop.Mistyped }
-{
-    drop(part);
-    Stop::Mistyped
-}
-
 /// The body of a block of another language has no instruction. It is dropped here.
-fn no_instrs(alloc: Global, _body: Body) -> Vec<Instr>
+fn no_instrs(alloc: Global, body: Body) -> Vec<Instr>
     ensures { map instr_tree result.items ≡ [] }
 {
+    drop(body);
     Vec::new(alloc)
-}
-
-fn decl_in(item: Item) -> Result<DeclItem, Stop>
-    ensures { Finds decl_of result (decl_in (item_of item.entry)) }
-{
-    match item {
-        Item::Decl(item) => Ok(item),
-        other => Err(mistyped(other)),
-    }
-}
-
-/// Takes a part of a declaration or of a block.
-fn pop_decl(stack: &mut Vec<Item>) -> Result<DeclItem, Stop>
-    ensures { Pops decl_of result (stack_of stack.new) (decl_on (stack_of stack.old)) }
-{
-    let item = pop_item(stack)?;
-    let found = decl_in(item)?;
-    Ok(found)
-}
-
-fn words_in(item: DeclItem) -> Result<Vec<(Name, Place)>, Stop>
-    ensures { Finds (λ words. words.items) result (words_in (decl_of item)) }
-{
-    match item {
-        DeclItem::Words(found) => Ok(found),
-        other => Err(other_part(other)),
-    }
-}
-
-/// Takes the label of an instruction, or none.
-pub fn pop_words(stack: &mut Vec<Item>) -> Result<Vec<(Name, Place)>, Stop>
-    ensures { Pops (λ words. words.items) result (stack_of stack.new) (words_on (stack_of stack.old)) }
-{
-    let item = pop_decl(stack)?;
-    let found = words_in(item)?;
-    Ok(found)
-}
-
-fn body_in(item: DeclItem) -> Result<Body, Stop>
-    ensures { Finds body_tree result (body_in (decl_of item)) }
-{
-    match item {
-        DeclItem::Body(found) => Ok(found),
-        other => Err(other_part(other)),
-    }
-}
-
-/// Takes the body of a block.
-fn pop_body(stack: &mut Vec<Item>) -> Result<Body, Stop>
-    ensures { Pops body_tree result (stack_of stack.new) (body_on (stack_of stack.old)) }
-{
-    let item = pop_decl(stack)?;
-    let found = body_in(item)?;
-    Ok(found)
 }
 
 /// The instructions of a body; one of another language has none, and never lies where they are taken.
@@ -120,34 +48,6 @@ pub fn pop_instrs(alloc: Global, stack: &mut Vec<Item>) -> Result<Vec<Instr>, St
     Ok(instrs_in(alloc, body))
 }
 
-fn code_in(item: Item) -> Result<CodeItem, Stop>
-    ensures { Finds code_of result (code_in (item_of item.entry)) }
-{
-    match item {
-        Item::Code(item) => Ok(item),
-        other => Err(mistyped(other)),
-    }
-}
-
-fn call_in(item: CodeItem) -> Result<CallTree, Stop>
-    ensures { Finds call_tree result (call_in (code_of item)) }
-{
-    match item {
-        CodeItem::Call(found) => Ok(found),
-        other => Err(other_code(other)),
-    }
-}
-
-/// Takes a call.
-pub fn pop_call(stack: &mut Vec<Item>) -> Result<CallTree, Stop>
-    ensures { Pops call_tree result (stack_of stack.new) (call_on (stack_of stack.old)) }
-{
-    let item = pop_item(stack)?;
-    let part = code_in(item)?;
-    let found = call_in(part)?;
-    Ok(found)
-}
-
 /// The last of some words.
 fn last_word(words: Vec<(Name, Place)>) -> Option<(Name, Place)>
     ensures { result ≡ last_word words.items }
@@ -162,7 +62,7 @@ pub fn pop_front<'a>(alloc: Global, stack: &mut Vec<Item<'a>>) -> Result<Front<'
 {
     let token = pop_token(stack)?;
     let words = pop_words(stack)?;
-    let list = pop_instrs(alloc, stack)?;
+    let (words, list) = with(words, pop_instrs(alloc, stack))?;
     Ok(Front {
         token,
         label: last_word(words),

@@ -1,14 +1,17 @@
 //! What alternatives of blocks and of the values of data blocks make of what lies on the stack.
-ghost use Rattle.std.specs.Prelude.{◌≡◌, ◌++◌, ◌∷◌, [], None, OnOk};
+ghost use Rattle.std.specs.Prelude.{◌≡◌, ◌++◌, ◌∷◌, [], None, IfOk, OnOk};
 ghost use Rattle.pv_types.specs.View.{var_trees};
 ghost use Rattle.pv_tree.specs.View.{body_tree, block_trees};
 ghost use Rattle.pv_parse.specs.Items.{stack_of, head_tree, Leaves};
 ghost use Rattle.pv_parse.specs.BlockDeeds.{block_of, block_name_deed, value_deed, void_deed, closed_deed, data_of_deed, path_index_deed, data_head_deed, no_data_deed, data_value_deed, scl_body_deed, begun_body_deed, new_source_deed, code_deed, data_deed, structure_deed, block_deed};
 
 use crate::decl_texts::type_of_word;
-use crate::pops::{pop_blocks, pop_body, pop_fields, pop_heading, pop_name, pop_values, put};
-use pv_parse::{BlockAction, DeclItem, Heading, Item, Stop, pop_path, pop_token, push};
-use pv_parse_stmt::{pop_literal, pop_stmts};
+use crate::pops::{pop_blocks, pop_fields, pop_heading, pop_name, pop_values, put};
+use pv_parse::{
+    BlockAction, DeclItem, Heading, Item, Stop, added, pop_path, pop_token, push_step, with,
+};
+use pv_parse_call::{pop_body, pop_literal};
+use pv_parse_stmt::pop_stmts;
 use pv_tree::{Block, BlockKind, Body, Expr, Step};
 use pv_types::{Interface, Var};
 use std::alloc::{AllocError, Global};
@@ -69,8 +72,9 @@ fn closed(stack: &mut Vec<Item>) -> Result<(), Stop>
 {
     let _end = pop_token(stack)?;
     let fields = pop_fields(stack)?;
-    let mut heading = pop_heading(stack)?;
-    append(&mut heading.vars, fields.vars)?;
+    let (fields, mut heading) = with(fields, pop_heading(stack))?;
+    let appended = append(&mut heading.vars, fields.vars);
+    let (heading, ()) = with(heading, appended)?;
     put(stack, DeclItem::Heading(heading))?;
     Ok(())
 }
@@ -80,7 +84,7 @@ fn data_of(stack: &mut Vec<Item>) -> Result<(), Stop>
     ensures { Leaves result (stack_of stack.new) (data_of_deed (stack_of stack.old)) }
 {
     let name = pop_name(stack)?;
-    let mut heading = pop_heading(stack)?;
+    let (name, mut heading) = with(name, pop_heading(stack))?;
     heading.of = Some(name);
     put(stack, DeclItem::Heading(heading))?;
     Ok(())
@@ -93,16 +97,14 @@ fn path_index(alloc: Global, stack: &mut Vec<Item>) -> Result<(), Stop>
     let _end = pop_token(stack)?;
     let literal = pop_literal(stack)?;
     let begin = pop_token(stack)?;
-    let mut path = pop_path(stack)?;
+    let path = pop_path(stack)?;
     let at = Expr::Lit {
         ty: literal.ty,
         value: literal.value,
         place: literal.place,
     };
-    let at = Box::new(alloc, at)?;
-    path.steps.push(Step::Index(at, begin.place))?;
-    push(stack, Item::Path(path))?;
-    Ok(())
+    let (path, at) = with(path, Box::new(alloc, at))?;
+    push_step(path, Step::Index(at, begin.place), stack)
 }
 
 /// The values of a data block begin.
@@ -130,8 +132,8 @@ fn data_value(stack: &mut Vec<Item>) -> Result<(), Stop>
     let literal = pop_literal(stack)?;
     let _sign = pop_token(stack)?;
     let path = pop_path(stack)?;
-    let mut values = pop_values(stack)?;
-    values.push((path, literal))?;
+    let (path, values) = with(path, pop_values(stack))?;
+    let values = added(values, (path, literal))?;
     put(stack, DeclItem::Values(values))?;
     Ok(())
 }
@@ -150,7 +152,7 @@ fn begun_body(stack: &mut Vec<Item>) -> Result<(), Stop>
     ensures { Leaves result (stack_of stack.new) (begun_body_deed (stack_of stack.old)) }
 {
     let list = pop_stmts(stack)?;
-    let _word = pop_token(stack)?;
+    let (list, _word) = with(list, pop_token(stack))?;
     put(stack, DeclItem::Body(Body::Scl(list)))?;
     Ok(())
 }
@@ -163,28 +165,29 @@ fn new_source(alloc: Global, stack: &mut Vec<Item>) -> Result<(), Stop>
     Ok(())
 }
 
-/// Puts a block behind others.
-fn add_block(
-    blocks: &mut Vec<Block>,
+/// The blocks with one more behind them.
+fn with_block(
+    blocks: Vec<Block>,
     kind: BlockKind,
     heading: Heading,
     body: Body,
-) -> Result<(), AllocError>
-    ensures { OnOk result (block_trees blocks.new.items ≡ block_trees blocks.old.items
+) -> Result<Vec<Block>, AllocError>
+    ensures { IfOk result (λ more. block_trees more.items ≡ block_trees blocks.items
         ++ block_of kind (head_tree heading) (body_tree body) ∷ []) }
 {
+    drop(heading.of);
     let interface = Interface {
         vars: heading.vars,
         value: heading.value,
     };
-    blocks.push(Block {
+    let block = Block {
         kind,
         name: heading.name,
         interface,
         body,
         place: heading.place,
-    })?;
-    Ok(())
+    };
+    added(blocks, block)
 }
 
 /// A block with code ends.
@@ -193,10 +196,10 @@ fn code(kind: BlockKind, stack: &mut Vec<Item>) -> Result<(), Stop>
 {
     let _end = pop_token(stack)?;
     let body = pop_body(stack)?;
-    let heading = pop_heading(stack)?;
-    let _word = pop_token(stack)?;
-    let mut blocks = pop_blocks(stack)?;
-    add_block(&mut blocks, kind, heading, body)?;
+    let (body, heading) = with(body, pop_heading(stack))?;
+    let ((body, heading), _word) = with((body, heading), pop_token(stack))?;
+    let ((body, heading), blocks) = with((body, heading), pop_blocks(stack))?;
+    let blocks = with_block(blocks, kind, heading, body)?;
     put(stack, DeclItem::Blocks(blocks))?;
     Ok(())
 }
@@ -223,11 +226,11 @@ fn data(stack: &mut Vec<Item>) -> Result<(), Stop>
 {
     let _end = pop_token(stack)?;
     let values = pop_values(stack)?;
-    let heading = pop_heading(stack)?;
-    let _word = pop_token(stack)?;
-    let mut blocks = pop_blocks(stack)?;
+    let (values, heading) = with(values, pop_heading(stack))?;
+    let ((values, heading), _word) = with((values, heading), pop_token(stack))?;
+    let ((values, heading), blocks) = with((values, heading), pop_blocks(stack))?;
     let (heading, kind) = without_of(heading);
-    add_block(&mut blocks, kind, heading, Body::Starts(values))?;
+    let blocks = with_block(blocks, kind, heading, Body::Starts(values))?;
     put(stack, DeclItem::Blocks(blocks))?;
     Ok(())
 }
@@ -238,10 +241,10 @@ fn structure(alloc: Global, stack: &mut Vec<Item>) -> Result<(), Stop>
 {
     let _end = pop_token(stack)?;
     let heading = pop_heading(stack)?;
-    let _word = pop_token(stack)?;
-    let mut blocks = pop_blocks(stack)?;
+    let (heading, _word) = with(heading, pop_token(stack))?;
+    let (heading, blocks) = with(heading, pop_blocks(stack))?;
     let body = Body::Starts(Vec::new(alloc));
-    add_block(&mut blocks, BlockKind::Udt, heading, body)?;
+    let blocks = with_block(blocks, BlockKind::Udt, heading, body)?;
     put(stack, DeclItem::Blocks(blocks))?;
     Ok(())
 }

@@ -18,8 +18,9 @@ use crate::declarations::act_on_decl;
 use pv_lex::Token;
 use pv_ll::{Language, Step, Symbol, Walk};
 use pv_parse::{Action, Item, Sliced, Stop, act_on_expr, action_at, bytes_of, push};
+use pv_parse_call::act_on_call;
 use pv_parse_instr::act_on_instr;
-use pv_parse_stmt::{act_on_call, act_on_stmt};
+use pv_parse_stmt::act_on_stmt;
 use std::alloc::Global;
 
 /// A token with its bytes.

@@ -1,22 +1,20 @@
 //! What alternatives of names, literals and declarations make of what lies on the stack.
 ghost use Rattle.std.specs.Prelude.{◌≡◌, ◌++◌, [], ◌∷◌, Some, OnOk, neg_ℤ};
 ghost use Rattle.pv_types.specs.View.{type_tree, var_tree, var_trees};
-ghost use Rattle.pv_parse.specs.Items.{stack_of, Leaves, Finds};
+ghost use Rattle.pv_parse.specs.Items.{stack_of, path_tree, Leaves, Finds};
 ghost use Rattle.pv_parse.specs.DeclStack.{name_of};
 ghost use Rattle.pv_parse.specs.DeclDeeds.{declared, name_deed, number_deed, negative_deed, truth_deed, first_word_deed, next_word_deed, type_head_deed, simple_deed, unread_deed, named_deed, array_head_deed, array_deed, struct_head_deed, struct_deed, start_deed, no_start_deed, declared_deed, constant_of, constant_deed, own_head_deed, section_head_deed, const_head_deed, dropped_deed, decl_deed};
 
 use crate::copies::copy_type;
 use crate::decl_texts::{section_of_word, type_alone, type_of_word};
-use crate::pops::{
-    pop_around, pop_bounds, pop_fields, pop_name, pop_start, pop_typed, pop_word, pop_words, put,
-};
-use pv_place::Place;
+use crate::pops::{pop_around, pop_bounds, pop_fields, pop_name, pop_start, pop_typed, put};
 use pv_parse::{
-    Bounds, DeclAction, DeclItem, Fields, Item, Stop, number_type, pop_path, pop_token, push,
-    truth_of,
+    Bounds, DeclAction, DeclItem, Fields, Item, Stop, added, number_type, pop_path, pop_token,
+    pop_word, push, truth_of, with,
 };
-use pv_parse_stmt::pop_literal;
-use pv_tree::Root;
+use pv_parse_call::{pop_literal, pop_words};
+use pv_place::Place;
+use pv_tree::{Operand, Root};
 use pv_types::{DeclType, Literal, Name, Section, Var};
 use pv_word::Ty;
 use std::alloc::{AllocError, Global};
@@ -32,13 +30,22 @@ fn name_in(root: Root) -> Result<Name, Stop>
     }
 }
 
+/// The name with which a path begins.
+fn name_of(path: Operand) -> Result<Name, Stop>
+    ensures { Finds (λ name. name) result (name_of (path_tree path).root) }
+{
+    drop(path.steps);
+    name_in(path.root)
+}
+
 /// A name stands alone.
 fn name(stack: &mut Vec<Item>) -> Result<(), Stop>
     ensures { Leaves result (stack_of stack.new) (name_deed (stack_of stack.old)) }
 {
     let path = pop_path(stack)?;
-    let name = name_in(path.root)?;
-    put(stack, DeclItem::Name(name, path.place))?;
+    let place = path.place;
+    let name = name_of(path)?;
+    put(stack, DeclItem::Name(name, place))?;
     Ok(())
 }
 
@@ -102,8 +109,7 @@ fn first_word(alloc: Global, stack: &mut Vec<Item>) -> Result<(), Stop>
     ensures { Leaves result (stack_of stack.new) (first_word_deed (stack_of stack.old)) }
 {
     let word = pop_word(stack)?;
-    let mut words = Vec::new(alloc);
-    words.push(word)?;
+    let words = vec![in alloc; word]?;
     put(stack, DeclItem::Words(words))?;
     Ok(())
 }
@@ -113,9 +119,9 @@ fn next_word(stack: &mut Vec<Item>) -> Result<(), Stop>
     ensures { Leaves result (stack_of stack.new) (next_word_deed (stack_of stack.old)) }
 {
     let word = pop_word(stack)?;
-    let _comma = pop_token(stack)?;
-    let mut words = pop_words(stack)?;
-    words.push(word)?;
+    let (word, _comma) = with(word, pop_token(stack))?;
+    let (word, words) = with(word, pop_words(stack))?;
+    let words = added(words, word)?;
     put(stack, DeclItem::Words(words))?;
     Ok(())
 }
@@ -126,9 +132,10 @@ fn type_head(stack: &mut Vec<Item>) -> Result<(), Stop>
 {
     let _colon = pop_token(stack)?;
     let words = pop_words(stack)?;
-    let fields = pop_fields(stack)?;
+    let (words, fields) = with(words, pop_fields(stack))?;
     let section = fields.section;
-    put(stack, DeclItem::Fields(fields))?;
+    let laid = put(stack, DeclItem::Fields(fields));
+    let (words, ()) = with(words, laid)?;
     put(stack, DeclItem::Words(words))?;
     put(stack, DeclItem::Around(section))?;
     Ok(())
@@ -159,8 +166,8 @@ fn unread(stack: &mut Vec<Item>) -> Result<(), Stop>
 fn named(stack: &mut Vec<Item>) -> Result<(), Stop>
     ensures { Leaves result (stack_of stack.new) (named_deed (stack_of stack.old)) }
 {
-    let (name, place) = pop_name(stack)?;
-    let _around = pop_around(stack)?;
+    let name = pop_name(stack)?;
+    let ((name, place), _around) = with(name, pop_around(stack))?;
     put(stack, DeclItem::Typed(DeclType::Named(name, place)))?;
     Ok(())
 }
@@ -192,7 +199,7 @@ fn array(alloc: Global, stack: &mut Vec<Item>) -> Result<(), Stop>
     ensures { Leaves result (stack_of stack.new) (array_deed (stack_of stack.old)) }
 {
     let of = pop_typed(stack)?;
-    let bounds = pop_bounds(stack)?;
+    let (of, bounds) = with(of, pop_bounds(stack))?;
     let of = Box::new(alloc, of)?;
     let ty = DeclType::Array {
         low: bounds.low,
@@ -266,7 +273,7 @@ fn add_copy(
         ≡ var_trees vars.old.items ++ declared section (type_tree ty.now) start (word.now ∷ [])) }
 {
     let ty = copy_type(alloc, ty)?;
-    let name = word.0.clone()?;
+    let (ty, name) = with(ty, word.0.clone())?;
     vars.push(Var {
         name,
         section,
@@ -295,6 +302,28 @@ fn add_copies(
     Ok(())
 }
 
+/// Puts a variable of a word behind the others, with the type itself.
+fn add_last(
+    vars: &mut Vec<Var>,
+    section: Section,
+    ty: DeclType,
+    start: Option<Literal>,
+    word: (Name, Place),
+) -> Result<(), AllocError>
+    ensures { OnOk result (var_trees vars.new.items
+        ≡ var_trees vars.old.items ++ declared section (type_tree ty) start (word ∷ [])) }
+{
+    let (name, place) = word;
+    vars.push(Var {
+        name,
+        section,
+        ty,
+        start,
+        place,
+    })?;
+    Ok(())
+}
+
 /// Puts a variable of each word behind the others; the last one has the type itself.
 fn add_vars(
     alloc: Global,
@@ -308,18 +337,15 @@ fn add_vars(
         ≡ var_trees vars.old.items ++ declared section (type_tree ty) start words.items) }
 {
     let mut words = words;
-    let Some((name, place)) = words.pop() else {
-        return Ok(());
-    };
-    add_copies(alloc, vars, section, &ty, start, &words)?;
-    vars.push(Var {
-        name,
-        section,
-        ty,
-        start,
-        place,
-    })?;
-    Ok(())
+    match words.pop() {
+        Some(last) => {
+            let copied = add_copies(alloc, vars, section, &ty, start, &words);
+            drop(words);
+            let ((last, ty), ()) = with((last, ty), copied)?;
+            add_last(vars, section, ty, start, last)
+        }
+        None => Ok(()),
+    }
 }
 
 /// All words of a declaration have its type and its start value.
@@ -329,10 +355,11 @@ fn declaration(alloc: Global, stack: &mut Vec<Item>) -> Result<(), Stop>
     let _end = pop_token(stack)?;
     let start = pop_start(stack)?;
     let ty = pop_typed(stack)?;
-    let words = pop_words(stack)?;
-    let mut fields = pop_fields(stack)?;
+    let (ty, words) = with(ty, pop_words(stack))?;
+    let ((ty, words), mut fields) = with((ty, words), pop_fields(stack))?;
     let section = fields.section;
-    add_vars(alloc, &mut fields.vars, section, ty, start, words)?;
+    let declared = add_vars(alloc, &mut fields.vars, section, ty, start, words);
+    let (fields, ()) = with(fields, declared)?;
     put(stack, DeclItem::Fields(fields))?;
     Ok(())
 }
@@ -373,8 +400,9 @@ fn constant(stack: &mut Vec<Item>) -> Result<(), Stop>
     let literal = pop_literal(stack)?;
     let _sign = pop_token(stack)?;
     let word = pop_word(stack)?;
-    let mut fields = pop_fields(stack)?;
-    add_constant(&mut fields.vars, word, literal)?;
+    let (word, mut fields) = with(word, pop_fields(stack))?;
+    let declared = add_constant(&mut fields.vars, word, literal);
+    let (fields, ()) = with(fields, declared)?;
     put(stack, DeclItem::Fields(fields))?;
     Ok(())
 }

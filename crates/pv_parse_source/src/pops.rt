@@ -1,16 +1,15 @@
 //! What is taken off the stack while declarations and blocks are made.
 ghost use Rattle.std.specs.Prelude.{OnOk, ◌≡◌, ◌∷◌, map};
 ghost use Rattle.pv_types.specs.View.{type_tree};
-ghost use Rattle.pv_tree.specs.View.{start_tree, body_tree, block_trees};
+ghost use Rattle.pv_tree.specs.View.{start_tree, block_trees};
 ghost use Rattle.pv_parse.specs.DeclItems.{decl_of, fields_tree, bounds_tree, head_tree};
-ghost use Rattle.pv_parse.specs.Items.{stack_of, item_of, decl, decl_in, decl_on, Pops, Finds};
-ghost use Rattle.pv_parse.specs.DeclStack.{word_on, name_in, name_on, words_in, words_on, around_in, around_on, fields_in, fields_on, typed_in, typed_on, start_in, start_on, bounds_in, bounds_on, heading_in, heading_on, body_in, body_on, values_in, values_on, blocks_in, blocks_on};
+ghost use Rattle.pv_parse.specs.Items.{stack_of, decl, Pops, Finds};
+ghost use Rattle.pv_parse.specs.DeclStack.{name_in, name_on, around_in, around_on, fields_in, fields_on, typed_in, typed_on, start_in, start_on, bounds_in, bounds_on, heading_in, heading_on, values_in, values_on, blocks_in, blocks_on};
 
+use pv_parse::{Bounds, DeclItem, Fields, Heading, Item, Stop, push};
+use pv_parse_call::{mistyped_decl, pop_decl};
 use pv_place::Place;
-use pv_parse::{
-    Bounds, DeclItem, Fields, Heading, Item, Stop, mistyped, pop_item, pop_path, push, word_in,
-};
-use pv_tree::{Block, Body, Operand};
+use pv_tree::{Block, Operand};
 use pv_types::{DeclType, Literal, Name, Section};
 use std::alloc::AllocError;
 
@@ -21,47 +20,12 @@ pub fn put<'a>(stack: &mut Vec<Item<'a>>, item: DeclItem) -> Result<(), AllocErr
     push(stack, Item::Decl(item))
 }
 
-/// Takes a word that was read as an operand without steps.
-pub fn pop_word(stack: &mut Vec<Item>) -> Result<(Name, Place), Stop>
-    ensures { Pops (λ word. word) result (stack_of stack.new) (word_on (stack_of stack.old)) }
-{
-    let path = pop_path(stack)?;
-    let word = word_in(path.root)?;
-    Ok(word)
-}
-
-/// A part is another than what was asked for. It is dropped here, so that no proof has a case for each part of it.
-fn other_part(part: DeclItem) -> Stop
-    ensures { result ≡ Stop.Mistyped }
-{
-    drop(part);
-    Stop::Mistyped
-}
-
-fn decl_in(item: Item) -> Result<DeclItem, Stop>
-    ensures { Finds decl_of result (decl_in (item_of item.entry)) }
-{
-    match item {
-        Item::Decl(item) => Ok(item),
-        other => Err(mistyped(other)),
-    }
-}
-
-/// Takes a part of a declaration or of a block.
-fn pop_decl(stack: &mut Vec<Item>) -> Result<DeclItem, Stop>
-    ensures { Pops decl_of result (stack_of stack.new) (decl_on (stack_of stack.old)) }
-{
-    let item = pop_item(stack)?;
-    let found = decl_in(item)?;
-    Ok(found)
-}
-
 fn name_in(item: DeclItem) -> Result<(Name, Place), Stop>
     ensures { Finds (λ named. named) result (name_in (decl_of item)) }
 {
     match item {
         DeclItem::Name(name, place) => Ok((name, place)),
-        other => Err(other_part(other)),
+        other => Err(mistyped_decl(other)),
     }
 }
 
@@ -74,30 +38,12 @@ pub fn pop_name(stack: &mut Vec<Item>) -> Result<(Name, Place), Stop>
     Ok(found)
 }
 
-fn words_in(item: DeclItem) -> Result<Vec<(Name, Place)>, Stop>
-    ensures { Finds (λ words. words.items) result (words_in (decl_of item)) }
-{
-    match item {
-        DeclItem::Words(found) => Ok(found),
-        other => Err(other_part(other)),
-    }
-}
-
-/// Takes the words of a declaration.
-pub fn pop_words(stack: &mut Vec<Item>) -> Result<Vec<(Name, Place)>, Stop>
-    ensures { Pops (λ words. words.items) result (stack_of stack.new) (words_on (stack_of stack.old)) }
-{
-    let item = pop_decl(stack)?;
-    let found = words_in(item)?;
-    Ok(found)
-}
-
 fn around_in(item: DeclItem) -> Result<Section, Stop>
     ensures { Finds (λ around. around) result (around_in (decl_of item)) }
 {
     match item {
         DeclItem::Around(found) => Ok(found),
-        other => Err(other_part(other)),
+        other => Err(mistyped_decl(other)),
     }
 }
 
@@ -115,7 +61,7 @@ fn fields_in(item: DeclItem) -> Result<Fields, Stop>
 {
     match item {
         DeclItem::Fields(found) => Ok(found),
-        other => Err(other_part(other)),
+        other => Err(mistyped_decl(other)),
     }
 }
 
@@ -133,7 +79,7 @@ fn typed_in(item: DeclItem) -> Result<DeclType, Stop>
 {
     match item {
         DeclItem::Typed(found) => Ok(found),
-        other => Err(other_part(other)),
+        other => Err(mistyped_decl(other)),
     }
 }
 
@@ -151,7 +97,7 @@ fn start_in(item: DeclItem) -> Result<Option<Literal>, Stop>
 {
     match item {
         DeclItem::Start(found) => Ok(found),
-        other => Err(other_part(other)),
+        other => Err(mistyped_decl(other)),
     }
 }
 
@@ -169,7 +115,7 @@ fn bounds_in(item: DeclItem) -> Result<Bounds, Stop>
 {
     match item {
         DeclItem::Bounds(found) => Ok(found),
-        other => Err(other_part(other)),
+        other => Err(mistyped_decl(other)),
     }
 }
 
@@ -187,7 +133,7 @@ fn heading_in(item: DeclItem) -> Result<Heading, Stop>
 {
     match item {
         DeclItem::Heading(found) => Ok(found),
-        other => Err(other_part(other)),
+        other => Err(mistyped_decl(other)),
     }
 }
 
@@ -200,30 +146,12 @@ pub fn pop_heading(stack: &mut Vec<Item>) -> Result<Heading, Stop>
     Ok(found)
 }
 
-fn body_in(item: DeclItem) -> Result<Body, Stop>
-    ensures { Finds body_tree result (body_in (decl_of item)) }
-{
-    match item {
-        DeclItem::Body(found) => Ok(found),
-        other => Err(other_part(other)),
-    }
-}
-
-/// Takes the body of a block with code.
-pub fn pop_body(stack: &mut Vec<Item>) -> Result<Body, Stop>
-    ensures { Pops body_tree result (stack_of stack.new) (body_on (stack_of stack.old)) }
-{
-    let item = pop_decl(stack)?;
-    let found = body_in(item)?;
-    Ok(found)
-}
-
 fn values_in(item: DeclItem) -> Result<Vec<(Operand, Literal)>, Stop>
     ensures { Finds (λ values. map start_tree values.items) result (values_in (decl_of item)) }
 {
     match item {
         DeclItem::Values(found) => Ok(found),
-        other => Err(other_part(other)),
+        other => Err(mistyped_decl(other)),
     }
 }
 
@@ -241,7 +169,7 @@ fn blocks_in(item: DeclItem) -> Result<Vec<Block>, Stop>
 {
     match item {
         DeclItem::Blocks(found) => Ok(found),
-        other => Err(other_part(other)),
+        other => Err(mistyped_decl(other)),
     }
 }
 

@@ -1,4 +1,3 @@
-pub mod Bases
 mod StmtTrees
 pub mod PathLaws
 pub mod ArgLaws

@@ -1,111 +1,20 @@
-//! Parts of statements and calls, taken off the stack.
-ghost use Rattle.std.specs.Prelude.{◌≡◌, Ok, Err};
-ghost use Rattle.pv_tree.specs.View.{call_tree, stmt_tree};
-ghost use Rattle.pv_parse.specs.CodeItems.{code_of, arg_list, value_tree, stmt_list, arm_list, else_list, choice_list, branch_list};
-ghost use Rattle.pv_parse.specs.Items.{stack_of, item_of, literal_in, literal_on, code_in, code_on, Pops, Finds};
-ghost use Rattle.pv_parse.specs.CodeStack.{args_in, call_in, value_in, stmt_in, stmts_in, arms_in, else_in, by_in, choice_in, choices_in, branches_in, args_on, call_on, value_on, stmt_on, stmts_on, arms_on, else_on, by_on, choice_on, choices_on, branches_on};
+//! Parts of statements, taken off the stack.
+ghost use Rattle.pv_tree.specs.View.{stmt_tree};
+ghost use Rattle.pv_parse.specs.CodeItems.{code_of, value_tree, stmt_list, arm_list, else_list, choice_list, branch_list};
+ghost use Rattle.pv_parse.specs.Items.{stack_of, Pops, Finds};
+ghost use Rattle.pv_parse.specs.CodeStack.{value_in, stmt_in, stmts_in, arms_in, else_in, by_in, choice_in, choices_in, branches_in, value_on, stmt_on, stmts_on, arms_on, else_on, by_on, choice_on, choices_on, branches_on};
 
-use pv_parse::{CodeItem, Item, Stop, Value, mistyped, pop_item};
-use pv_tree::{Arg, CallTree, Choice, Expr, Stmt};
+use pv_parse::{CodeItem, Item, Stop, Value};
+use pv_parse_call::{mistyped_code, pop_code};
+use pv_tree::{Choice, Expr, Stmt};
 use pv_types::Literal;
-
-fn literal_in(item: Item) -> Result<Literal, Stop>
-    ensures { Finds (λ literal. literal) result (literal_in (item_of item.entry)) }
-{
-    match item {
-        Item::Literal(literal) => Ok(literal),
-        other => Err(mistyped(other)),
-    }
-}
-
-/// Takes a literal.
-pub fn pop_literal<'a>(stack: &mut Vec<Item<'a>>) -> Result<Literal, Stop>
-    ensures { Pops (λ literal. literal) result (stack_of stack.new) (literal_on (stack_of stack.old)) }
-{
-    let item = pop_item(stack)?;
-    let found = literal_in(item)?;
-    Ok(found)
-}
-
-fn code_in(item: Item) -> Result<CodeItem, Stop>
-    ensures { Finds code_of result (code_in (item_of item.entry)) }
-{
-    match item {
-        Item::Code(item) => Ok(item),
-        other => Err(mistyped(other)),
-    }
-}
-
-/// Takes a part of a statement or of a call.
-fn pop_code<'a>(stack: &mut Vec<Item<'a>>) -> Result<CodeItem, Stop>
-    ensures { Pops code_of result (stack_of stack.new) (code_on (stack_of stack.old)) }
-{
-    let item = pop_item(stack)?;
-    let found = code_in(item)?;
-    Ok(found)
-}
-
-/// A part is another than what was asked for.
-fn mistyped_part(part: CodeItem) -> Stop
-    ensures { result ≡ Stop.Mistyped }
-{
-    drop(part);
-    Stop::Mistyped
-}
-
-/// The value beside what the result holds; where it holds none, the value is let go.
-pub(crate) fn with<A: Drop, B, E>(first: A, second: Result<B, E>) -> Result<(A, B), E>
-    ensures ok { (b : _) → second ≡ Ok b → result ≡ Ok (first, b) }
-    ensures err { (e : _) → second ≡ Err e → result ≡ Err e }
-{
-    match second {
-        Ok(second) => Ok((first, second)),
-        Err(stop) => Err(stop),
-    }
-}
-
-fn args_in(item: CodeItem) -> Result<Vec<Arg>, Stop>
-    ensures { Finds arg_list result (args_in (code_of item)) }
-{
-    match item {
-        CodeItem::Args(found) => Ok(found),
-        other => Err(mistyped_part(other)),
-    }
-}
-
-/// Takes the arguments of a call.
-pub fn pop_args<'a>(stack: &mut Vec<Item<'a>>) -> Result<Vec<Arg>, Stop>
-    ensures { Pops arg_list result (stack_of stack.new) (args_on (stack_of stack.old)) }
-{
-    let item = pop_code(stack)?;
-    let found = args_in(item)?;
-    Ok(found)
-}
-
-fn call_in(item: CodeItem) -> Result<CallTree, Stop>
-    ensures { Finds call_tree result (call_in (code_of item)) }
-{
-    match item {
-        CodeItem::Call(found) => Ok(found),
-        other => Err(mistyped_part(other)),
-    }
-}
-
-/// Takes a call.
-pub fn pop_call<'a>(stack: &mut Vec<Item<'a>>) -> Result<CallTree, Stop>
-    ensures { Pops call_tree result (stack_of stack.new) (call_on (stack_of stack.old)) }
-{
-    let item = pop_code(stack)?;
-    let found = call_in(item)?;
-    Ok(found)
-}
 
 fn value_in(item: CodeItem) -> Result<Value, Stop>
     ensures { Finds value_tree result (value_in (code_of item)) }
 {
     match item {
         CodeItem::Value(found) => Ok(found),
-        other => Err(mistyped_part(other)),
+        other => Err(mistyped_code(other)),
     }
 }
 
@@ -123,7 +32,7 @@ fn stmt_in(item: CodeItem) -> Result<Stmt, Stop>
 {
     match item {
         CodeItem::Stmt(found) => Ok(found),
-        other => Err(mistyped_part(other)),
+        other => Err(mistyped_code(other)),
     }
 }
 
@@ -141,7 +50,7 @@ fn stmts_in(item: CodeItem) -> Result<Vec<Stmt>, Stop>
 {
     match item {
         CodeItem::Stmts(found) => Ok(found),
-        other => Err(mistyped_part(other)),
+        other => Err(mistyped_code(other)),
     }
 }
 
@@ -168,7 +77,7 @@ fn arms_in(item: CodeItem) -> Result<Vec<(Expr, Vec<Stmt>)>, Stop>
 {
     match item {
         CodeItem::Arms(found) => Ok(found),
-        other => Err(mistyped_part(other)),
+        other => Err(mistyped_code(other)),
     }
 }
 
@@ -186,7 +95,7 @@ fn else_in(item: CodeItem) -> Result<Option<Vec<Stmt>>, Stop>
 {
     match item {
         CodeItem::Else(found) => Ok(found),
-        other => Err(mistyped_part(other)),
+        other => Err(mistyped_code(other)),
     }
 }
 
@@ -204,7 +113,7 @@ fn by_in(item: CodeItem) -> Result<Option<Literal>, Stop>
 {
     match item {
         CodeItem::By(found) => Ok(found),
-        other => Err(mistyped_part(other)),
+        other => Err(mistyped_code(other)),
     }
 }
 
@@ -222,7 +131,7 @@ fn choice_in(item: CodeItem) -> Result<Choice, Stop>
 {
     match item {
         CodeItem::Choice(found) => Ok(found),
-        other => Err(mistyped_part(other)),
+        other => Err(mistyped_code(other)),
     }
 }
 
@@ -240,7 +149,7 @@ fn choices_in(item: CodeItem) -> Result<Vec<(Choice, Option<Choice>)>, Stop>
 {
     match item {
         CodeItem::Choices(found) => Ok(found),
-        other => Err(mistyped_part(other)),
+        other => Err(mistyped_code(other)),
     }
 }
 
@@ -258,7 +167,7 @@ fn branches_in(item: CodeItem) -> Result<Vec<(Vec<(Choice, Option<Choice>)>, Vec
 {
     match item {
         CodeItem::Branches(found) => Ok(found),
-        other => Err(mistyped_part(other)),
+        other => Err(mistyped_code(other)),
     }
 }
 

@@ -8,16 +8,17 @@ ghost use Rattle.pv_parse.specs.CodeItems.{statement, choices, cases};
 ghost use Rattle.pv_parse.specs.Items.{stack_of, path_tree, code, Leaves, Pops};
 ghost use Rattle.pv_parse.specs.StmtDeeds.{single_of, drop_deed, empty_deed, single_deed, call_statement_deed, assigned, assign_deed, new_list_deed, add_deed, arm_on, first_arm_deed, next_arm_deed, else_deed, no_else_deed, if_deed, literal_choice_deed, word_choice_deed, upper_on, first_range_deed, first_choice_deed, added_choice, next_range_deed, next_choice_deed, new_branches_deed, opened, label_deed, closed_on, next_label_deed, branches_deed, case_deed, by_deed, no_by_deed, body_on, for_deed, while_deed, repeat_deed, stmt_deed};
 
-use crate::calls::root_name;
 use crate::code_stack::{
-    pop_arms, pop_branches, pop_by, pop_call, pop_choice, pop_choices, pop_else, pop_literal,
-    pop_stmt, pop_stmts, pop_value, pop_whole, with,
+    pop_arms, pop_branches, pop_by, pop_choice, pop_choices, pop_else, pop_stmt, pop_stmts,
+    pop_value, pop_whole,
 };
 use crate::making::{case_of, if_of};
-use pv_place::Place;
 use pv_parse::{
-    CodeItem, Item, StmtAction, Stop, Value, is_text, pop_expr, pop_path, pop_token, push,
+    CodeItem, Item, StmtAction, Stop, Value, added, is_text, pop_expr, pop_path, pop_token, push,
+    with,
 };
+use pv_parse_call::{path_name, pop_call, pop_literal};
+use pv_place::Place;
 use pv_tree::{Choice, Expr, Operand, Stmt};
 use std::alloc::Global;
 
@@ -97,8 +98,8 @@ fn assign(stack: &mut Vec<Item>) -> Result<(), Stop>
     ensures { Leaves result (stack_of stack.new) (assign_deed (stack_of stack.old)) }
 {
     let value = pop_value(stack)?;
-    let sign = pop_token(stack)?;
-    let target = pop_path(stack)?;
+    let (value, sign) = with(value, pop_token(stack))?;
+    let (value, target) = with(value, pop_path(stack))?;
     let stmt = assigned(target, sign.place, value);
     push(stack, Item::Code(CodeItem::Stmt(stmt)))?;
     Ok(())
@@ -117,8 +118,8 @@ fn add(stack: &mut Vec<Item>) -> Result<(), Stop>
     ensures { Leaves result (stack_of stack.new) (add_deed (stack_of stack.old)) }
 {
     let stmt = pop_stmt(stack)?;
-    let (stmt, mut list) = with(stmt, pop_stmts(stack))?;
-    list.push(stmt)?;
+    let (stmt, list) = with(stmt, pop_stmts(stack))?;
+    let list = added(list, stmt)?;
     push(stack, Item::Code(CodeItem::Stmts(list)))?;
     Ok(())
 }
@@ -128,8 +129,8 @@ fn pop_arm(stack: &mut Vec<Item>) -> Result<(Expr, Vec<Stmt>), Stop>
     ensures { Pops arm_tree result (stack_of stack.new) (arm_on (stack_of stack.old)) }
 {
     let body = pop_whole(stack)?;
-    let _word = pop_token(stack)?;
-    let cond = pop_expr(stack)?;
+    let (body, _word) = with(body, pop_token(stack))?;
+    let (body, cond) = with(body, pop_expr(stack))?;
     Ok((cond, body))
 }
 
@@ -138,8 +139,7 @@ fn first_arm(alloc: Global, stack: &mut Vec<Item>) -> Result<(), Stop>
     ensures { Leaves result (stack_of stack.new) (first_arm_deed (stack_of stack.old)) }
 {
     let arm = pop_arm(stack)?;
-    let mut arms = Vec::with_capacity(alloc, 1)?;
-    arms.push(arm)?;
+    let arms = vec![in alloc; arm]?;
     push(stack, Item::Code(CodeItem::Arms(arms)))?;
     Ok(())
 }
@@ -149,9 +149,9 @@ fn next_arm(stack: &mut Vec<Item>) -> Result<(), Stop>
     ensures { Leaves result (stack_of stack.new) (next_arm_deed (stack_of stack.old)) }
 {
     let arm = pop_arm(stack)?;
-    let _word = pop_token(stack)?;
-    let mut arms = pop_arms(stack)?;
-    arms.push(arm)?;
+    let (arm, _word) = with(arm, pop_token(stack))?;
+    let (arm, arms) = with(arm, pop_arms(stack))?;
+    let arms = added(arms, arm)?;
     push(stack, Item::Code(CodeItem::Arms(arms)))?;
     Ok(())
 }
@@ -161,7 +161,7 @@ fn otherwise(stack: &mut Vec<Item>) -> Result<(), Stop>
     ensures { Leaves result (stack_of stack.new) (else_deed (stack_of stack.old)) }
 {
     let body = pop_whole(stack)?;
-    let _word = pop_token(stack)?;
+    let (body, _word) = with(body, pop_token(stack))?;
     push(stack, Item::Code(CodeItem::Else(Some(body))))?;
     Ok(())
 }
@@ -180,8 +180,8 @@ fn branch_on(stack: &mut Vec<Item>) -> Result<(), Stop>
 {
     let _end = pop_token(stack)?;
     let other = pop_else(stack)?;
-    let arms = pop_arms(stack)?;
-    let word = pop_token(stack)?;
+    let (other, arms) = with(other, pop_arms(stack))?;
+    let ((other, arms), word) = with((other, arms), pop_token(stack))?;
     let stmt = if_of(arms, other, word.place);
     push(stack, Item::Code(CodeItem::Stmt(stmt)))?;
     Ok(())
@@ -201,7 +201,7 @@ fn word_choice(alloc: Global, stack: &mut Vec<Item>) -> Result<(), Stop>
     ensures { Leaves result (stack_of stack.new) (word_choice_deed (stack_of stack.old)) }
 {
     let word = pop_path(stack)?;
-    let (name, place) = root_name(alloc, word.root, word.place)?;
+    let (name, place) = path_name(alloc, word)?;
     push(
         stack,
         Item::Code(CodeItem::Choice(Choice::Const(name, place))),
@@ -214,7 +214,7 @@ fn pop_upper(stack: &mut Vec<Item>) -> Result<Choice, Stop>
     ensures { Pops (λ choice. choice) result (stack_of stack.new) (upper_on (stack_of stack.old)) }
 {
     let upper = pop_choice(stack)?;
-    let _dots = pop_token(stack)?;
+    let (upper, _dots) = with(upper, pop_token(stack))?;
     Ok(upper)
 }
 
@@ -223,9 +223,8 @@ fn first_range(alloc: Global, stack: &mut Vec<Item>) -> Result<(), Stop>
     ensures { Leaves result (stack_of stack.new) (first_range_deed (stack_of stack.old)) }
 {
     let upper = pop_upper(stack)?;
-    let lower = pop_choice(stack)?;
-    let mut label = Vec::with_capacity(alloc, 1)?;
-    label.push((lower, Some(upper)))?;
+    let (upper, lower) = with(upper, pop_choice(stack))?;
+    let label = vec![in alloc; (lower, Some(upper))]?;
     push(stack, Item::Code(CodeItem::Choices(label)))?;
     Ok(())
 }
@@ -235,8 +234,7 @@ fn first_choice(alloc: Global, stack: &mut Vec<Item>) -> Result<(), Stop>
     ensures { Leaves result (stack_of stack.new) (first_choice_deed (stack_of stack.old)) }
 {
     let choice = pop_choice(stack)?;
-    let mut label = Vec::with_capacity(alloc, 1)?;
-    label.push((choice, None))?;
+    let label = vec![in alloc; (choice, None)]?;
     push(stack, Item::Code(CodeItem::Choices(label)))?;
     Ok(())
 }
@@ -245,10 +243,10 @@ fn first_choice(alloc: Global, stack: &mut Vec<Item>) -> Result<(), Stop>
 fn push_choice(upper: Option<Choice>, stack: &mut Vec<Item>) -> Result<(), Stop>
     ensures { Leaves result (stack_of stack.new) (added_choice upper (stack_of stack.old)) }
 {
-    let lower = pop_choice(stack)?;
-    let _comma = pop_token(stack)?;
-    let mut label = pop_choices(stack)?;
-    label.push((lower, upper))?;
+    let (upper, lower) = with(upper, pop_choice(stack))?;
+    let ((lower, upper), _comma) = with((lower, upper), pop_token(stack))?;
+    let ((lower, upper), label) = with((lower, upper), pop_choices(stack))?;
+    let label = added(label, (lower, upper))?;
     push(stack, Item::Code(CodeItem::Choices(label)))?;
     Ok(())
 }
@@ -286,7 +284,8 @@ fn open_branch(
     ensures { Leaves result (stack_of stack.new) (Some (opened (choice_list label)
         (branch_list branches) (stack_of stack.old))) }
 {
-    push(stack, Item::Code(CodeItem::Branches(branches)))?;
+    let pushed = push(stack, Item::Code(CodeItem::Branches(branches)));
+    let (label, ()) = with(label, pushed)?;
     push(stack, Item::Code(CodeItem::Choices(label)))?;
     push(stack, Item::Code(CodeItem::Stmts(Vec::new(alloc))))?;
     Ok(())
@@ -297,7 +296,7 @@ fn label(alloc: Global, stack: &mut Vec<Item>) -> Result<(), Stop>
     ensures { Leaves result (stack_of stack.new) (label_deed (stack_of stack.old)) }
 {
     let label = pop_choices(stack)?;
-    let branches = pop_branches(stack)?;
+    let (label, branches) = with(label, pop_branches(stack))?;
     open_branch(alloc, label, branches, stack)
 }
 
@@ -306,9 +305,9 @@ fn pop_closed(stack: &mut Vec<Item>) -> Result<Vec<(Choices, Vec<Stmt>)>, Stop>
     ensures { Pops branch_list result (stack_of stack.new) (closed_on (stack_of stack.old)) }
 {
     let body = pop_whole(stack)?;
-    let label = pop_choices(stack)?;
-    let mut branches = pop_branches(stack)?;
-    branches.push((label, body))?;
+    let (body, label) = with(body, pop_choices(stack))?;
+    let ((label, body), branches) = with((label, body), pop_branches(stack))?;
+    let branches = added(branches, (label, body))?;
     Ok(branches)
 }
 
@@ -317,7 +316,7 @@ fn next_label(alloc: Global, stack: &mut Vec<Item>) -> Result<(), Stop>
     ensures { Leaves result (stack_of stack.new) (next_label_deed (stack_of stack.old)) }
 {
     let label = pop_choices(stack)?;
-    let branches = pop_closed(stack)?;
+    let (label, branches) = with(label, pop_closed(stack))?;
     open_branch(alloc, label, branches, stack)
 }
 
@@ -336,10 +335,10 @@ fn case(stack: &mut Vec<Item>) -> Result<(), Stop>
 {
     let _end = pop_token(stack)?;
     let other = pop_else(stack)?;
-    let branches = pop_branches(stack)?;
-    let _of = pop_token(stack)?;
-    let selector = pop_expr(stack)?;
-    let word = pop_token(stack)?;
+    let (other, branches) = with(other, pop_branches(stack))?;
+    let ((other, branches), _of) = with((other, branches), pop_token(stack))?;
+    let ((other, branches), selector) = with((other, branches), pop_expr(stack))?;
+    let ((other, branches, selector), word) = with((other, branches, selector), pop_token(stack))?;
     let stmt = case_of(selector, branches, other, word.place);
     push(stack, Item::Code(CodeItem::Stmt(stmt)))?;
     Ok(())
@@ -369,7 +368,7 @@ fn pop_body(stack: &mut Vec<Item>) -> Result<Vec<Stmt>, Stop>
 {
     let _end = pop_token(stack)?;
     let body = pop_whole(stack)?;
-    let _word = pop_token(stack)?;
+    let (body, _word) = with(body, pop_token(stack))?;
     Ok(body)
 }
 
@@ -378,14 +377,14 @@ fn count(alloc: Global, stack: &mut Vec<Item>) -> Result<(), Stop>
     ensures { Leaves result (stack_of stack.new) (for_deed (stack_of stack.old)) }
 {
     let body = pop_body(stack)?;
-    let by = pop_by(stack)?;
-    let last = pop_expr(stack)?;
-    let _to = pop_token(stack)?;
-    let first = pop_expr(stack)?;
-    let _sign = pop_token(stack)?;
-    let path = pop_path(stack)?;
-    let word = pop_token(stack)?;
-    let (var, var_place) = root_name(alloc, path.root, path.place)?;
+    let (body, by) = with(body, pop_by(stack))?;
+    let (body, last) = with(body, pop_expr(stack))?;
+    let ((body, last), _to) = with((body, last), pop_token(stack))?;
+    let ((body, last), first) = with((body, last), pop_expr(stack))?;
+    let (parts, _sign) = with((body, last, first), pop_token(stack))?;
+    let (parts, path) = with(parts, pop_path(stack))?;
+    let ((parts, path), word) = with((parts, path), pop_token(stack))?;
+    let ((body, last, first), (var, var_place)) = with(parts, path_name(alloc, path))?;
     push(
         stack,
         Item::Code(CodeItem::Stmt(Stmt::For {
@@ -406,8 +405,8 @@ fn repeat_while(stack: &mut Vec<Item>) -> Result<(), Stop>
     ensures { Leaves result (stack_of stack.new) (while_deed (stack_of stack.old)) }
 {
     let body = pop_body(stack)?;
-    let cond = pop_expr(stack)?;
-    let word = pop_token(stack)?;
+    let (body, cond) = with(body, pop_expr(stack))?;
+    let ((body, cond), word) = with((body, cond), pop_token(stack))?;
     push(
         stack,
         Item::Code(CodeItem::Stmt(Stmt::While {
@@ -425,9 +424,9 @@ fn repeat_until(stack: &mut Vec<Item>) -> Result<(), Stop>
 {
     let _end = pop_token(stack)?;
     let cond = pop_expr(stack)?;
-    let _until = pop_token(stack)?;
-    let body = pop_whole(stack)?;
-    let word = pop_token(stack)?;
+    let (cond, _until) = with(cond, pop_token(stack))?;
+    let (cond, body) = with(cond, pop_whole(stack))?;
+    let ((cond, body), word) = with((cond, body), pop_token(stack))?;
     push(
         stack,
         Item::Code(CodeItem::Stmt(Stmt::Repeat {

@@ -9,8 +9,8 @@ ghost use Rattle.pv_pattern_read.specs.Naming.{addresses_of, NamesAlso};
 
 use crate::operands::operands_in;
 use crate::text::expression_of;
-use pv_place::Place;
 use pv_names::is_address;
+use pv_place::Place;
 use pv_tree::{Area, Expr, Operand, Root};
 use std::alloc::{AllocError, Global};
 

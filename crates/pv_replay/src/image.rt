@@ -4,8 +4,8 @@ ghost use Rattle.pv_mean.specs.Frames.{image_len, start_image, is_free};
 ghost use Rattle.pv_replay.specs.Images.{IsLong, AreLong, BeginLong, BeginsLong, stored_count, begin_by_roles, left_of, started};
 ghost use Rattle.pv_replay.specs.Images as images;
 
-use pv_place::Role;
 use pv_mean::Cell;
+use pv_place::Role;
 
 /// The value of this number; 0 behind the last one.
 fn value_at(values: &[i128], n: usize) -> i128

@@ -6,8 +6,8 @@ ghost use Rattle.pv_replay.specs.Images.{IsLong, roles_of, stored_count};
 
 use crate::end::ScanEnd;
 use crate::image;
-use pv_place::Role;
 use pv_mean::{CaseView, Cell};
+use pv_place::Role;
 use pv_run::{MOST_CALLS, Program};
 use pv_stl_run::Turn;
 use std::alloc::{AllocError, Global};

@@ -28,9 +28,9 @@ use crate::fault::ResolveFault;
 use crate::growing::{Elements, push, push_element};
 use crate::laid::Laid;
 use pv_eval::{Node, Operand, Part, Spot};
-use pv_place::Place;
 use pv_mean::BEYOND;
 use pv_names::{Held, level_of};
+use pv_place::Place;
 use pv_types::{DeclType, Name};
 use pv_word::Ty;
 

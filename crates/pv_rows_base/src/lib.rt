@@ -8,17 +8,25 @@ mod cert;
 #[cfg(test)]
 mod cnf;
 #[cfg(test)]
+mod edge;
+#[cfg(test)]
 mod gate;
 #[cfg(test)]
 mod gate_clauses;
 #[cfg(test)]
 mod lex;
 #[cfg(test)]
+mod ll;
+#[cfg(test)]
 mod log;
+#[cfg(test)]
+mod slow;
 #[cfg(test)]
 mod solver;
 #[cfg(test)]
 mod step;
+#[cfg(test)]
+mod trace;
 #[cfg(test)]
 mod types;
 #[cfg(test)]

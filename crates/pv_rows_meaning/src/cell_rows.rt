@@ -6,8 +6,8 @@ ghost use Rattle.std.specs.Prelude.{◌<◌, All, IsTrue};
 
 use crate::reading::{operands_of, project_of};
 use pv_cells::{CellFault, cells};
-use pv_place::Role;
 use pv_mean::{CaseView, Cell, find, set_params};
+use pv_place::Role;
 use pv_tree::{Operand, Project};
 use pv_types::MAX_LEAVES;
 use pv_word::Ty;

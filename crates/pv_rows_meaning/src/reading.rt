@@ -2,10 +2,11 @@
 use pv_lex::{Language, MAX_SOURCE, tokens};
 use pv_rules::{check, has_no_instructions};
 use pv_scl_parse::{expression, parse};
-use pv_tree::{Blocks, Expr, Operand, Project};
+use pv_stl_parse::parse as parse_stl;
+use pv_tree::{Block, Blocks, Expr, Operand, Project};
 use pv_types::Name;
 use pv_word::Ty;
-use std::alloc::Global;
+use std::alloc::{AllocError, Global};
 use std::test::Fail;
 
 /// The blocks that a text reads as.
@@ -66,7 +67,7 @@ fn type_of(word: &str) -> Ty {
 }
 
 /// The symbols of a text, which has commas between them: the quoted name, the type and the address, with a blank between them.
-fn symbols_of(alloc: Global, text: &str) -> Result<Vec<(Name, Operand, Ty)>, Fail> {
+pub fn symbols_of(alloc: Global, text: &str) -> Result<Vec<(Name, Operand, Ty)>, Fail> {
     let mut symbols = Vec::new(alloc);
     for part in text.split(',') {
         let (name, more) = part.split_once(' ').unwrap_or((part, ""));
@@ -96,4 +97,44 @@ pub fn project_of(alloc: Global, symbols: &str, source: &str) -> Result<Option<P
         Ok(project) => Ok(Some(project)),
         Err(_) => Ok(None),
     }
+}
+
+/// Whether a byte of a row's source is a mark: it shows a place and isn't of the source.
+fn is_mark(byte: u8) -> bool {
+    matches!(byte, b'^' | b'!' | b'?')
+}
+
+/// The bytes of a text without its marks.
+pub fn unmarked(alloc: Global, text: &str) -> Result<Vec<u8>, AllocError> {
+    let mut out = Vec::new(alloc);
+    for byte in text.as_bytes() {
+        if !is_mark(*byte) {
+            out.push(*byte)?;
+        }
+    }
+    Ok(out)
+}
+
+/// The blocks that bytes read as.
+fn read_as(alloc: Global, language: Language, bytes: &[u8]) -> Result<Vec<Block>, Fail> {
+    if bytes.len() > MAX_SOURCE {
+        return Ok(Vec::new(alloc));
+    }
+    let cut = tokens(alloc, 0, language, bytes)?;
+    let Blocks { list } = match language {
+        Language::Scl => parse(alloc, bytes, cut.as_slice())?,
+        Language::Stl => parse_stl(alloc, bytes, cut.as_slice())?,
+    };
+    Ok(list)
+}
+
+/// The blocks of a source that has some of STL, and after `$` some of SCL; without `$` all are of SCL.
+pub fn both_of(alloc: Global, source: &str) -> Result<Blocks, Fail> {
+    let (stl, scl) = source.split_once('$').unwrap_or(("", source));
+    let bytes = unmarked(alloc, stl)?;
+    let mut list = read_as(alloc, Language::Stl, bytes.as_slice())?;
+    let bytes = unmarked(alloc, scl)?;
+    let mut more = read_as(alloc, Language::Scl, bytes.as_slice())?;
+    list.append(&mut more)?;
+    Ok(Blocks { list })
 }

@@ -7,8 +7,8 @@
 use pv_case::{Case, read};
 use pv_case_fit::{EntryFault, InputFault, entry_of, view_of};
 use pv_edge::Text;
-use pv_place::{Place, Role};
 use pv_mean::{CaseView, Cell};
+use pv_place::{Place, Role};
 use pv_tree::{Block, BlockKind, Blocks, Body};
 use pv_types::{Interface, MAX_LEAVES, Name};
 use pv_word::Ty;

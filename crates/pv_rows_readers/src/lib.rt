@@ -2,13 +2,9 @@
 #![tactic(auto)]
 
 #[cfg(test)]
-mod case;
-#[cfg(test)]
 mod case_rows;
 #[cfg(test)]
 mod case_says;
-#[cfg(test)]
-mod case_symbols;
 #[cfg(test)]
 mod fit;
 #[cfg(test)]
@@ -21,3 +17,11 @@ mod scl_places;
 mod scl_sources;
 #[cfg(test)]
 mod scl_statements;
+#[cfg(test)]
+mod stl_instructions;
+#[cfg(test)]
+mod stl_show;
+#[cfg(test)]
+mod stl_sources;
+#[cfg(test)]
+mod stl_words;

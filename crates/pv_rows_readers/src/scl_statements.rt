@@ -2,8 +2,8 @@
 
 use crate::scl_parse::{put, put_operand, put_tree};
 use pv_lex::{Language, MAX_SOURCE, tokens};
-use pv_place::Place;
 use pv_parse::ParseFault;
+use pv_place::Place;
 use pv_scl_parse::parse;
 use pv_tree::{Arg, Block, Body, CallTree, Choice, Expr, Stmt};
 use pv_types::{Literal, Name};

@@ -8,8 +8,8 @@ ghost use Rattle.pv_rules.specs.Found.{AreDeclared, AreStated, AreWhole, AreChai
 
 use crate::project_rules::{beyond_bounds, misfit, missing_name, out_of_range, wrong_address};
 use crate::values::not_callable;
-use pv_place::Place;
 use pv_names::{Tables, entries};
+use pv_place::Place;
 use pv_rules_call::{call_cycle, call_too_deep};
 use pv_rules_code::{
     fixed_output, fixed_target, outside_loop, wrong_argument, wrong_case, wrong_condition,

@@ -10,8 +10,8 @@ ghost use Rattle.pv_rules.specs.Codes.{calls_of_code};
 ghost use Rattle.pv_rules.specs.Outputs.{same_place, same_name, same_truth, same_root, ends_here, same_plain, is_that, call_writes, is_written};
 
 use crate::code::Code;
-use pv_place::Place;
 use pv_names::{Callee, How, Param, Scope, how_of, param_for, section_of_param};
+use pv_place::Place;
 use pv_rules_expr::operand_of;
 use pv_tree::{Arg, CallTree, Expr, Instr, Operand, Root, Stmt};
 use pv_types::{Name, Section};

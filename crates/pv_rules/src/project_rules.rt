@@ -9,8 +9,8 @@ ghost use Rattle.pv_tree.specs.Rules.OutOfRange.{IsOutOfRange};
 ghost use Rattle.pv_names.specs.Tables.{project_of};
 ghost use Rattle.pv_rules_expr.specs.Nearest.{IsNearest};
 
-use pv_place::Place;
 use pv_names::Tables;
+use pv_place::Place;
 use pv_rules_code::{
     address_in_code, beyond_in_code, misfit_in_code, missing_in_code, misused_in_code,
     outside_in_code,

@@ -13,8 +13,8 @@ ghost use Rattle.pv_rules.specs.Values.{value_at};
 
 use crate::code::Code;
 use crate::outputs::is_written;
-use pv_place::Place;
 use pv_names::{Scope, Thing, is_void, root_place};
+use pv_place::Place;
 use pv_rules_expr::nearer_of;
 use pv_rules_instr::{operand_of_instruction, read_operand};
 use pv_tree::{Arg, Expr, Instr, Operand, Step, Stmt};

@@ -15,8 +15,8 @@ ghost use Rattle.pv_rules.specs.Values.{refused_at, call_at, calls_in, values_in
 use crate::code::Code;
 use crate::reads::{value_in_instr, value_in_starts, value_in_stmt};
 use crate::statements::statements_of;
-use pv_place::Place;
 use pv_names::{Callee, How, Scope, Tables, how_of};
+use pv_place::Place;
 use pv_rules_expr::nearer_of;
 use pv_tree::{Body, CallTree, Instr, Stmt};
 use std::alloc::{AllocError, Global};

@@ -7,8 +7,8 @@ ghost use Rattle.pv_names.specs.Callees.{how_tree};
 ghost use Rattle.pv_rules_call.specs.Links.{link_of, link_tree};
 ghost use Rattle.pv_rules_call.specs.Gathered.{with_sites};
 
-use pv_place::Place;
 use pv_names::{Callee, How, Scope};
+use pv_place::Place;
 use pv_tree::CallTree;
 use std::alloc::AllocError;
 

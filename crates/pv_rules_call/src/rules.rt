@@ -8,8 +8,8 @@ ghost use Rattle.pv_rules_call.specs.Links.{AreLinks};
 use crate::by_number::{cycle, deep_call};
 use crate::gathered::links_of_all;
 use crate::links::Links;
-use pv_place::Place;
 use pv_names::Tables;
+use pv_place::Place;
 use std::alloc::{AllocError, Global};
 
 /// Of each block of a project, in their order, the calls that run a block. A call that can't be made isn't among them.

@@ -11,8 +11,8 @@ ghost use Rattle.pv_rules_code.specs.AtAssignments.{assigned_misfits, called_mis
 use crate::counter::want_of_counter;
 use crate::fit::{doesnt_fit, sort_of_target};
 use crate::parts::want_of_target;
-use pv_place::Place;
 use pv_names::{Callee, How, Scope, Sort, Want, first_place, one_of, taken};
+use pv_place::Place;
 use pv_rules_expr::{is_whole, nearer_of, where_is};
 use pv_tree::{CallTree, Expr, Operand, Stmt};
 use std::alloc::{AllocError, Global};

@@ -14,10 +14,10 @@ ghost use Rattle.pv_rules_code.specs.AtCases.{selector_at, selector_place, rank,
 
 use crate::counter::{literal_outside, word_date, word_missing, written_of};
 use crate::site::Pick;
-use pv_place::Place;
 use pv_names::{
     Held, Scope, Sort, Thing, Want, first_place, is_whole_number, own_type, taken, type_of_literal,
 };
+use pv_place::Place;
 use pv_rules_expr::{is_whole, nearer_of, where_is};
 use pv_tree::{Choice, Expr, Stmt};
 use pv_types::{Literal, Name};

@@ -14,11 +14,11 @@ ghost use Rattle.pv_rules_code.specs.AtLoops.{date_of, word_date, word_missing, 
 
 use crate::argument::is_counted;
 use crate::site::{Count, Loop, Stride};
-use pv_place::Place;
 use pv_names::{
     Held, Number, Scope, Thing, Want, Written, dated, is_const, is_outside, is_whole_number,
     type_of_literal, widens,
 };
+use pv_place::Place;
 use pv_rules_expr::{name_of_missing, where_is};
 use pv_tree::Stmt;
 use pv_types::{DeclType, Literal, Name, Var};

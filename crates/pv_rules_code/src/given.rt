@@ -9,8 +9,8 @@ ghost use Rattle.pv_names.specs.Entries.{block_of};
 ghost use Rattle.pv_names.specs.Callees.{how_tree, callee_tree};
 ghost use Rattle.pv_rules_code.specs.AtGiven.{is_in, HasMet, keys_of, later_from, gives, is_given, must_be, lacks_some, lacking_at, later_word, later_at};
 
-use pv_place::Place;
 use pv_names::{Callee, Entry, Firsts, How, is_fc, named_param, only_var};
+use pv_place::Place;
 use pv_rules_expr::{nearer_of, where_is};
 use pv_tree::{Arg, Block, CallTree};
 use pv_types::{Name, Section, Var};

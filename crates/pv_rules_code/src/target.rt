@@ -11,8 +11,8 @@ ghost use Rattle.pv_rules_code.specs.Spots.{loop_tree};
 
 use crate::argument::is_counted_operand;
 use crate::site::{Aim, Loop};
-use pv_place::Place;
 use pv_names::{Scope, Thing};
+use pv_place::Place;
 use pv_rules_expr::{
     IndexFault, index_in_operand, missing_name, misused_in_operand, where_is, wrong_address,
 };

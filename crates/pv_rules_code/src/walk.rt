@@ -12,8 +12,8 @@ ghost use Rattle.pv_rules_code.specs.Spots.{loop_tree};
 
 use crate::site::{Loop, Site};
 use crate::sites::site_place;
-use pv_place::Place;
 use pv_names::Scope;
+use pv_place::Place;
 use pv_rules_expr::nearer_of;
 use pv_tree::Stmt;
 use std::alloc::{AllocError, Global};

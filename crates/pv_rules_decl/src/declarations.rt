@@ -12,8 +12,8 @@ ghost use Rattle.pv_rules_expr.specs.Members.{HasSome};
 ghost use Rattle.pv_rules_expr.specs.Nearest.{Nears};
 ghost use Rattle.pv_rules_decl.specs.OnDeclarations.{IsMisplacedDate};
 
-use pv_place::Place;
 use pv_names::is_date;
+use pv_place::Place;
 use pv_rules_expr::nearer;
 use pv_tree::BlockKind;
 use pv_types::{DeclType, Section, Var};

@@ -12,8 +12,8 @@ ghost use Rattle.pv_names.specs.Tables.{project_of};
 
 use crate::gathered::Gathered;
 use crate::starts::{StartLook, look_in_starts, misfit_starts, outside_starts, starts_place};
-use pv_place::Place;
 use pv_names::{Scope, Tables};
+use pv_place::Place;
 use pv_rules_expr::{Look, nearer_of};
 use pv_tree::Body;
 use std::alloc::{AllocError, Global};

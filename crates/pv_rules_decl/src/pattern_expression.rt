@@ -19,8 +19,8 @@ ghost use Rattle.pv_rules_decl.specs.Patterns.{AnswersPattern};
 
 use crate::fault::{Breach, Rule, RuleFault};
 use crate::least::{least_of, make_found};
-use pv_place::Place;
 use pv_names::{Scope, Tables, Want, entries, first_place};
+use pv_place::Place;
 use pv_rules_expr::{
     Look, is_whole, look_in, missing_in, nearer_of, outside_in, void_in, where_is, wrong_address_in,
 };

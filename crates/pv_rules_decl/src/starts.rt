@@ -13,11 +13,11 @@ ghost use Rattle.pv_rules_expr.specs.Looks.{near_parts};
 ghost use Rattle.pv_rules_expr.specs.Operands.{name_at};
 ghost use Rattle.pv_rules_decl.specs.Starts.{start_at, near_vars, misfit_at, is_thing_outside, start_place, near_starts};
 
-use pv_place::Place;
 use pv_names::{
     Held, Number, Scope, Thing, Want, Written, holds, is_outside, is_whole_number, level_of,
     root_place, type_of_literal, widens,
 };
+use pv_place::Place;
 use pv_rules_expr::{
     IndexFault, Look, index_behind, look_in_operand, misused_behind, nearer_of, thing_behind,
     where_is,

@@ -16,8 +16,8 @@ ghost use Rattle.pv_rules_decl.specs.TypeNames.{NumbersTypes, IsGraphOf};
 
 use crate::gathered::Gathered;
 use pv_graph::{Graph, Targets};
-use pv_place::Place;
 use pv_names::Firsts;
+use pv_place::Place;
 use pv_rules_expr::is_nearer;
 use pv_tree::{Block, BlockKind};
 use pv_types::{DeclType, Name};

@@ -19,11 +19,11 @@ ghost use Rattle.pv_rules_expr.specs.Indexes.{index_place, near_indexes, index_a
 use crate::misfit::{is_whole, where_is};
 use crate::operand::operand_of;
 use crate::search::nearer_of;
-use pv_place::Place;
 use pv_names::{
     Scope, Sort, Thing, Want, dated, first_place, is_index_type, is_literal, is_whole_number,
     last_behind, lies_in, own_type, root_place, taken,
 };
+use pv_place::Place;
 use pv_tree::{BinaryOp, Expr, Operand, Step};
 use std::alloc::{AllocError, Global};
 

@@ -9,11 +9,11 @@ ghost use Rattle.pv_names.specs.Sorts.{sort_tree};
 ghost use Rattle.pv_names.specs.InScope.{scope_of};
 ghost use Rattle.pv_rules_expr.specs.Places.{place_where, misapplied};
 
-use pv_place::Place;
 use pv_names::{
     Scope, Sort, common_type, is_literal, result_of_binary, result_of_function, value_of_unary,
     wanted_beside,
 };
+use pv_place::Place;
 use pv_tree::{BinaryOp, Expr, StdFunction, UnaryOp};
 use pv_word::Ty;
 use std::alloc::{AllocError, Global};

@@ -7,8 +7,8 @@ ghost use Rattle.pv_names.specs.InScope.{scope_of};
 ghost use Rattle.pv_names.specs.Views.{thing_tree};
 ghost use Rattle.pv_rules_expr.specs.Operands.{name_at, void_at, address_at};
 
-use pv_place::Place;
 use pv_names::{Scope, Thing, is_address, is_void, root_place};
+use pv_place::Place;
 use pv_tree::{Expr, Operand, Root};
 
 /// The operand that an expression reads.

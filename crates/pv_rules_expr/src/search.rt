@@ -21,8 +21,8 @@ use crate::indexes::{IndexFault, division_place, index_fault_place, misused_plac
 use crate::misfit::misapplied_place;
 use crate::nearest::is_before;
 use crate::operand::{address_place, missing_place, void_place};
-use pv_place::Place;
 use pv_names::{Scope, Sort, Want, first_place, is_literal, is_outside, literal_of, wanted_beside};
+use pv_place::Place;
 use pv_tree::{Expr, Operand, StdFunction, Step};
 use std::alloc::{AllocError, Global};
 

@@ -9,8 +9,8 @@ ghost use Rattle.pv_rules_instr.specs.AtLabels.{FindsLabels, label_place, label_
 
 use crate::group::{Group, group_of};
 use crate::operand::{Label, label_of_operand};
-use pv_place::Place;
 use pv_names::Firsts;
+use pv_place::Place;
 use pv_rules_expr::{nearer_of, where_is};
 use pv_tree::Instr;
 use std::alloc::{AllocError, Global};

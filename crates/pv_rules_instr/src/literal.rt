@@ -10,8 +10,8 @@ ghost use Rattle.pv_rules_instr.specs.AtOperands.{literal_at, outside_literal_at
 ghost use Rattle.pv_rules_instr.specs.Groups.{group_tree};
 
 use crate::group::Group;
-use pv_place::Place;
 use pv_names::{Number, Want, Written, holds, is_bool, is_outside, type_of_literal, widens};
+use pv_place::Place;
 use pv_rules_expr::where_is;
 use pv_types::Literal;
 use pv_word::Ty;

@@ -14,8 +14,8 @@ ghost use Rattle.pv_rules_instr.specs.AtOperands.{operand_at};
 ghost use Rattle.pv_rules_instr.specs.Groups.{group_tree};
 
 use crate::group::Group;
-use pv_place::Place;
 use pv_names::{Scope, Sort, Thing, is_bool, own_type};
+use pv_place::Place;
 use pv_rules_expr::{is_whole, where_is};
 use pv_tree::{Operand, Root};
 use pv_types::Name;

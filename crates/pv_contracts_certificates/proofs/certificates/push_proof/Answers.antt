@@ -1,0 +1,7 @@
+use Rattle.pv_contracts_certificates.proofs.certificates.push_proof.Goals as goal
+
+pub returns-clause-ok : goal.returns-clause-ok
+returns-clause-ok c = c.push.ensures.ok
+
+pub returns-clause-err : goal.returns-clause-err
+returns-clause-err c = c.push.ensures.err

@@ -1,0 +1,48 @@
+//! Calls of pv_cert.
+ghost use Rattle.std.specs.Prelude.{◌≡◌, ℕ, [], ◌∷◌, ◌++◌, Ok, Err, None, IfOk, IfSome, IfNone, OnOk, OnErr};
+ghost use Rattle.std.specs.List.{AllByRecursion};
+ghost use Rattle.pv_cert.specs.declared.certificate.Certificate.{Certificate};
+ghost use Rattle.pv_cert.specs.declared.certificate.Claim.TheVariants.{Satisfied};
+ghost use Rattle.pv_cert.specs.CertificateText.{FailsAt, IsTextOf, IsUnlessNoMemory, IsWritable, IsWritableProof, NoFeed, certificate_text};
+
+use pv_cert::{CertFault, Certificate, Proof, Proofs};
+use std::alloc::{AllocError, Global};
+
+/// [`pv_cert::cut_line`].
+pub fn cut_line(text: &[u8]) -> Option<(&[u8], &[u8])>
+    ensures found { IfSome result (λ cut. NoFeed cut.0.now × (text.now ≡ cut.0.now ++ 10 ∷ cut.1.now)) }
+    ensures none { IfNone result (NoFeed text.now) }
+{
+    pv_cert::cut_line(text)
+}
+
+/// [`pv_cert::read`].
+pub fn read(alloc: Global, bytes: &[u8]) -> Result<Certificate, CertFault>
+    ensures found { IfOk result (IsTextOf bytes.now) }
+    ensures complete { (c : Certificate) → IsTextOf bytes.now c → IsUnlessNoMemory result (Ok c) }
+    ensures writable { IfOk result IsWritable }
+    ensures stuck { (line : ℕ) → result ≡ Err (CertFault.NotACertificate line) → FailsAt bytes.now line }
+    ensures refused { (line : ℕ) → FailsAt bytes.now line → IsUnlessNoMemory result (Err (CertFault.NotACertificate line)) }
+{
+    pv_cert::read(alloc, bytes)
+}
+
+/// [`pv_cert::write`].
+pub fn write(alloc: Global, certificate: &Certificate) -> Result<Vec<u8>, AllocError>
+    requires claim { certificate.now.claim ≡ Satisfied 0 }
+    requires trace { certificate.now.trace ≡ None }
+    requires next { certificate.now.next ≡ None }
+    requires proofs { AllByRecursion IsWritableProof certificate.now.proofs }
+    ensures text { IfOk result (λ text. text.items ≡ certificate_text certificate.now) }
+    ensures is_text { IfOk result (λ text. IsTextOf text.items certificate.now) }
+{
+    pv_cert::write(alloc, certificate)
+}
+
+/// [`Proofs::push`].
+pub fn push_proof(proofs: &mut Proofs, proof: Proof) -> Result<(), AllocError>
+    ensures ok { OnOk result (proofs.new ≡ proofs.old ++ proof ∷ []) }
+    ensures err { OnErr result (proofs.new ≡ proofs.old) }
+{
+    proofs.push(proof)
+}

@@ -1,0 +1,13 @@
+use Rattle.pv_contracts_commands.proofs.replay_in.Goals as goal
+
+pub returns-clause-files : goal.returns-clause-files
+returns-clause-files g c = c.replay_in.ensures.files
+
+pub returns-clause-says : goal.returns-clause-says
+returns-clause-says g c = c.replay_in.ensures.says
+
+pub returns-clause-counted : goal.returns-clause-counted
+returns-clause-counted g c = c.replay_in.ensures.counted
+
+pub returns-clause-writes : goal.returns-clause-writes
+returns-clause-writes g c = c.replay_in.ensures.writes

@@ -1,0 +1,75 @@
+//! Contract tests of the commands, `pv_command_replay`, `pv_command_recheck` and `pv_top`.
+//!
+//! Each public call whose clauses are no equation of what it answers stands here once more, with the library's clauses, by the call itself.
+//! An edit of `must-fail` gives a wrong answer in its place: a run that ends with the same status whatever it came to, one for each status but
+//! that of memory's end.
+#![tactic(auto)]
+
+ghost use Rattle.pv_command_load.specs.Held.{Counts};
+ghost use Rattle.pv_command_recheck.specs.Rechecks.{SaysRecheck, recheck_status};
+ghost use Rattle.pv_command_replay.specs.Replays.{SaysReplay, replay_status};
+ghost use Rattle.pv_top.specs.Calls.{Promises};
+ghost use Rattle.std.specs.Prelude.{map, string_bytes, ◌≡◌};
+
+use pv_command_recheck::{RecheckStop, Rechecked};
+use pv_command_replay::{ReplayStop, Replayed};
+use pv_edge::{Files, Sink, Text};
+use pv_top::Status;
+use std::alloc::Global;
+
+/// [`pv_command_replay::replay_in`].
+pub fn replay_in<F: Files>(
+    alloc: Global,
+    files: &mut F,
+    case_file: &str,
+    trace_file: &str,
+) -> Result<Replayed, ReplayStop>
+    ensures files { F.told files.new ≡ F.told files.old }
+    ensures says { SaysReplay (F.told files.old) case_file.now trace_file.now result }
+    ensures counted { Counts (replay_status result) (F.read_faults files.old) (F.read_faults files.new) }
+    ensures writes { F.write_faults files.new ≡ F.write_faults files.old }
+{
+    pv_command_replay::replay_in(alloc, files, case_file, trace_file)
+}
+
+/// [`pv_command_recheck::recheck_in`].
+pub fn recheck_in<F: Files>(
+    alloc: Global,
+    files: &mut F,
+    case_file: &str,
+    certificate_file: &str,
+) -> Result<Rechecked, RecheckStop>
+    ensures files { F.told files.new ≡ F.told files.old }
+    ensures says { SaysRecheck (F.told files.old) case_file.now certificate_file.now result }
+    ensures counted { Counts (recheck_status result) (F.read_faults files.old) (F.read_faults files.new) }
+    ensures writes { F.write_faults files.new ≡ F.write_faults files.old }
+{
+    pv_command_recheck::recheck_in(alloc, files, case_file, certificate_file)
+}
+
+/// [`pv_top::run`].
+pub fn run<F: Files, S: Sink>(
+    alloc: Global,
+    words: &[String],
+    files: &mut F,
+    out: &mut S,
+    kept: &mut Text,
+) -> Status
+    ensures files { F.told files.new ≡ F.told files.old }
+    ensures kept { kept.new ≡ kept.old }
+    ensures promises { Promises (record {
+      words = map string_bytes words.now;
+      told = F.told files.old;
+      status = result;
+      reads = F.read_faults files.old;
+      reads_after = F.read_faults files.new;
+      writes = F.write_faults files.old;
+      writes_after = F.write_faults files.new;
+      sink = S.faults out.old;
+      sink_after = S.faults out.new;
+      taken = S.taken out.old;
+      taken_after = S.taken out.new;
+    }) }
+{
+    pv_top::run(alloc, words, files, out, kept)
+}

@@ -1,0 +1,10 @@
+//! Contract tests of the interpreter, `pv_eval` to `pv_program`.
+//!
+//! Each public call whose clauses are no equation of what it answers stands here once more, with the library's clauses, by the call itself.
+//! An edit of `must-fail` gives a wrong answer in its place.
+#![tactic(auto)]
+
+pub mod instrs;
+pub mod names;
+pub mod nodes;
+pub mod programs;

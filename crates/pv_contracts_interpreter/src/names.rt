@@ -1,0 +1,112 @@
+//! Contract tests of `pv_resolve`.
+ghost use Rattle.pv_bytes.specs.Lent.{bytes_tree};
+ghost use Rattle.pv_eval.specs.Means.{activation};
+ghost use Rattle.pv_eval.specs.Ready.{Evaluates, Locates};
+ghost use Rattle.pv_mean.specs.Activations as act;
+ghost use Rattle.pv_mean.specs.Layout as layout;
+ghost use Rattle.pv_mean.specs.Sized.{sized_project};
+ghost use Rattle.pv_mean.specs.Sources.{Source};
+ghost use Rattle.pv_mean.specs.declared.count.TheConstants.{BEYOND};
+ghost use Rattle.pv_names.specs.Tables.{project_of};
+ghost use Rattle.pv_resolve.specs.Begins.{HasSpot, begin_at};
+ghost use Rattle.pv_resolve.specs.Contexts.{IsContext, block_in};
+ghost use Rattle.pv_resolve.specs.Firsts.{AreFirsts};
+ghost use Rattle.pv_resolve.specs.declared.fault.ResolveFault.TheVariants.{TooLarge};
+ghost use Rattle.pv_tree.specs.View.{block_tree, expr_tree, operand_tree};
+ghost use Rattle.pv_types.specs.Leaves.{start_value};
+ghost use Rattle.std.specs.Prelude.{Err, IfOk, ℕ, ◌+◌, ◌↔◌, ◌≡◌, ◌≤◌};
+
+use pv_bytes::AreaBytes;
+use pv_eval::{Expression, Target};
+use pv_mean::Sizes;
+use pv_names::Scope;
+use pv_resolve::{Begin, Context, Firsts, ResolveFault};
+use pv_tree::{Block, Expr, Operand};
+use pv_types::{Name, Var};
+use std::alloc::{AllocError, Global};
+
+/// [`pv_resolve::start_of`].
+pub fn start_of(var: &Var) -> Result<i64, ResolveFault>
+    ensures { IfOk result (λ v. v ≡ start_value var.now.start) }
+{
+    pv_resolve::start_of(var)
+}
+
+/// [`pv_resolve::number_of`].
+pub fn number_of(n: &i128) -> Result<i64, ResolveFault>
+    ensures { IfOk result (λ v. v ≡ n.now) }
+{
+    pv_resolve::number_of(n)
+}
+
+/// [`Context::word`].
+pub fn word<'p>(context: &Context<'p>, name: &Name, hash: bool) -> Result<Begin<'p>, ResolveFault>
+    ensures value { (source : Source) (first : ℕ) → IsContext context.now source
+        → IfOk result (λ b. begin_at b first ≡ act.word_begins source
+        (activation (block_in context.now) first) name.now.key hash) }
+    ensures spot { IfOk result HasSpot }
+{
+    context.word(name, hash)
+}
+
+/// [`Context::name`].
+pub fn name<'p>(context: &Context<'p>, name: &Name) -> Result<Begin<'p>, ResolveFault>
+    ensures value { (source : Source) (first : ℕ) → IsContext context.now source
+        → IfOk result (λ b. begin_at b first ≡ act.name_begins source
+        (activation (block_in context.now) first) name.now.key) }
+    ensures spot { IfOk result HasSpot }
+{
+    context.name(name)
+}
+
+/// [`pv_resolve::context_of`].
+pub fn context_of<'p>(
+    scope: Scope<'p>,
+    sizes: &'p Sizes<'p>,
+    entered: &Block,
+    bytes: AreaBytes<'p>,
+) -> Result<Context<'p>, ResolveFault>
+    ensures context { (source : Source) → project_of scope.entry.tables.now ≡ source.project
+        → sized_project sizes.now ≡ source.project → block_tree entered.now ≡ source.entry
+        → bytes_tree bytes.entry ≡ source.bytes → IfOk result (λ c. IsContext c source) }
+    ensures scope { IfOk result (λ c. c.scope ≡ scope.entry) }
+    ensures too_large { (result ≡ Err TooLarge)
+        ↔ (BEYOND ≤ layout.entry_size (sized_project sizes.now) (block_tree entered.now)
+        + layout.data_size (sized_project sizes.now) (sized_project sizes.now).blocks) }
+{
+    pv_resolve::context_of(scope, sizes, entered, bytes)
+}
+
+/// [`pv_resolve::with_firsts`].
+pub fn with_firsts<'p>(context: Context<'p>, firsts: &'p Firsts<'p>) -> Context<'p>
+    ensures is { (source : Source) → IsContext context.entry source
+        → AreFirsts firsts.now source.project (block_in context.entry) → IsContext result source }
+    ensures scope { result.scope ≡ context.entry.scope }
+    ensures block { block_in result ≡ block_in context.entry }
+{
+    pv_resolve::with_firsts(context, firsts)
+}
+
+/// [`Firsts::of`].
+pub fn firsts_of<'p>(alloc: Global, context: &Context<'p>) -> Result<Firsts<'p>, AllocError>
+    ensures { (source : Source) → IsContext context.now source
+        → IfOk result (λ f. AreFirsts f source.project (block_in context.now)) }
+{
+    Firsts::of(alloc, context)
+}
+
+/// [`Context::expression`].
+pub fn expression(context: &Context, alloc: Global, e: &Expr) -> Result<Expression, ResolveFault>
+    ensures { (source : Source) → IsContext context.now source
+        → IfOk result (λ x. Evaluates source (block_in context.now) x (expr_tree e.now)) }
+{
+    context.expression(alloc, e)
+}
+
+/// [`Context::target`].
+pub fn target(context: &Context, alloc: Global, operand: &Operand) -> Result<Target, ResolveFault>
+    ensures { (source : Source) → IsContext context.now source
+        → IfOk result (λ t. Locates source (block_in context.now) t (operand_tree operand.now)) }
+{
+    context.target(alloc, operand)
+}

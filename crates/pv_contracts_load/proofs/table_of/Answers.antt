@@ -1,0 +1,7 @@
+use Rattle.pv_contracts_load.proofs.table_of.Goals as goal
+
+pub returns-clause-found : goal.returns-clause-found
+returns-clause-found c = c.table_of.ensures.found
+
+pub returns-clause-stopped : goal.returns-clause-stopped
+returns-clause-stopped c = c.table_of.ensures.stopped

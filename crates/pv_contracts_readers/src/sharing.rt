@@ -1,0 +1,48 @@
+//! Calls of pv_parse.
+ghost use Rattle.std.specs.Prelude.{◌≡◌, ◌∷◌, [], List, false, IfSome, IfNone, IsTrue, Contains};
+ghost use Rattle.pv_tree.specs.Lexemes.{lexeme_of, lexemes_of};
+ghost use Rattle.pv_tree.specs.Outside.{IsFirstOutside, IsWithin};
+ghost use Rattle.pv_tree.specs.Nesting.{most_levels};
+ghost use Rattle.pv_ll.specs.declared.table.Symbol.TheVariants as symbol;
+ghost use Rattle.pv_ll.specs.Grammar.{Leftmost};
+ghost use Rattle.pv_ll.specs.Table.{grammar_of};
+ghost use Rattle.pv_ll.specs.Check.{is_ll1};
+ghost use Rattle.pv_ll.specs.Making.{Runs};
+ghost use Rattle.pv_parse.specs.Kinds.{kinds_of};
+ghost use Rattle.pv_parse.specs.Deeds.{kinded};
+ghost use Rattle.pv_parse.specs.Shades.{Shade, place_at};
+ghost use Rattle.pv_parse.specs.ItemShades.{shade_making};
+ghost use Rattle.pv_parse.specs.Building.{Built};
+
+use pv_lex::{Language, Place, Token};
+use pv_parse::{Action, Stop};
+use std::alloc::Global;
+
+/// [`pv_parse::first_outside`].
+pub fn first_outside(language: Language, text: &[u8], tokens: &[Token]) -> Option<Token>
+    ensures found { IfSome result (λ token. IsFirstOutside language (lexemes_of text.now tokens.now) (lexeme_of text.now token)) }
+    ensures token { IfSome result (λ token. Contains tokens.now token) }
+    ensures none { IfNone result (IsWithin language (lexemes_of text.now tokens.now)) }
+{
+    pv_parse::first_outside(language, text, tokens)
+}
+
+/// [`pv_parse::find_too_deep`].
+pub fn find_too_deep(
+    alloc: Global,
+    language: &pv_ll::Language,
+    actions: &[Action],
+    trace: &[u16],
+    text: &[u8],
+    tokens: &[Token],
+) -> Result<Option<Place>, Stop>
+    requires { IsTrue (is_ll1 language.now) }
+    ensures { (behind : List Shade)
+        → Leftmost (grammar_of language.now) trace.now (symbol.Name language.now.start ∷ [])
+        (kinds_of false (lexemes_of text.now tokens.now))
+        → Runs (grammar_of language.now) (shade_making actions.now) (symbol.Name language.now.start ∷ [])
+        (kinded false (lexemes_of text.now tokens.now)) [] behind
+        → Built (λ place. place) result (place_at most_levels behind) }
+{
+    pv_parse::find_too_deep(alloc, language, actions, trace, text, tokens)
+}
