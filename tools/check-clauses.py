@@ -5,7 +5,7 @@ A name is a word in backticks within square brackets that are no link: [`found`,
 up in the crate NAME, in docs/PROVED.md in pv_top; `other::name` is looked up in the crate `other`. What counts as found:
 
 - in a row of a table, a clause (`ensures NAME {`, `requires NAME {`) of one of the calls that the row's first cell has in backticks, or
-  of the row above where the cell is empty;
+  of the row above where the cell is empty; where the first cell has an edit of the crate's must-fail/, of one that the others have;
 - elsewhere, a clause of any function of the crate;
 - anywhere, a definition of the crate's specs/ (a `data`, a `record`, a function) or a constructor or a field of one, a ghost member, and
   a function, type, variant or constant of its src/; `Record.field` is that field of that record, and `call.clause` that clause of that call.
@@ -34,6 +34,7 @@ class Crate:
     def __init__(self, name):
         self.clauses, self.names, self.fields = {}, set(), {}
         folder = ROOT / "crates" / name
+        self.edits = {file.stem for file in folder.glob("must-fail/*.edit")}
         for file in sorted(folder.glob("src/**/*.rt")):
             self.read_code(file)
         for file in sorted(folder.glob("specs/**/*.antt")):
@@ -76,6 +77,11 @@ class Crate:
         return any(name in self.clauses.get(call, set()) for call in calls or self.clauses)
 
 
+def calls_of(text):
+    """The calls that a text has in backticks, without the module before them."""
+    return [name.rsplit("::", 1)[-1] for name in QUOTED.findall(text) if re.fullmatch(r"[\w:]+", name)]
+
+
 class Checker:
     def __init__(self):
         self.crates = {path.name: Crate(path.name) for path in sorted((ROOT / "crates").iterdir()) if path.is_dir()}
@@ -92,11 +98,9 @@ class Checker:
             where = f"{document.relative_to(ROOT)}:{number}"
             is_row = line.startswith("|")
             if is_row:
-                first = QUOTED.findall(line.split("|")[1])
-                calls = [name.rsplit("::", 1)[-1] for name in first if re.fullmatch(r"[\w:]+", name)] or calls
-                if crate.startswith("pv_contracts_"):
-                    # (its rows are of wrong answers, and name the call beside the clause)
-                    calls = []
+                first, others = calls_of(line.split("|")[1]), calls_of(BRACKET.sub("", line))
+                is_edit = self.crates[crate].edits & set(first)
+                calls = [name for name in others if name in self.crates[crate].clauses] if is_edit else first or calls
             else:
                 calls = []
             for bracket in BRACKET.findall(line):
@@ -112,8 +116,6 @@ class Checker:
 
     def check_calls(self, crate):
         """Each function that the crate's root gives away, and each law, is named in its README."""
-        if crate.startswith("pv_contracts_"):
-            return
         text = (ROOT / "crates" / crate / "README.md").read_text(encoding="utf-8")
         said = set(re.findall(r"\w+", " ".join(QUOTED.findall(text))))
         root = ROOT / "crates" / crate / "src" / "lib.rt"
