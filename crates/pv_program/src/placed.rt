@@ -115,7 +115,7 @@ fn placed_operand(alloc: Global, at: Place, operand: &Operand) -> Result<Operand
         (λ copy. operand_tree copy ≡ placed_operand at (operand_tree operand.now)) }
 {
     let root = copy_root(&operand.root)?;
-    let (root, steps) = with(root, steps_placed(alloc, at, &operand.steps))?;
+    let steps = steps_placed(alloc, at, &operand.steps)?;
     Ok(Operand {
         root,
         steps,
