@@ -3,7 +3,8 @@
 use crate::case_says::answer;
 use std::test::Fail;
 
-const USUAL: &str = r#"{"version":1,"name":"t","sources":[{"file":"a.scl","language":"scl"}],"entry":"Demo","pattern":{"kind":"invariant","a":"run"},"loopBound":16,"depth":3,"lemmas":100000,"regionWords":1000000,"#;
+const USUAL: &str =
+    r#"{"version":1,"name":"t","sources":[{"file":"a.scl","language":"scl"}],"entry":"Demo","pattern":{"kind":"invariant","a":"run"},"loopBound":16,"depth":3,"lemmas":100000,"regionWords":1000000,"#;
 
 const ROWS: &str = r#"
 "version":1,"name":"A-z_09" > read name [A-z_09]
