@@ -1,5 +1,5 @@
 //! Calls of pv_parse.
-ghost use Rattle.std.specs.Prelude.{◌≡◌, ◌∷◌, [], List, false, IfSome, IfNone, IsTrue, Contains};
+ghost use Rattle.std.specs.Prelude.{◌≡◌, ◌∷◌, [], List, false, Ok, Err, IfSome, IfNone, IsTrue, Contains, MatchResult};
 ghost use Rattle.pv_tree.specs.Lexemes.{lexeme_of, lexemes_of};
 ghost use Rattle.pv_tree.specs.Outside.{IsFirstOutside, IsWithin};
 ghost use Rattle.pv_tree.specs.Nesting.{most_levels};
@@ -45,4 +45,11 @@ pub fn find_too_deep(
         → Built (λ place. place) result (place_at most_levels behind) }
 {
     pv_parse::find_too_deep(alloc, language, actions, trace, text, tokens)
+}
+
+/// [`pv_parse::with`].
+pub fn with<A: Drop, B, E>(first: A, second: Result<B, E>) -> Result<(A, B), E>
+    ensures { MatchResult result (λ both. (both.0 ≡ first) × (second ≡ Ok both.1)) (λ stop. second ≡ Err stop) }
+{
+    pv_parse::with(first, second)
 }
