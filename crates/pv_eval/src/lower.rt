@@ -1,10 +1,12 @@
 //! Nodes lowered to operations.
 ghost use Rattle.std.specs.Prelude.{◌≡◌, IfOk};
+ghost use Rattle.pv_eval.specs.declared.op.Deed.TheVariants.{Two, Three};
 ghost use Rattle.pv_eval.specs.Lowered.{copied_spot, copied_operand, copied, arg_of, access_of, read_of, deed_of, ops_of};
 
-use crate::node::{Node, Operand, Spot};
+use crate::node::{Node, Operand, Spot, ThreeOp, TwoOp};
 use crate::op::{Access, Arg, Deed, Op};
 use pv_place::Place;
+use pv_word::Ty;
 use std::alloc::{AllocError, Global};
 
 fn copied_spot(spot: Spot) -> Option<Arg>
@@ -70,6 +72,32 @@ fn read_of(nodes: &[Node], operand: Operand, place: Place) -> Option<Deed>
     }
 }
 
+/// An operation of two arguments, by the numbers of their nodes.
+fn two_of(nodes: &[Node], op: TwoOp, ty: Ty, place: Place, left: u32, right: u32) -> Deed
+    ensures { result ≡ Two op ty place (arg_of nodes.now left) (arg_of nodes.now right) }
+{
+    Deed::Two {
+        op,
+        ty,
+        place,
+        left: arg_of(nodes, left),
+        right: arg_of(nodes, right),
+    }
+}
+
+/// An operation of three arguments, by the numbers of their nodes.
+fn three_of(nodes: &[Node], op: ThreeOp, first: u32, second: u32, third: u32) -> Deed
+    ensures { result
+        ≡ Three op (arg_of nodes.now first) (arg_of nodes.now second) (arg_of nodes.now third) }
+{
+    Deed::Three {
+        op,
+        first: arg_of(nodes, first),
+        second: arg_of(nodes, second),
+        third: arg_of(nodes, third),
+    }
+}
+
 /// What a node does, if it doesn't only copy.
 fn deed_of(nodes: &[Node], node: &Node) -> Option<Deed>
     ensures { result ≡ deed_of nodes.now node.now }
@@ -88,24 +116,13 @@ fn deed_of(nodes: &[Node], node: &Node) -> Option<Deed>
             place,
             left,
             right,
-        } => Some(Deed::Two {
-            op: *op,
-            ty: *ty,
-            place: *place,
-            left: arg_of(nodes, *left),
-            right: arg_of(nodes, *right),
-        }),
+        } => Some(two_of(nodes, *op, *ty, *place, *left, *right)),
         Node::Three {
             op,
             first,
             second,
             third,
-        } => Some(Deed::Three {
-            op: *op,
-            first: arg_of(nodes, *first),
-            second: arg_of(nodes, *second),
-            third: arg_of(nodes, *third),
-        }),
+        } => Some(three_of(nodes, *op, *first, *second, *third)),
         Node::Element {
             from,
             index,

@@ -101,13 +101,11 @@ fn done(deed: &Deed, values: &[i64], room: &Room) -> Result<i64, Trap>
             place,
             left,
             right,
-        } => two(
-            *op,
-            *ty,
-            *place,
-            fetched(left, values, room),
-            fetched(right, values, room),
-        ),
+        } => {
+            let left = fetched(left, values, room);
+            let right = fetched(right, values, room);
+            two(*op, *ty, *place, left, right)
+        }
         Deed::Three {
             op,
             first,
@@ -126,14 +124,11 @@ fn done(deed: &Deed, values: &[i64], room: &Room) -> Result<i64, Trap>
             high,
             stride,
             place,
-        } => cell_number(
-            fetched(from, values, room),
-            fetched(index, values, room),
-            *low,
-            *high,
-            *stride,
-            *place,
-        ),
+        } => {
+            let from = fetched(from, values, room);
+            let index = fetched(index, values, room);
+            cell_number(from, index, *low, *high, *stride, *place)
+        }
     }
 }
 

@@ -14,7 +14,7 @@ ghost use Rattle.pv_program.specs.Reached.{AreCodes, IsMade, AreMade, Adds};
 use crate::block::add_code;
 use crate::call::context_in;
 use crate::fault::ProgramFault;
-use pv_resolve::{Context, Firsts, with_firsts};
+use pv_resolve::{Context, FirstCells, with_firsts};
 use pv_run::{Called, Code, Program};
 use std::alloc::Global;
 
@@ -78,7 +78,7 @@ fn make_code(
     match context.scope.tables.entries().get(block as usize) {
         Some(entry) => {
             let inner = context_in(context, entry);
-            let firsts = Firsts::of(alloc, &inner)?;
+            let firsts = FirstCells::of(alloc, &inner)?;
             let inner = with_firsts(inner, &firsts);
             add_code(alloc, &inner, program)
         }

@@ -30,7 +30,7 @@ use Rattle.pv_resolve.specs.declared.begin.Begin.{Begin}
 use Rattle.pv_resolve.specs.declared.begin.Begin.TheVariants.{In, At}
 use Rattle.pv_resolve.specs.declared.begin.Where.{Where}
 use Rattle.pv_resolve.specs.declared.begin.Where.TheVariants.{Own, Visible, Brief}
-use Rattle.pv_resolve.specs.declared.laid.Laid.{Laid}
+use Rattle.pv_resolve.specs.declared.laid.LaidLevel.{LaidLevel}
 use Rattle.pv_resolve.specs.Laying.{laid_tree}
 use Rattle.pv_resolve.specs.Begins.{begins_in, begins_further}
 use Rattle.pv_resolve.specs.Growing.{Adds}
@@ -76,7 +76,7 @@ element_leads source Brief first from low high of p place a i =
 abbrev element : ℤ → ℤ → ℕ → Place → List ℤ → Value
 element low high stride place vs = element_number (argument vs) (argument (arguments_behind vs)) low high stride place
 
-element_found : (source : Source) (part : Where) (first : ℕ) (l inner : Laid) (low high : ℤ) (stride : ℕ) (of : TypeTree) (p place : Place)
+element_found : (source : Source) (part : Where) (first : ℕ) (l inner : LaidLevel) (low high : ℤ) (stride : ℕ) (of : TypeTree) (p place : Place)
     (vs : List ℤ) → held_tree l.ty ≡ array low high of p → held_tree inner.ty ≡ of → inner.first ≡ l.first
     → stride ≡ layout.size_in source.project of
     → and_then (element low high stride place vs) (λ a. got (begins_further (unsigned_abs a) (begins_in part first (laid_tree inner))))
@@ -91,7 +91,7 @@ element_found source part first l inner low high stride of p place vs ty inner_t
     ∙ ap (λ t. element_begins source (begins_further (unsigned_abs (argument vs)) (begins_in part first (record { ty = t; first = l.first })))
     (argument (arguments_behind vs)) place) (sym ty)
 
-pub goes_element : (source : Source) (base old new : List Node) (b : Begin) (part : Where) (l inner : Laid) (from index n : ℕ) (low high : ℤ)
+pub goes_element : (source : Source) (base old new : List Node) (b : Begin) (part : Where) (l inner : LaidLevel) (from index n : ℕ) (low high : ℤ)
     (stride most : ℕ) (of : TypeTree) (p place : Place) (values : ℕ → Frame → Tried (List ℤ)) → b ≡ In part l
     → held_tree l.ty ≡ array low high of p → held_tree inner.ty ≡ of → inner.first ≡ l.first → stride ≡ layout.size_in source.project of
     → Adds old new (Element from index low high stride most place) n → Makes base old (λ first ws. number_and_index from index ws) values
@@ -109,7 +109,7 @@ goes_element source base old new b part l inner from index n low high stride mos
     })
 
 -- by the code's bounds and size
-pub goes_array : (c : Context) (source : Source) (base old new : List Node) (part : Where) (l inner : Laid) (from index n : ℕ)
+pub goes_array : (c : Context) (source : Source) (base old new : List Node) (part : Where) (l inner : LaidLevel) (from index n : ℕ)
     (lo hi low high : ℤ) (stride most : ℕ) (of : TypeTree) (p place : Place) (values : ℕ → Frame → Tried (List ℤ)) → IsContext c source
     → held_tree l.ty ≡ array low high of p → held_tree inner.ty ≡ of → inner.first ≡ l.first
     → stride ≡ capped (layout.size_in (sized_project c.sizes.now) of) → stride < BEYOND → lo ≡ low → hi ≡ high
@@ -161,7 +161,7 @@ trap_leads source Brief first k f (structure vars) i place h = refl
 trap_leads source Brief first k f (named name p) i place h = refl
 trap_leads source Brief first k f unread i place h = refl
 
-pub goes_trap : (source : Source) (base old new : List Node) (b : Begin) (part : Where) (l : Laid) (from index n most : ℕ) (place : Place)
+pub goes_trap : (source : Source) (base old new : List Node) (b : Begin) (part : Where) (l : LaidLevel) (from index n most : ℕ) (place : Place)
     (values : ℕ → Frame → Tried (List ℤ)) → b ≡ In part l → IsNoArray (held_tree l.ty)
     → Adds old new (Element from index (pos 1) (pos 0) 0 most place) n → Makes base old (λ first ws. number_and_index from index ws) values
     → GoesOn source base new b (record { begin = At Nowhere; address = Some n }) place values

@@ -18,7 +18,7 @@ use Rattle.pv_resolve.specs.declared.begin.Begin.{Begin}
 use Rattle.pv_resolve.specs.declared.begin.Begin.TheVariants.{In, At}
 use Rattle.pv_resolve.specs.declared.begin.Where.{Where}
 use Rattle.pv_resolve.specs.declared.begin.Where.TheVariants.{Own, Visible, Brief}
-use Rattle.pv_resolve.specs.declared.laid.Laid.{Laid}
+use Rattle.pv_resolve.specs.declared.laid.LaidLevel.{LaidLevel}
 use Rattle.pv_resolve.specs.Laying.{laid_tree}
 use Rattle.pv_resolve.specs.Begins.{further, begins_in, begin_at, begins_further, begins_behind, begins_found}
 use Rattle.pv_resolve.proofs.Laying.{laid-shifted}
@@ -71,7 +71,7 @@ field_found source Visible first l key o e = ap visible_where e
 field_found source Brief first l key o e = ap brief_where e
 
 -- the field of a part, where that begins a way
-pub field_leads : (source : Source) (begin : Begin) (part : Where) (l : Laid) (key : List ℕ) (o : Option layout.Laid) (address : Option ℕ) (a : ℤ)
+pub field_leads : (source : Source) (begin : Begin) (part : Where) (l : LaidLevel) (key : List ℕ) (o : Option layout.Laid) (address : Option ℕ) (a : ℤ)
     (first : ℕ) (b : Begins) → begin ≡ In part l → o ≡ layout.field_laid source.project (laid_tree l) key → b ≡ begins_found part first o
     → begins_behind address a b ≡ field_begins source (begins_behind address a (begin_at begin first)) key
 field_leads source begin part l key o address a first b is e same =

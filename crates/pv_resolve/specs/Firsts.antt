@@ -11,7 +11,7 @@ use Rattle.pv_mean.specs.Layout.{Laid, laid_among, is_brief_in, size_in}
 use Rattle.pv_mean.specs.Counts.{capped}
 use Rattle.pv_mean.specs.LaidOut.{laid_tree, capped_laid}
 use Rattle.pv_resolve.specs.declared.firsts.PartFirsts.{PartFirsts}
-use Rattle.pv_resolve.specs.declared.firsts.Firsts.{Firsts}
+use Rattle.pv_resolve.specs.declared.firsts.FirstCells.{FirstCells}
 
 -- the variable that the table of a part has of a key
 abbrev pub laid_in : PartFirsts → List ℕ → Option Laid
@@ -36,6 +36,6 @@ FindsLaid p project test vars =
     (key : List ℕ) → laid_in p key ≡ option_map capped_laid (laid_among project test vars key 0)
 
 -- both tables are those of the block
-pub record AreFirsts (f : Firsts) (project : ProjectTree) (block : BlockTree) : Type 0 where
+pub record AreFirsts (f : FirstCells) (project : ProjectTree) (block : BlockTree) : Type 0 where
   pub brief : FindsLaid f.brief project (is_brief_in block) block.vars
   pub own : FindsLaid f.own project is_of_instance block.vars

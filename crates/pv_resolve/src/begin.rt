@@ -25,10 +25,10 @@ ghost use Rattle.pv_resolve.specs.Begins.{begin_at, begins_found, cells_begin, u
 
 use crate::context::Context;
 use crate::fault::ResolveFault;
-use crate::laid::{Laid, exact};
+use crate::laid::{LaidLevel, exact};
 use pv_bytes::AreaBytes;
 use pv_eval::Spot;
-use pv_mean::{BEYOND, Laid as Found, Part, activation_part};
+use pv_mean::{BEYOND, Laid, Part, activation_part};
 use pv_names::{Entry, Held, is_const};
 use pv_tree::{Area, Block, BlockKind, Body, Root};
 use pv_types::{Name, Section, Var};
@@ -37,7 +37,7 @@ use pv_word::Ty;
 /// Where a name begins, with the steps behind it so far.
 #[derive(Clone, Copy)]
 pub enum Begin<'p> {
-    In(Where, Laid<'p>),
+    In(Where, LaidLevel<'p>),
     At(Spot),
 }
 
@@ -165,7 +165,7 @@ fn address_spot(ty: Ty, bits: u32, number: u32, n: u64) -> Result<Spot, ResolveF
 }
 
 /// What was found among a part of the cells, if anything.
-pub(crate) fn begin_with<'p>(part: Where, found: Option<Laid<'p>>) -> Begin<'p>
+pub(crate) fn begin_with<'p>(part: Where, found: Option<LaidLevel<'p>>) -> Begin<'p>
     ensures value { (first : ℕ) → begin_at result first
         ≡ begins_found part first (option_map laid_tree found.entry) }
     ensures spot { HasSpot result }
@@ -197,7 +197,7 @@ impl<'p> Context<'p> {
         part: Part,
         name: &Name,
         first: u32,
-    ) -> Result<Option<Laid<'p>>, ResolveFault>
+    ) -> Result<Option<LaidLevel<'p>>, ResolveFault>
         ensures { IfOk result (λ o. option_map laid_tree o
             ≡ layout.laid_among (sized_project self.now.sizes.now) (test_of part)
             (view.var_trees vars.now) name.now.key first) }
@@ -211,7 +211,7 @@ impl<'p> Context<'p> {
         ty: &Name,
         name: &Name,
         first: u32,
-    ) -> Result<Option<Laid<'p>>, ResolveFault>
+    ) -> Result<Option<LaidLevel<'p>>, ResolveFault>
         ensures { (source : Source) → IsContext self.now source
             → IfOk result (λ o. option_map laid_tree o
             ≡ layout.field_among source.project scopes.is_of_instance
@@ -229,9 +229,9 @@ impl<'p> Context<'p> {
     /// The field of this name in what is laid out.
     pub(crate) fn field_laid(
         &self,
-        laid: Laid<'p>,
+        laid: LaidLevel<'p>,
         name: &Name,
-    ) -> Result<Option<Laid<'p>>, ResolveFault>
+    ) -> Result<Option<LaidLevel<'p>>, ResolveFault>
         ensures { (source : Source) → IsContext self.now source
             → IfOk result (λ o. option_map laid_tree o
             ≡ layout.field_laid source.project (laid_tree laid.entry) name.now.key) }
@@ -244,7 +244,7 @@ impl<'p> Context<'p> {
     }
 
     /// The variable of this name that lives within one activation, by a walk along the block's variables.
-    fn brief_walked(&self, name: &Name) -> Option<Found<'p>>
+    fn brief_walked(&self, name: &Name) -> Option<Laid<'p>>
         ensures { option_map counted.laid_tree result ≡ option_map counted.capped_laid
             (layout.laid_among (sized_project self.now.sizes.now)
             (layout.is_brief_in (block_in self.now)) (block_in self.now).vars name.now.key 0) }
@@ -256,7 +256,7 @@ impl<'p> Context<'p> {
     }
 
     /// The variable of this name that lives within one activation.
-    fn brief_found(&self, name: &Name) -> Option<Found<'p>>
+    fn brief_found(&self, name: &Name) -> Option<Laid<'p>>
         ensures { (source : Source) → IsContext self.now source
             → option_map counted.laid_tree result ≡ option_map counted.capped_laid
             (layout.laid_among source.project (layout.is_brief_in (block_in self.now))
@@ -269,7 +269,7 @@ impl<'p> Context<'p> {
     }
 
     /// The variable of this name of the instance, by a walk along the block's variables.
-    fn own_walked(&self, name: &Name) -> Option<Found<'p>>
+    fn own_walked(&self, name: &Name) -> Option<Laid<'p>>
         ensures { option_map counted.laid_tree result ≡ option_map counted.capped_laid
             (layout.laid_among (sized_project self.now.sizes.now) scopes.is_of_instance
             (block_in self.now).vars name.now.key 0) }
@@ -280,7 +280,7 @@ impl<'p> Context<'p> {
     }
 
     /// The variable of this name of the instance.
-    fn own_found(&self, name: &Name) -> Option<Found<'p>>
+    fn own_found(&self, name: &Name) -> Option<Laid<'p>>
         ensures { (source : Source) → IsContext self.now source
             → option_map counted.laid_tree result ≡ option_map counted.capped_laid
             (layout.laid_among source.project scopes.is_of_instance (block_in self.now).vars
@@ -359,7 +359,7 @@ impl<'p> Context<'p> {
         if first >= BEYOND {
             return Err(ResolveFault::TooLarge);
         }
-        Ok(Begin::In(Where::Visible, Laid { ty, first }))
+        Ok(Begin::In(Where::Visible, LaidLevel { ty, first }))
     }
 
     /// A block: a data block, as no other is a value or has fields.

@@ -12,7 +12,7 @@ ghost use Rattle.pv_resolve.specs.Contexts.{IsContext, block_in};
 ghost use Rattle.pv_resolve.specs.Firsts.{AreFirsts};
 
 use crate::fault::ResolveFault;
-use crate::firsts::Firsts;
+use crate::firsts::FirstCells;
 use pv_bytes::AreaBytes;
 use pv_mean::{BEYOND, Sizes};
 use pv_names::Scope;
@@ -30,7 +30,7 @@ pub struct Context<'p> {
     pub bytes_first: u32,
     pub bytes: AreaBytes<'p>,
     /// Where the block's variables lie, if that was found; else each name takes a walk along them.
-    pub firsts: Option<&'p Firsts<'p>>,
+    pub firsts: Option<&'p FirstCells<'p>>,
 }
 
 /// The context of a block of a project that is entered at a block, where these bytes have cells. It is too large exactly where the
@@ -66,7 +66,7 @@ pub fn context_of<'p>(
 }
 
 /// The same context, where the variables of its block lie so.
-pub fn with_firsts<'p>(context: Context<'p>, firsts: &'p Firsts<'p>) -> Context<'p>
+pub fn with_firsts<'p>(context: Context<'p>, firsts: &'p FirstCells<'p>) -> Context<'p>
     ensures is { (source : Source) → IsContext context.entry source
         → AreFirsts firsts.now source.project (block_in context.entry) → IsContext result source }
     ensures scope { result.scope ≡ context.entry.scope }

@@ -15,7 +15,7 @@ ghost use Rattle.pv_resolve.specs.Firsts.{laid_in, laid_after, AddsVariable, Fin
 use crate::context::Context;
 use indexmap::IndexMap;
 use pv_edge::Text;
-use pv_mean::{BEYOND, Laid as Found, Part, Sizes, activation_part};
+use pv_mean::{BEYOND, Laid, Part, Sizes, activation_part};
 use pv_tree::Block;
 use pv_types::{Name, Var};
 use std::alloc::{AllocError, Global};
@@ -23,7 +23,7 @@ use std::alloc::{AllocError, Global};
 /// Where the variables of a part of a block's cells lie, counted from the part's first cell, and how many cells there are.
 #[derive(Drop)]
 struct PartFirsts<'p> {
-    laid: IndexMap<Text, Found<'p>>,
+    laid: IndexMap<Text, Laid<'p>>,
     total: u32,
 }
 
@@ -41,7 +41,7 @@ impl<'p> PartFirsts<'p> {
         let key = var.name.key.clone()?;
         let ty = &var.ty;
         let first = self.total;
-        self.laid.insert(key, Found { ty, first })?;
+        self.laid.insert(key, Laid { ty, first })?;
         Ok(())
     }
 
@@ -82,7 +82,7 @@ impl<'p> PartFirsts<'p> {
     }
 
     /// The variable of this name, if there is one.
-    fn find(&self, name: &Name) -> Option<Found<'p>>
+    fn find(&self, name: &Name) -> Option<Laid<'p>>
         ensures { option_map counted.laid_tree result ≡ laid_in self.now name.now.key }
     {
         match self.laid.get(&name.key) {
@@ -94,32 +94,36 @@ impl<'p> PartFirsts<'p> {
 
 /// Where the variables of a block lie among the cells of its activation, and among those of its instance.
 #[derive(Drop)]
-pub struct Firsts<'p> {
+pub struct FirstCells<'p> {
     brief: PartFirsts<'p>,
     own: PartFirsts<'p>,
 }
 
-impl<'p> Firsts<'p> {
+impl<'p> FirstCells<'p> {
     /// Those of a block of the project of these sizes.
-    fn of_block(alloc: Global, sizes: &Sizes, block: &'p Block) -> Result<Firsts<'p>, AllocError>
+    fn of_block(
+        alloc: Global,
+        sizes: &Sizes,
+        block: &'p Block,
+    ) -> Result<FirstCells<'p>, AllocError>
         ensures { IfOk result (λ f. AreFirsts f (sized_project sizes.now) (block_tree block.now)) }
     {
         let vars = block.interface.vars.as_slice();
         let brief = PartFirsts::of(alloc, sizes, activation_part(&block.kind), vars)?;
         let own = PartFirsts::of(alloc, sizes, Part::Instance, vars)?;
-        Ok(Firsts { brief, own })
+        Ok(FirstCells { brief, own })
     }
 
     /// Those of the context's block.
-    pub fn of(alloc: Global, context: &Context<'p>) -> Result<Firsts<'p>, AllocError>
+    pub fn of(alloc: Global, context: &Context<'p>) -> Result<FirstCells<'p>, AllocError>
         ensures { (source : Source) → IsContext context.now source
             → IfOk result (λ f. AreFirsts f source.project (block_in context.now)) }
     {
-        Firsts::of_block(alloc, context.sizes, context.scope.entry.block())
+        FirstCells::of_block(alloc, context.sizes, context.scope.entry.block())
     }
 
     /// The variable of this name that lives within one activation, if there is one.
-    pub(crate) fn brief(&self, name: &Name) -> Option<Found<'p>>
+    pub(crate) fn brief(&self, name: &Name) -> Option<Laid<'p>>
         ensures { (project : ProjectTree) (block : BlockTree) → AreFirsts self.now project block
             → option_map counted.laid_tree result ≡ option_map counted.capped_laid
             (layout.laid_among project (layout.is_brief_in block) block.vars name.now.key 0) }
@@ -128,7 +132,7 @@ impl<'p> Firsts<'p> {
     }
 
     /// The variable of this name of the instance, if there is one.
-    pub(crate) fn own(&self, name: &Name) -> Option<Found<'p>>
+    pub(crate) fn own(&self, name: &Name) -> Option<Laid<'p>>
         ensures { (project : ProjectTree) (block : BlockTree) → AreFirsts self.now project block
             → option_map counted.laid_tree result ≡ option_map counted.capped_laid
             (layout.laid_among project is_of_instance block.vars name.now.key 0) }

@@ -5,18 +5,18 @@ ghost use Rattle.pv_mean.specs.LaidOut as counted;
 ghost use Rattle.pv_resolve.specs.Laying.{laid_tree};
 
 use crate::fault::ResolveFault;
-use pv_mean::{BEYOND, Laid as Found};
+use pv_mean::{BEYOND, Laid};
 use pv_names::{Held, level_of};
 
 /// One level of a type, and the number of the cell from which on it is laid out.
 #[derive(Clone, Copy)]
-pub struct Laid<'p> {
+pub struct LaidLevel<'p> {
     pub ty: Held<'p>,
     pub first: u32,
 }
 
 /// What was found, where its number is exact.
-fn exact_one(found: Found) -> Result<Laid, ResolveFault>
+fn exact_one(found: Laid) -> Result<LaidLevel, ResolveFault>
     ensures { (l : layout.Laid) → counted.laid_tree found.entry ≡ counted.capped_laid l
         → IfOk result (λ laid. laid_tree laid ≡ l) }
 {
@@ -25,11 +25,11 @@ fn exact_one(found: Found) -> Result<Laid, ResolveFault>
     }
     let ty = level_of(found.ty);
     let first = found.first;
-    Ok(Laid { ty, first })
+    Ok(LaidLevel { ty, first })
 }
 
 /// The same where it may be that nothing was found.
-pub(crate) fn exact(found: Option<Found>) -> Result<Option<Laid>, ResolveFault>
+pub(crate) fn exact(found: Option<Laid>) -> Result<Option<LaidLevel>, ResolveFault>
     ensures { (o : Option layout.Laid)
         → option_map counted.laid_tree found.entry ≡ option_map counted.capped_laid o
         → IfOk result (λ laid. option_map laid_tree laid ≡ o) }

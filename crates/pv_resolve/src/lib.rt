@@ -19,5 +19,5 @@ mod walk;
 pub use begin::{Begin, Where, number_of, start_of};
 pub use context::{Context, context_of, with_firsts};
 pub use fault::ResolveFault;
-pub use firsts::Firsts;
-pub use laid::Laid;
+pub use firsts::FirstCells;
+pub use laid::LaidLevel;

@@ -26,7 +26,7 @@ use crate::begin::{Begin, Where, begin_with, number_of};
 use crate::context::Context;
 use crate::fault::ResolveFault;
 use crate::growing::{Elements, push, push_element};
-use crate::laid::Laid;
+use crate::laid::LaidLevel;
 use pv_eval::{Node, Operand, Part, Spot};
 use pv_mean::BEYOND;
 use pv_names::{Held, level_of};
@@ -91,7 +91,7 @@ fn cell_at(part: Where, ty: Ty, first: u32, address: Option<u32>) -> Operand
 }
 
 /// What is laid out, so many cells further as the address says. A whole array, structure or instance is none.
-fn part_at(part: Where, laid: Laid, address: Option<u32>) -> Operand
+fn part_at(part: Where, laid: LaidLevel, address: Option<u32>) -> Operand
     ensures value { (begin : ℕ) (values : List ℤ) → operands.spot_at begin values result
         ≡ act.spot_of (begins_behind address (address_value address values)
         (begins_in part begin (laid_tree laid.entry))) }
@@ -158,7 +158,7 @@ impl<'p> Context<'p> {
         &self,
         nodes: &mut Vec<Node>,
         part: Where,
-        laid: Laid<'p>,
+        laid: LaidLevel<'p>,
         bounds: Bounds<'p>,
         from: u32,
         index: u32,
@@ -189,7 +189,7 @@ impl<'p> Context<'p> {
         let ty = level_of(bounds.of);
         let first = laid.first;
         Ok(Walk {
-            begin: Begin::In(part, Laid { ty, first }),
+            begin: Begin::In(part, LaidLevel { ty, first }),
             address: Some(n),
         })
     }
@@ -199,7 +199,7 @@ impl<'p> Context<'p> {
         &self,
         nodes: &mut Vec<Node>,
         part: Where,
-        laid: Laid<'p>,
+        laid: LaidLevel<'p>,
         from: u32,
         index: u32,
         place: Place,

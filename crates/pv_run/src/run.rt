@@ -1,9 +1,10 @@
 //! Statements, loops and calls.
-ghost use Rattle.std.specs.Prelude.{◌≡◌, ◌*◌, ◌≤◌, length, slice_index_or, replicate, None, ◌+◌, ◌<◌, ◌^◌};
+ghost use Rattle.std.specs.Prelude.{◌≡◌, ℕ, ◌*◌, ◌≤◌, length, slice_index_or, replicate, None, ◌+◌, ◌<◌, ◌^◌};
 ghost use Rattle.pv_mean.specs.Sources.{Source};
 ghost use Rattle.pv_mean.specs.Cells.{most_calls};
 ghost use Rattle.pv_mean.specs.Scans.{scan_from};
 ghost use Rattle.pv_eval.specs.Operands.{IsSpot};
+ghost use Rattle.pv_run.specs.declared.program.Stmt.TheVariants.{AssignCall, If, Case, For, Call};
 ghost use Rattle.pv_run.specs.declared.program.TheConstants.{MOST_STATEMENTS};
 ghost use Rattle.pv_run.specs.Code.{IsProgram, statements_end};
 ghost use Rattle.pv_run.specs.Ends.{end_in};
@@ -135,107 +136,196 @@ impl Program {
                 call,
                 target,
                 place,
-            } => {
-                match self.run_call(*call, at, visible, own, below, turns, scratch) {
-                    Ok(Some(v)) => self.store(*target, v, at.first, visible, own, scratch),
-                    Ok(None) => Err(Stop::Trap(Trap {
-                        kind: TrapKind::Unset,
-                        place: *place,
-                    })),
-                    Err(stop) => Err(stop),
-                }
+            } => self.run_assigned(
+                *call, *target, *place, at, visible, own, below, turns, scratch,
+            ),
+            Stmt::If { arms, other } => {
+                self.run_if(k, *arms, *other, at, visible, own, below, turns, scratch)
             }
-            Stmt::If { arms, other } => match self.arm_of(*arms, at.first, visible, own, scratch) {
-                Ok(Some(body)) => self.run_list(
-                    body.before(k),
-                    at,
-                    visible,
-                    own,
-                    below,
-                    turns,
-                    scratch,
-                ),
-                Ok(None) => self.run_list(other.before(k), at, visible, own, below, turns, scratch),
-                Err(stop) => Err(stop),
-            },
             Stmt::Case {
                 selector,
                 branches,
                 other,
-            } => match self.value(*selector, at.first, visible, own, scratch) {
-                Ok(v) => match self.branch_of(*branches, v) {
-                    Some(body) => self.run_list(
-                        body.before(k),
-                        at,
-                        visible,
-                        own,
-                        below,
-                        turns,
-                        scratch,
-                    ),
-                    None => self.run_list(other.before(k), at, visible, own, below, turns, scratch),
-                },
-                Err(stop) => Err(stop),
-            },
+            } => self.run_case(
+                k, *selector, *branches, *other, at, visible, own, below, turns, scratch,
+            ),
             Stmt::For {
                 counting,
                 body,
                 place,
-            } => match self.begin(counting, at.first, visible, own, scratch) {
-                Ok(begun) => self.run_for(
-                    body.before(k),
-                    &begun,
-                    counting,
-                    *place,
-                    at,
-                    visible,
-                    own,
-                    below,
-                    turns,
-                    scratch,
-                ),
-                Err(stop) => Err(stop),
-            },
+            } => self.run_counted(
+                k, counting, *body, *place, at, visible, own, below, turns, scratch,
+            ),
             Stmt::While {
                 condition,
                 body,
                 place,
-            } => self.run_while(
-                body.before(k),
-                *condition,
-                *place,
-                at,
-                visible,
-                own,
-                below,
-                turns,
-                scratch,
-            ),
+            } => {
+                let body = body.before(k);
+                self.run_while(
+                    body, *condition, *place, at, visible, own, below, turns, scratch,
+                )
+            }
             Stmt::Repeat {
                 body,
                 condition,
                 place,
-            } => self.run_repeat(
-                body.before(k),
-                *condition,
-                *place,
-                at,
-                visible,
-                own,
-                below,
-                turns,
-                scratch,
-            ),
+            } => {
+                let body = body.before(k);
+                self.run_repeat(
+                    body, *condition, *place, at, visible, own, below, turns, scratch,
+                )
+            }
             Stmt::Exit => Ok(Flow::Exit),
             Stmt::Continue => Ok(Flow::Continue),
             Stmt::Return => Ok(Flow::Return),
-            Stmt::Call(call) => match self.run_call(
-                *call, at, visible, own, below, turns, scratch,
-            ) {
-                Ok(_) => Ok(Flow::Normal),
-                Err(stop) => Err(stop),
-            },
+            Stmt::Call(call) => self.run_called(*call, at, visible, own, below, turns, scratch),
             Stmt::Empty => Ok(Flow::Normal),
+        }
+    }
+
+    /// Runs a call as a statement: the value of the function is let go.
+    #[cycle(run)]
+    fn run_called(
+        &self,
+        call: u32,
+        at: At,
+        visible: &mut [i64],
+        own: &mut [Option<i64>],
+        below: &mut [Option<i64>],
+        turns: &mut [Turn],
+        scratch: &mut [i64],
+    ) -> Result<Flow, Stop>
+        requires { HasRoom self.now at (length below.old) (length turns.old) (length scratch.old) }
+        ensures { (k : ℕ) → RunsStmt self.now k (Call call) at (frame_in visible.old own.old) result
+            (frame_in visible.new own.new) }
+    {
+        match self.run_call(call, at, visible, own, below, turns, scratch) {
+            Ok(_) => Ok(Flow::Normal),
+            Err(stop) => Err(stop),
+        }
+    }
+
+    /// Runs a call, and assigns the value of the function.
+    #[cycle(run)]
+    fn run_assigned(
+        &self,
+        call: u32,
+        target: u32,
+        place: Place,
+        at: At,
+        visible: &mut [i64],
+        own: &mut [Option<i64>],
+        below: &mut [Option<i64>],
+        turns: &mut [Turn],
+        scratch: &mut [i64],
+    ) -> Result<Flow, Stop>
+        requires { HasRoom self.now at (length below.old) (length turns.old) (length scratch.old) }
+        ensures { (k : ℕ) → RunsStmt self.now k (AssignCall call target place) at (frame_in visible.old own.old) result
+            (frame_in visible.new own.new) }
+    {
+        match self.run_call(call, at, visible, own, below, turns, scratch) {
+            Ok(Some(v)) => self.store(target, v, at.first, visible, own, scratch),
+            Ok(None) => Err(Stop::Trap(Trap {
+                kind: TrapKind::Unset,
+                place,
+            })),
+            Err(stop) => Err(stop),
+        }
+    }
+
+    /// Runs an IF, the statement of this number.
+    #[cycle(run)]
+    fn run_if(
+        &self,
+        k: u32,
+        arms: Span,
+        other: List,
+        at: At,
+        visible: &mut [i64],
+        own: &mut [Option<i64>],
+        below: &mut [Option<i64>],
+        turns: &mut [Turn],
+        scratch: &mut [i64],
+    ) -> Result<Flow, Stop>
+        requires { HasRoom self.now at (length below.old) (length turns.old) (length scratch.old) }
+        ensures { RunsStmt self.now k (If arms other) at (frame_in visible.old own.old) result
+            (frame_in visible.new own.new) }
+    {
+        match self.arm_of(arms, at.first, visible, own, scratch) {
+            Ok(Some(body)) => {
+                let body = body.before(k);
+                self.run_list(body, at, visible, own, below, turns, scratch)
+            }
+            Ok(None) => {
+                let body = other.before(k);
+                self.run_list(body, at, visible, own, below, turns, scratch)
+            }
+            Err(stop) => Err(stop),
+        }
+    }
+
+    /// Runs a CASE, the statement of this number.
+    #[cycle(run)]
+    fn run_case(
+        &self,
+        k: u32,
+        selector: u32,
+        branches: Span,
+        other: List,
+        at: At,
+        visible: &mut [i64],
+        own: &mut [Option<i64>],
+        below: &mut [Option<i64>],
+        turns: &mut [Turn],
+        scratch: &mut [i64],
+    ) -> Result<Flow, Stop>
+        requires { HasRoom self.now at (length below.old) (length turns.old) (length scratch.old) }
+        ensures { RunsStmt self.now k (Case selector branches other) at (frame_in visible.old own.old) result
+            (frame_in visible.new own.new) }
+    {
+        match self.value(selector, at.first, visible, own, scratch) {
+            Ok(v) => match self.branch_of(branches, v) {
+                Some(body) => {
+                    let body = body.before(k);
+                    self.run_list(body, at, visible, own, below, turns, scratch)
+                }
+                None => {
+                    let body = other.before(k);
+                    self.run_list(body, at, visible, own, below, turns, scratch)
+                }
+            },
+            Err(stop) => Err(stop),
+        }
+    }
+
+    /// Runs a FOR, the statement of this number.
+    #[cycle(run)]
+    fn run_counted(
+        &self,
+        k: u32,
+        counting: &Counting,
+        body: List,
+        place: Place,
+        at: At,
+        visible: &mut [i64],
+        own: &mut [Option<i64>],
+        below: &mut [Option<i64>],
+        turns: &mut [Turn],
+        scratch: &mut [i64],
+    ) -> Result<Flow, Stop>
+        requires { HasRoom self.now at (length below.old) (length turns.old) (length scratch.old) }
+        ensures { RunsStmt self.now k (For counting.now body place) at (frame_in visible.old own.old) result
+            (frame_in visible.new own.new) }
+    {
+        match self.begin(counting, at.first, visible, own, scratch) {
+            Ok(begun) => {
+                let body = body.before(k);
+                self.run_for(
+                    body, &begun, counting, place, at, visible, own, below, turns, scratch,
+                )
+            }
+            Err(stop) => Err(stop),
         }
     }
 

@@ -245,102 +245,124 @@ run_for-loop-turn-preserved t c =
     (body_of source c.args.at block trees) (c.args.self.now.bound - (c.loop-turn.turn + 1)) n stepped) (sym
     (to_z-of_z w128 c.in-Ok-step.next fits))
 
-pub run_other-returns-in-Ok-Some-arm_of : goal.run_other-returns-in-Ok-Some-arm_of
-run_other-returns-in-Ok-Some-arm_of t c =
+pub run_if-returns-in-Ok-Some : goal.run_if-returns-in-Ok-Some
+run_if-returns-in-Ok-Some t c =
     λ source block tree program is.
-    if_runs_arm (subst (λ x. IsStmt source block c.args.self.now c.args.k x tree) c.in-If.is is) (calls_within source c.args.at.calls)
-    (activation block c.args.at.first) (frame_in c.args.visible.now c.args.own.now) c.in-Ok-Some-arm_of.body
+    if_runs_arm is (calls_within source c.args.at.calls)
+    (activation block c.args.at.first) (frame_in c.args.visible.now c.args.own.now) c.in-Ok-Some.body
     (λ trees are. subst (λ o. Chooses source block c.args.self.now c.args.k (Ok o) (arm_chosen source (activation block c.args.at.first)
     (frame_in c.args.visible.now c.args.own.now) trees))
-    c.in-Ok-Some-arm_of.field-0-is (c.in-Ok-Some-arm_of.ensures source block c.args.k trees are)) _ c.before-in-Ok-Some-arm_of.result
-    c.before-in-Ok-Some-arm_of.ensures.same
+    c.in-Ok-Some.field-0-is (c.in-Ok-Some.ensures source block c.args.k trees are)) _ c.before-body.result c.before-body.ensures.same
     (λ trees are. c.run_list.ensures source block trees program are)
 
-pub run_other-returns-in-Ok-None-arm_of : goal.run_other-returns-in-Ok-None-arm_of
-run_other-returns-in-Ok-None-arm_of t c =
+pub run_if-returns-in-Ok-None : goal.run_if-returns-in-Ok-None
+run_if-returns-in-Ok-None t c =
     λ source block tree program is.
-    if_runs_other (subst (λ x. IsStmt source block c.args.self.now c.args.k x tree) c.in-If.is is) (calls_within source c.args.at.calls)
+    if_runs_other is (calls_within source c.args.at.calls)
     (activation block c.args.at.first) (frame_in c.args.visible.now c.args.own.now)
     (λ trees are. subst (λ o. Chooses source block c.args.self.now c.args.k (Ok o) (arm_chosen source (activation block c.args.at.first)
     (frame_in c.args.visible.now c.args.own.now) trees))
-    c.in-Ok-None-arm_of.field-0-is (c.in-Ok-None-arm_of.ensures source block c.args.k trees are)) _ c.before-in-Ok-None-arm_of.result
-    c.before-in-Ok-None-arm_of.ensures.same
-    (λ trees are. c.run_list-in-Ok-None-arm_of.ensures source block trees program are)
+    c.in-Ok-None.field-0-is (c.in-Ok-None.ensures source block c.args.k trees are)) _ c.before-body-in-Ok-None.result
+    c.before-body-in-Ok-None.ensures.same
+    (λ trees are. c.run_list-in-Ok-None.ensures source block trees program are)
 
-pub run_other-returns-in-Err-arm_of : goal.run_other-returns-in-Err-arm_of
-run_other-returns-in-Err-arm_of t c =
+pub run_if-returns-in-Err : goal.run_if-returns-in-Err
+run_if-returns-in-Err t c =
     λ source block tree program is.
-    if_stops (subst (λ x. IsStmt source block c.args.self.now c.args.k x tree) c.in-If.is is) (calls_within source c.args.at.calls)
-    (activation block c.args.at.first) (frame_in c.args.visible.now c.args.own.now) c.in-Err-arm_of.stop
-    (λ trees are. c.in-Err-arm_of.ensures source block c.args.k trees are)
+    if_stops is (calls_within source c.args.at.calls)
+    (activation block c.args.at.first) (frame_in c.args.visible.now c.args.own.now) c.in-Err.stop
+    (λ trees are. c.in-Err.ensures source block c.args.k trees are)
 
-pub run_other-returns-in-Some : goal.run_other-returns-in-Some
-run_other-returns-in-Some t c =
+pub run_case-returns-in-Some : goal.run_case-returns-in-Some
+run_case-returns-in-Some t c =
     λ source block tree program is.
     let fits : FitsSigned w64 c.in-Ok.v = search rules in
-    case_runs_branch (subst (λ x. IsStmt source block c.args.self.now c.args.k x tree) c.in-Case.is is)
-    (calls_within source c.args.at.calls) (frame_in c.args.visible.now c.args.own.now) c.in-Ok.v c.in-Some.body
+    case_runs_branch is (calls_within source c.args.at.calls) (frame_in c.args.visible.now c.args.own.now) c.in-Ok.v c.in-Some.body
     (λ e value. c.in-Ok.ensures source block e value) (λ trees are. subst (λ x. ChoosesBranch source block c.args.self.now c.args.k
     (Some c.in-Some.body)
     (branch_chosen (activation block c.args.at.first) x trees)) (to_z-of_z w64 c.in-Ok.v fits)
-    (c.in-Some.ensures source block c.args.k c.args.at.first trees are)) _ c.before-in-Some.result c.before-in-Some.ensures.same
-    (λ trees are. c.run_list-in-Some.ensures source block trees program are)
+    (c.in-Some.ensures source block c.args.k c.args.at.first trees are)) _ c.before-body.result c.before-body.ensures.same
+    (λ trees are. c.run_list.ensures source block trees program are)
 
-pub run_other-returns-in-None : goal.run_other-returns-in-None
-run_other-returns-in-None t c =
+pub run_case-returns-in-None : goal.run_case-returns-in-None
+run_case-returns-in-None t c =
     λ source block tree program is.
     let fits : FitsSigned w64 c.in-Ok.v = search rules in
-    case_runs_other (subst (λ x. IsStmt source block c.args.self.now c.args.k x tree) c.in-Case.is is) (calls_within source c.args.at.calls)
-    (frame_in c.args.visible.now c.args.own.now) c.in-Ok.v
+    case_runs_other is (calls_within source c.args.at.calls) (frame_in c.args.visible.now c.args.own.now) c.in-Ok.v
     (λ e value. c.in-Ok.ensures source block e value) (λ trees are. subst (λ x. branch_chosen
     (activation block c.args.at.first) x trees ≡ None) (to_z-of_z w64 c.in-Ok.v fits)
-    (c.in-None.ensures source block c.args.k c.args.at.first trees are)) _ c.before-in-None.result c.before-in-None.ensures.same
+    (c.in-None.ensures source block c.args.k c.args.at.first trees are)) _ c.before-body-in-None.result c.before-body-in-None.ensures.same
     (λ trees are. c.run_list-in-None.ensures source block trees program are)
 
-pub run_other-returns-in-Err-value : goal.run_other-returns-in-Err-value
-run_other-returns-in-Err-value t c =
+pub run_case-returns-in-Err : goal.run_case-returns-in-Err
+run_case-returns-in-Err t c =
     λ source block tree program is.
-    case_stops (subst (λ x. IsStmt source block c.args.self.now c.args.k x tree) c.in-Case.is is) (calls_within source c.args.at.calls)
-    (frame_in c.args.visible.now c.args.own.now) c.in-Err-value.stop (λ e value. c.in-Err-value.ensures source block e value)
+    case_stops is (calls_within source c.args.at.calls)
+    (frame_in c.args.visible.now c.args.own.now) c.in-Err.stop (λ e value. c.in-Err.ensures source block e value)
 
-pub run_other-returns-in-Ok-begin : goal.run_other-returns-in-Ok-begin
-run_other-returns-in-Ok-begin t c =
+pub run_counted-returns-in-Ok : goal.run_counted-returns-in-Ok
+run_counted-returns-in-Ok t c =
     λ source block tree program is.
-    for_runs (subst (λ x. IsStmt source block c.args.self.now c.args.k x tree) c.in-For.is is) (calls_within source c.args.at.calls)
-    (frame_in c.args.visible.now c.args.own.now) (frame_in c.begin.new.visible c.begin.new.brief) c.in-Ok-begin.begun
-    (λ name at a b by counts. c.in-Ok-begin.ensures.value source block name at a b by program.types counts) _ c.before-in-Ok-begin.result
-    c.before-in-Ok-begin.ensures.same
+    for_runs is (calls_within source c.args.at.calls)
+    (frame_in c.args.visible.now c.args.own.now) (frame_in c.begin.new.visible c.begin.new.brief) c.in-Ok.begun
+    (λ name at a b by counts. c.in-Ok.ensures.value source block name at a b by program.types counts) _ c.before-body.result
+    c.before-body.ensures.same
     (λ trees are. c.run_for.ensures source block trees program are)
 
-pub run_other-returns-in-Err-begin : goal.run_other-returns-in-Err-begin
-run_other-returns-in-Err-begin t c =
+pub run_counted-returns-in-Err : goal.run_counted-returns-in-Err
+run_counted-returns-in-Err t c =
     λ source block tree program is.
-    for_unbegun (subst (λ x. IsStmt source block c.args.self.now c.args.k x tree) c.in-For.is is) (calls_within source c.args.at.calls)
-    (frame_in c.args.visible.now c.args.own.now) c.in-Err-begin.stop
-    (λ name at a b by counts. c.in-Err-begin.ensures.value source block name at a b by program.types counts)
+    for_unbegun is (calls_within source c.args.at.calls)
+    (frame_in c.args.visible.now c.args.own.now) c.in-Err.stop
+    (λ name at a b by counts. c.in-Err.ensures.value source block name at a b by program.types counts)
+
+pub run_called-returns-in-Err : goal.run_called-returns-in-Err
+run_called-returns-in-Err t c =
+    λ k source block tree program is.
+    call_stops is (calls_within source c.args.at.calls)
+    (activation block c.args.at.first) (frame_in c.args.visible.now c.args.own.now) c.in-Err.stop
+    (λ site called. c.in-Err.ensures source block site program called)
+
+pub run_other-returns-in-AssignCall : goal.run_other-returns-in-AssignCall
+run_other-returns-in-AssignCall t c =
+    λ source block tree program is.
+    c.run_assigned.ensures c.args.k source block tree program (subst (λ x. IsStmt source block c.args.self.now c.args.k x tree) c.in-AssignCall.is is)
+
+pub run_other-returns-in-If : goal.run_other-returns-in-If
+run_other-returns-in-If t c =
+    λ source block tree program is.
+    c.run_if.ensures source block tree program (subst (λ x. IsStmt source block c.args.self.now c.args.k x tree) c.in-If.is is)
+
+pub run_other-returns-in-Case : goal.run_other-returns-in-Case
+run_other-returns-in-Case t c =
+    λ source block tree program is.
+    c.run_case.ensures source block tree program (subst (λ x. IsStmt source block c.args.self.now c.args.k x tree) c.in-Case.is is)
+
+pub run_other-returns-in-For : goal.run_other-returns-in-For
+run_other-returns-in-For t c =
+    λ source block tree program is.
+    c.run_counted.ensures source block tree program (subst (λ x. IsStmt source block c.args.self.now c.args.k x tree) c.in-For.is is)
+
+pub run_other-returns-in-Call : goal.run_other-returns-in-Call
+run_other-returns-in-Call t c =
+    λ source block tree program is.
+    c.run_called.ensures c.args.k source block tree program (subst (λ x. IsStmt source block c.args.self.now c.args.k x tree) c.in-Call.is is)
 
 pub run_other-returns-in-While : goal.run_other-returns-in-While
 run_other-returns-in-While t c =
     λ source block tree program is.
     while_runs (subst (λ x. IsStmt source block c.args.self.now c.args.k x tree) c.in-While.is is) (calls_within source c.args.at.calls)
-    (activation block c.args.at.first) (frame_in c.args.visible.now c.args.own.now) _ c.before-in-While.result
-    c.before-in-While.ensures.same
+    (activation block c.args.at.first) (frame_in c.args.visible.now c.args.own.now) _ c.before-body.result
+    c.before-body.ensures.same
     (λ e trees value are. c.run_while.ensures source block e trees program value are)
 
 pub run_other-returns-in-Repeat : goal.run_other-returns-in-Repeat
 run_other-returns-in-Repeat t c =
     λ source block tree program is.
     repeat_runs (subst (λ x. IsStmt source block c.args.self.now c.args.k x tree) c.in-Repeat.is is) (calls_within source c.args.at.calls)
-    (activation block c.args.at.first) (frame_in c.args.visible.now c.args.own.now) _ c.before-in-Repeat.result
-    c.before-in-Repeat.ensures.same
+    (activation block c.args.at.first) (frame_in c.args.visible.now c.args.own.now) _ c.before-body-in-Repeat.result
+    c.before-body-in-Repeat.ensures.same
     (λ e trees value are. c.run_repeat.ensures source block e trees program value are)
-
-pub run_other-returns-in-Err-run_call : goal.run_other-returns-in-Err-run_call
-run_other-returns-in-Err-run_call t c =
-    λ source block tree program is.
-    call_stops (subst (λ x. IsStmt source block c.args.self.now c.args.k x tree) c.in-Call.is is) (calls_within source c.args.at.calls)
-    (activation block c.args.at.first) (frame_in c.args.visible.now c.args.own.now) c.in-Err-run_call.stop
-    (λ site called. c.in-Err-run_call.ensures source block site program called)
 
 pub run_block-returns-in-Err : goal.run_block-returns-in-Err
 run_block-returns-in-Err t c =

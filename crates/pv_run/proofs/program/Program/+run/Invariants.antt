@@ -39,6 +39,21 @@ decreases-run_stmt l = l.at.calls * 2 ^ 40 + 8 * l.k + 5
 abbrev pub decreases-run_other : goal.decreases-run_other
 decreases-run_other l = l.at.calls * 2 ^ 40 + 8 * l.k + 4
 
+abbrev pub decreases-run_called : goal.decreases-run_called
+decreases-run_called l = l.at.calls * 2 ^ 40 + 3
+
+abbrev pub decreases-run_assigned : goal.decreases-run_assigned
+decreases-run_assigned l = l.at.calls * 2 ^ 40 + 3
+
+abbrev pub decreases-run_if : goal.decreases-run_if
+decreases-run_if l = l.at.calls * 2 ^ 40 + 8 * l.k + 3
+
+abbrev pub decreases-run_case : goal.decreases-run_case
+decreases-run_case l = l.at.calls * 2 ^ 40 + 8 * l.k + 3
+
+abbrev pub decreases-run_counted : goal.decreases-run_counted
+decreases-run_counted l = l.at.calls * 2 ^ 40 + 8 * l.k + 3
+
 abbrev pub decreases-run_while : goal.decreases-run_while
 decreases-run_while l = l.at.calls * 2 ^ 40 + 8 * l.body.end + 1
 

@@ -6,7 +6,7 @@ use Rattle.pv_mean.specs.Layout.{is_brief_in}
 use Rattle.pv_mean.specs.LaidOut.{test_of}
 use Rattle.pv_mean.specs.Sized.{sized_project}
 use Rattle.pv_resolve.proofs.Tabling.{finds_in}
-use Rattle.pv_resolve.proofs.firsts.Firsts.of_block.Goals as goal
+use Rattle.pv_resolve.proofs.firsts.FirstCells.of_block.Goals as goal
 
 pub returns : goal.returns
 returns c =

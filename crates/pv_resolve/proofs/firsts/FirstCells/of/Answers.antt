@@ -2,7 +2,7 @@ use Rattle.std.proofs.Common.{subst}
 use Rattle.std.proofs.lemmas.Result.{IfOk-weaker}
 use Rattle.pv_tree.specs.View.{block_tree}
 use Rattle.pv_resolve.specs.Firsts.{AreFirsts}
-use Rattle.pv_resolve.proofs.firsts.Firsts.of.Goals as goal
+use Rattle.pv_resolve.proofs.firsts.FirstCells.of.Goals as goal
 
 pub returns : goal.returns
 returns c = λ source is. IfOk-weaker c.of_block.result _ _
