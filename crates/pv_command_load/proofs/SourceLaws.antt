@@ -3,7 +3,6 @@ use Rattle.std.proofs.Common.{◌≡◌, ◌≤◌, ◌<◌, ◌+◌, ℕ, zero,
 use Rattle.std.specs.Prelude.{slice_index_or, IsAscii, Contains}
 use Rattle.pv_place.specs.declared.place.Place.{Place}
 use Rattle.pv_lex.specs.declared.token.Language.{Language}
-use Rattle.pv_lex.specs.declared.token.Language.TheVariants.{Scl, Stl}
 use Rattle.pv_lex.specs.declared.token.Token.{Token}
 use Rattle.pv_lex.specs.Tokens.{AreTokens, LieFrom}
 use Rattle.pv_lex.proofs.ForCallers.{tokens-lie}
@@ -11,9 +10,7 @@ use Rattle.pv_tree.specs.Lexemes.{lexeme_of, lexemes_of}
 use Rattle.pv_tree.specs.Outside.{IsFirstOutside}
 use Rattle.pv_parse.specs.declared.fault.ParseFault.{ParseFault}
 use Rattle.pv_parse.specs.declared.fault.ParseFault.TheVariants as parse_fault
-use Rattle.pv_scl_parse.specs.Answers as scl
-use Rattle.pv_scl_parse.specs.SourceAnswers as scl_source
-use Rattle.pv_stl_parse.specs.Answers as stl
+use Rattle.pv_parse_source.specs.Parsing.{AnswersParse, IsOutsideAt}
 use Rattle.pv_command_load.specs.Passing.{IsWordAt}
 use Rattle.pv_command_load.proofs.AsciiLaws.{outside_ascii}
 
@@ -44,20 +41,12 @@ word_there its file bytes tokens token place len cut there first placed long =
           (outside_ascii its file bytes tokens (lexeme_of bytes token) cut first);
     }
 
--- by what the readers answer
+-- by what a reader answers
 
-pub scl_word : (file : ℕ) (bytes text : List ℕ) (tokens : List Token) → text ≡ bytes → AreTokens Scl file bytes tokens
-    → (fault : ParseFault) → scl_source.AnswersParse text tokens (Err fault) → (place : Place) (len : ℕ) → fault ≡ parse_fault.Outside place len
+pub word_told : (its : Language) (file : ℕ) (bytes text : List ℕ) (tokens : List Token) → text ≡ bytes → AreTokens its file bytes tokens
+    → (fault : ParseFault) → AnswersParse its text tokens (Err fault) → (place : Place) (len : ℕ) → fault ≡ parse_fault.Outside place len
     → IsWordAt bytes place len
-scl_word file bytes text tokens same cut fault h place len e =
-    let here : scl_source.AnswersParse bytes tokens (Err fault) = subst (λ t. scl_source.AnswersParse t tokens (Err fault)) same h in
-    let is : scl.IsOutsideAt bytes tokens place len = subst (λ f. scl_source.AnswersParse bytes tokens (Err f)) e here in
-    word_there Scl file bytes tokens is.token place len cut is.there is.first is.placed is.long
-
-pub stl_word : (file : ℕ) (bytes text : List ℕ) (tokens : List Token) → text ≡ bytes → AreTokens Stl file bytes tokens
-    → (fault : ParseFault) → stl.AnswersParse text tokens (Err fault) → (place : Place) (len : ℕ) → fault ≡ parse_fault.Outside place len
-    → IsWordAt bytes place len
-stl_word file bytes text tokens same cut fault h place len e =
-    let here : stl.AnswersParse bytes tokens (Err fault) = subst (λ t. stl.AnswersParse t tokens (Err fault)) same h in
-    let is : stl.IsOutsideAt bytes tokens place len = subst (λ f. stl.AnswersParse bytes tokens (Err f)) e here in
-    word_there Stl file bytes tokens is.token place len cut is.there is.first is.placed is.long
+word_told its file bytes text tokens same cut fault h place len e =
+    let here : AnswersParse its bytes tokens (Err fault) = subst (λ t. AnswersParse its t tokens (Err fault)) same h in
+    let is : IsOutsideAt its bytes tokens place len = subst (λ f. AnswersParse its bytes tokens (Err f)) e here in
+    word_there its file bytes tokens is.token place len cut is.there is.first is.placed is.long

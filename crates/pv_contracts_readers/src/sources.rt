@@ -4,11 +4,10 @@ ghost use Rattle.pv_lex.specs.declared.token.Language.TheVariants.{Scl, Stl};
 ghost use Rattle.pv_lex.specs.Tokens.{AreTokens};
 ghost use Rattle.pv_ll.specs.Check.{is_ll1};
 ghost use Rattle.pv_ll.specs.Table.{grammar_of};
+ghost use Rattle.pv_parse_source.specs.Parsing.{AnswersParse};
 ghost use Rattle.pv_scl_parse.specs.SclGrammar.{scl_grammar};
 ghost use Rattle.pv_scl_parse.specs.Answers.{AnswersExpression};
-ghost use Rattle.pv_scl_parse.specs.SourceAnswers.{AnswersParse as AnswersScl};
 ghost use Rattle.pv_stl_parse.specs.StlGrammar.{stl_grammar};
-ghost use Rattle.pv_stl_parse.specs.Answers.{AnswersParse as AnswersStl};
 
 use pv_lex::Token;
 use pv_ll::Language;
@@ -27,7 +26,7 @@ pub fn expression(alloc: Global, text: &[u8], tokens: &[Token]) -> Result<Expr, 
 /// [`pv_scl_parse::parse`].
 pub fn scl_source(alloc: Global, text: &[u8], tokens: &[Token]) -> Result<Blocks, ParseFault>
     requires { (file : ℕ) × AreTokens Scl file text.now tokens.now }
-    ensures { AnswersScl text.now tokens.now result }
+    ensures { AnswersParse Scl text.now tokens.now result }
 {
     pv_scl_parse::parse(alloc, text, tokens)
 }
@@ -35,7 +34,7 @@ pub fn scl_source(alloc: Global, text: &[u8], tokens: &[Token]) -> Result<Blocks
 /// [`pv_stl_parse::parse`].
 pub fn stl_source(alloc: Global, text: &[u8], tokens: &[Token]) -> Result<Blocks, ParseFault>
     requires { (file : ℕ) × AreTokens Stl file text.now tokens.now }
-    ensures { AnswersStl text.now tokens.now result }
+    ensures { AnswersParse Stl text.now tokens.now result }
 {
     pv_stl_parse::parse(alloc, text, tokens)
 }

@@ -113,8 +113,8 @@ fn is_numbered(key: &[u8]) -> bool
         || has_number_behind(b"udt".as_slice(), key)
 }
 
-/// Whether a name is an unquoted word.
-fn is_word(name: &Name) -> bool
+/// Whether a name is an unquoted word, as opposed to a quoted, a paired (`FB 1`) or a numbered one (`FB1`).
+pub fn is_word(name: &Name) -> bool
     ensures { result ≡ callees.is_word name.now }
 {
     !is_quoted(name) && !(name.paired || is_numbered(name.key.bytes()))

@@ -13,3 +13,5 @@ pub use Rattle.pv_parse_source.proofs.StmtMarks.{marks-stmts}
 pub use Rattle.pv_parse_source.proofs.InstrMarks.{marks-instrs}
 pub use Rattle.pv_parse_source.proofs.Followed.{are_followed, all_followed}
 pub use Rattle.pv_parse_source.proofs.ShadedSources.{shaded_source}
+-- the tokens before the end of a text
+pub use Rattle.pv_parse_source.proofs.Endings.{Ends, ends, ended, stands, kinds_before, order_before}

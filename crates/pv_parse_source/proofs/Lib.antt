@@ -20,4 +20,6 @@ pub mod Followed
 pub mod ShadedSources
 pub mod Answering
 pub mod SourceReadings
+pub mod Endings
+pub mod SourceEndings
 pub mod ForCallers

@@ -1,2 +1,3 @@
--- what private clauses cite
+-- what public clauses cite
 pub mod SourceAnswers
+pub mod Parsing

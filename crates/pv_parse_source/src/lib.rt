@@ -6,11 +6,13 @@ mod builder;
 mod copies;
 mod decl_texts;
 mod declarations;
+mod parse;
 mod pops;
 mod reading;
 mod sources;
 mod variables;
 
 pub use builder::build;
+pub use parse::parse_source;
 pub use reading::read_expression;
 pub use sources::read_source;

@@ -2,5 +2,3 @@
 -- the table of SCL reads sources and expressions: its derivations make their trees
 pub use Rattle.pv_scl_parse.proofs.SclReads.{scl_reads}
 pub use Rattle.pv_scl_parse.proofs.Starts.{reads_expressions}
--- the tokens before the end of a text
-pub use Rattle.pv_scl_parse.proofs.Endings.{Ends, ends, ended, kinds_before, order_before}

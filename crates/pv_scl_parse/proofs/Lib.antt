@@ -22,5 +22,4 @@ pub mod BodyRuns
 pub mod SclCasts
 pub mod Whole
 pub mod SclReads
-pub mod SourceEndings
 pub mod ForCallers

@@ -17,6 +17,4 @@ pub mod InstrRuns
 pub mod BodyRuns
 pub mod StlCasts
 pub mod Whole
-pub mod Endings
-pub mod SourceEndings
 pub mod ForCallers

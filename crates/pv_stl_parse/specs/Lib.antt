@@ -1,7 +1,6 @@
 -- what public clauses cite
 pub mod OwnNames
 pub mod StlGrammar
-pub mod Answers
 -- what private ones cite
 pub mod OwnBodies
 pub mod StlActions

@@ -1,8 +1,10 @@
 use Rattle.std.proofs.Common.{Err, subst}
+use Rattle.pv_lex.specs.declared.token.Language.TheVariants.{Scl}
 use Rattle.pv_tree.specs.View.{expr_tree}
 use Rattle.pv_tree.specs.Lexemes.{lexemes_of}
 use Rattle.pv_parse.specs.ExprAnswers.{AnswersExpression}
-use Rattle.pv_scl_parse.proofs.Endings.{ends, kinds_before, order_before, only_expression, fault_at, too_deep}
+use Rattle.pv_parse_source.proofs.ForCallers.{ends, kinds_before, order_before}
+use Rattle.pv_scl_parse.proofs.Endings.{only_expression, fault_at, too_deep}
 use Rattle.pv_scl_parse.proofs.Starts.{reads_expressions}
 use Rattle.pv_scl_parse.proofs.reading.expression.Goals as goal
 
@@ -15,13 +17,13 @@ pub read_expression-requires-clause-tokens : goal.read_expression-requires-claus
 read_expression-requires-clause-tokens c =
     let text = c.args.text.now in
     let inner = c.split_at.result.0.now in
-    kinds_before c.requires.0 text c.args.tokens.now inner c.requires.1 (ends c.requires.0 text c.args.tokens.now inner c.requires.1 c.split_at.ensures.front)
+    kinds_before Scl c.requires.0 text c.args.tokens.now inner c.requires.1 (ends c.requires.0 text c.args.tokens.now inner c.requires.1 c.split_at.ensures.front)
 
 pub read_expression-requires-clause-order : goal.read_expression-requires-clause-order
 read_expression-requires-clause-order c =
     let text = c.args.text.now in
     let inner = c.split_at.result.0.now in
-    order_before c.requires.0 text c.args.tokens.now inner c.requires.1 (ends c.requires.0 text c.args.tokens.now inner c.requires.1 c.split_at.ensures.front)
+    order_before Scl c.requires.0 text c.args.tokens.now inner c.requires.1 (ends c.requires.0 text c.args.tokens.now inner c.requires.1 c.split_at.ensures.front)
 
 pub returns-in-Ok : goal.returns-in-Ok
 returns-in-Ok c =

@@ -5,7 +5,7 @@ use Rattle.std.proofs.lemmas.List.{map-append, length-append}
 use Rattle.std.proofs.Math.Seq.{take-append_seam}
 use Rattle.pv_lex.specs.declared.token.Token.{Token}
 use Rattle.pv_lex.specs.declared.token.Kind.TheVariants.{End}
-use Rattle.pv_lex.specs.declared.token.Language.TheVariants.{Stl}
+use Rattle.pv_lex.specs.declared.token.Language.{Language as Of}
 use Rattle.pv_lex.specs.Tokens.{AreTokens, token_at, LieFrom}
 use Rattle.pv_lex.proofs.ForCallers.{tokens-last, tokens-lie}
 use Rattle.pv_tree.specs.Lexemes.{Lexeme, lexeme_of, lexemes_of}
@@ -24,10 +24,10 @@ pub record Ends (text : List ℕ) (tokens inner : List Token) : Type 0 where
   pub parts : tokens ≡ inner ++ last ∷ []
   ends : last.kind ≡ End
 
-pub ends : (file : ℕ) (text : List ℕ) (tokens inner : List Token) → AreTokens Stl file text tokens → inner ≡ take (length tokens - 1) tokens
+pub ends : (its : Of) (file : ℕ) (text : List ℕ) (tokens inner : List Token) → AreTokens its file text tokens → inner ≡ take (length tokens - 1) tokens
     → Ends text tokens inner
-ends file text tokens inner are cut =
-    let l = tokens-last Stl file text tokens are in
+ends its file text tokens inner are cut =
+    let l = tokens-last its file text tokens are in
     let last = token_at file (length text) End [] in
     let len : length tokens - 1 ≡ length l.0 = omega (arith, ap length l.1, length-append l.0 (last ∷ [])) in
     let front : inner ≡ l.0 =
@@ -46,11 +46,11 @@ parted : (text : List ℕ) (tokens inner : List Token) (e : Ends text tokens inn
     → lexemes_of text tokens ≡ lexemes_of text inner ++ lexeme_of text e.last ∷ []
 parted text tokens inner e = ap (λ ts. map (lexeme_of text) ts) e.parts ∙ map-append (lexeme_of text) inner (e.last ∷ [])
 
-pub kinds_before : (file : ℕ) (text : List ℕ) (tokens inner : List Token) → AreTokens Stl file text tokens → Ends text tokens inner
+pub kinds_before : (its : Of) (file : ℕ) (text : List ℕ) (tokens inner : List Token) → AreTokens its file text tokens → Ends text tokens inner
     → HaveKinds (lexemes_of text inner) (kinds_of false (lexemes_of text inner))
-kinds_before file text tokens inner are e =
+kinds_before its file text tokens inner are e =
     have-kinds false (lexemes_of text inner)
-    (sound_front (lexemes_of text inner) (lexeme_of text e.last ∷ []) (subst (λ ts. AreSound ts) (parted text tokens inner e) (tokens-sound Stl file text tokens are)))
+    (sound_front (lexemes_of text inner) (lexeme_of text e.last ∷ []) (subst (λ ts. AreSound ts) (parted text tokens inner e) (tokens-sound its file text tokens are)))
 
 pub stands : (f : Token → Lexeme) (xs : List Token) (i : ℕ) (d : Token) → i < length xs → slice_get (map f xs) i ≡ Some (f (get_or xs i d))
 stands f [] i d lt = absurd (omega (arith, lt))
@@ -70,9 +70,9 @@ order_front : (at : ℕ) (a b : List Lexeme) → LieInOrder at (a ++ b) → LieI
 order_front at [] b h = tt
 order_front at (t ∷ a) b h = (h.0, order_front t.place.offset a b h.1)
 
-pub order_before : (file : ℕ) (text : List ℕ) (tokens inner : List Token) → AreTokens Stl file text tokens → Ends text tokens inner
+pub order_before : (its : Of) (file : ℕ) (text : List ℕ) (tokens inner : List Token) → AreTokens its file text tokens → Ends text tokens inner
     → LieInOrder 0 (lexemes_of text inner)
-order_before file text tokens inner are e =
+order_before its file text tokens inner are e =
     order_front 0 (lexemes_of text inner) (lexeme_of text e.last ∷ [])
     (subst (λ ts. LieInOrder 0 ts) (parted text tokens inner e)
-    (in_order file 0 (length text) text tokens 0 (omega arith) (tokens-lie Stl file text tokens are)))
+    (in_order file 0 (length text) text tokens 0 (omega arith) (tokens-lie its file text tokens are)))
