@@ -20,7 +20,8 @@ use Rattle.pv_tree.specs.Scopes.{ProjectTree, Scope}
 use Rattle.pv_tree.specs.Parts.{Spot, conditions_of, parts_of_operand, parts_of_stmt, parts_of_instruction, parts_of_block, reads_of_parts, spots_of_body, instructions_of, starts_of, target_of, assigned_operands, instruction_operands, operands_of}
 use Rattle.pv_mean.specs.AreaBytes.{bytes_of_operand, all_operands}
 use Rattle.pv_bytes.specs.Numbers.{flag_at}
-use Rattle.pv_bytes.specs.Operands.{operands_in, operands_in_args, operands_within, operands_in_steps, operands_in_step, operands_in_stmt, operands_in_instr, names_byte, MarksAlso}
+use Rattle.pv_tree.specs.Operands.{operands_in, operands_in_args, operands_within, operands_in_steps, operands_in_step}
+use Rattle.pv_bytes.specs.Operands.{operands_in_stmt, operands_in_instr, names_byte, MarksAlso}
 use Rattle.pv_bytes.specs.Statements.{stmts_of_spots}
 use Rattle.pv_bytes.proofs.Marking.{also_same, also_then}
 use Rattle.pv_bytes.proofs.Reading.{both, reads-each, reads-stmt, reads-instr, reads-operand}

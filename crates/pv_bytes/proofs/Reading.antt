@@ -11,7 +11,8 @@ use Rattle.pv_tree.specs.Types.{Written, signed, literal_of, sort_of, sorts_of}
 use Rattle.pv_tree.specs.Callees.{CallSite, as_statement, as_value, want_of_arg}
 use Rattle.pv_tree.specs.InstructionGroups.{operand_of_instruction}
 use Rattle.pv_tree.specs.Parts.{Part, parts_of, parts_of_args, parts_of_operand, parts_of_steps, parts_of_step, parts_of_call, parts_of_stmt, parts_of_instruction, reads_of_parts, operands_read, conditions_of, site, calls_of_instruction, want_of_target, want_of_counter}
-use Rattle.pv_bytes.specs.Operands.{operands_in, operands_in_args, operands_within, operands_in_steps, operands_in_step, operands_in_call, operands_in_stmt, operands_in_instr}
+use Rattle.pv_tree.specs.Operands.{operands_in, operands_in_args, operands_within, operands_in_steps, operands_in_step}
+use Rattle.pv_bytes.specs.Operands.{operands_in_call, operands_in_stmt, operands_in_instr}
 
 -- ---- a literal reads nothing
 

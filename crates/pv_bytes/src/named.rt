@@ -8,47 +8,17 @@ ghost use Rattle.pv_tree.specs.Parts as parts;
 ghost use Rattle.pv_tree.specs.View.{expr_tree, operand_tree, call_tree, stmt_tree, instr_tree, body_tree, block_tree};
 ghost use Rattle.pv_mean.specs.AreaBytes as bytes;
 ghost use Rattle.pv_mean.specs.ProjectSizes.{project_tree};
-ghost use Rattle.pv_bytes.specs.Operands.{operands_in, operands_within, operands_in_call, operands_in_stmt, operands_in_instr, MarksAlso};
+ghost use Rattle.pv_tree.specs.Operands.{operands_in, operands_within};
+ghost use Rattle.pv_bytes.specs.Operands.{operands_in_call, operands_in_stmt, operands_in_instr, MarksAlso};
 
 use crate::marks::Marks;
 use crate::statements::statements_of;
-use pv_tree::{Area, Block, Body, CallTree, Expr, Instr, Op, Operand, Project, Stmt};
+use pv_tree::{
+    Area, Block, Body, CallTree, Expr, Instr, Operand, Project, Stmt, operand_of_instruction,
+};
 use pv_types::{Literal, Name};
 use pv_word::Ty;
 use std::alloc::{AllocError, Global};
-
-/// Whether an instruction is a jump.
-fn is_jump(op: Op) -> bool
-    ensures { result ≡ groups.is_jump (groups.group_of op) }
-{
-    matches!(
-        op,
-        Op::Ju
-            | Op::Jc
-            | Op::Jcb
-            | Op::Jcn
-            | Op::Jnb
-            | Op::Jz
-            | Op::Jn
-            | Op::Jp
-            | Op::Jm
-            | Op::Jpz
-            | Op::Jmz
-            | Op::Jo
-            | Op::Loop
-    )
-}
-
-/// The operand that an instruction reads or writes.
-fn operand_of(instr: &Instr) -> Option<&Operand>
-    ensures { option_map (λ o. operand_tree o.now) result
-        ≡ groups.operand_of_instruction (instr_tree instr.now) }
-{
-    if is_jump(instr.op) {
-        return None;
-    }
-    instr.operand.as_ref()
-}
 
 /// The operand that a statement assigns.
 fn target_of(stmt: &Stmt) -> Option<&Operand>
@@ -199,7 +169,7 @@ impl Marks {
         ensures { MarksAlso area self.old.flags.items self.new.flags.items
             (operands_in_instr (instr_tree instr.now)) }
     {
-        self.mark_indexes_of(area, operand_of(instr));
+        self.mark_indexes_of(area, operand_of_instruction(instr));
         self.mark_call_of(area, instr);
     }
 
@@ -220,7 +190,7 @@ impl Marks {
             instrs.now) }
     {
         for instr in instrs {
-            self.mark_own_of(area, operand_of(instr));
+            self.mark_own_of(area, operand_of_instruction(instr));
         }
     }
 

@@ -8,7 +8,8 @@ ghost use Rattle.pv_tree.specs.Things as things;
 ghost use Rattle.pv_tree.specs.View.{expr_tree, exprs_of, operand_tree, step_tree};
 ghost use Rattle.pv_mean.specs.AreaBytes as bytes;
 ghost use Rattle.pv_bytes.specs.Numbers.{flag_at};
-ghost use Rattle.pv_bytes.specs.Operands.{operands_in, operands_in_args, operands_in_step, operands_within, MarksAlso};
+ghost use Rattle.pv_tree.specs.Operands.{operands_in, operands_in_args, operands_in_step, operands_within};
+ghost use Rattle.pv_bytes.specs.Operands.{MarksAlso};
 
 use crate::marks::Marks;
 use pv_tree::{Area, Expr, Operand, Root, Step};

@@ -1,7 +1,6 @@
 pub mod Results
 pub mod Pushing
 pub mod Sums
-pub mod TypeTables
 pub mod Leaves
 pub mod PlanParts
 pub mod Forming

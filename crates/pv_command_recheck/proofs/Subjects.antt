@@ -15,7 +15,8 @@ use Rattle.pv_bool_form.specs.FirstForm.{IsFirstExpr, IsFirstRoot, IsFirstBlock}
 use Rattle.pv_bool_form.specs.Programs.{alone, first_source}
 use Rattle.pv_pattern.specs.Patterns.{Pattern, invariant, expressions_of}
 use Rattle.pv_pattern.specs.Texts as texts
-use Rattle.pv_pattern.specs.Texts.{IsTextOf, operands_in, is_address_operand, addresses_in, AreNamed, Say}
+use Rattle.pv_tree.specs.Operands.{operands_in}
+use Rattle.pv_pattern.specs.Texts.{IsTextOf, is_address_operand, addresses_in, AreNamed, Say}
 use Rattle.pv_case.specs.Cases.{SymbolData}
 use Rattle.pv_case_fit.specs.Inputs.{numbers_of, bounds_of}
 use Rattle.pv_command_load.specs.Subjects.{Given, blocks_of, symbol_of, project_of, IsEntered, cells_of, scope_of, HasPattern, SubjectData, source_in, IsFitted}

@@ -1,24 +1,24 @@
 -- The named types of a project that keeps the rules: their names differ, so that a table has each, and no more of them stand inside one
 -- another than there are.
-use Rattle.std.proofs.Common.{◌≡◌, inl, inr, ℕ, zero, suc, ◌<◌, ◌≤◌, List, [], ◌∷◌, ◌++◌, Bool, true, false, cond, Option, Some, None, length, map, refl, sym, ap, ◌∙◌, subst, arith, append_assoc}
-use Rattle.std.specs.Prelude.{◌≢◌, ⊤, ◌||◌, filter, is_some, option_and_then, IsSome, MatchOption, Contains, bytes_eq}
+use Rattle.std.proofs.Common.{◌≡◌, inl, inr, ℕ, zero, suc, ◌≤◌, List, [], ◌∷◌, ◌++◌, Bool, true, false, cond, Option, Some, None, length, map, refl, sym, ap, ◌∙◌, subst, arith, append_assoc}
+use Rattle.std.specs.Prelude.{◌≢◌, ⊤, filter, is_some, option_and_then, IsSome, MatchOption, Contains, bytes_eq}
 use Rattle.std.proofs.lemmas.Bool.{true≢false, or_cases, cases_Bool}
 use Rattle.std.proofs.lemmas.Option.{none-some}
 use Rattle.std.proofs.lemmas.List.{append-nil}
-use Rattle.std.proofs.lemmas.List.Elements.{Contains-append_left, Contains-append_right}
+use Rattle.std.proofs.lemmas.List.Elements.{Contains-append_left}
 use Rattle.std.proofs.lemmas.Slice.Eq.{bytes_eq-Decides}
 use Rattle.pv_place.specs.declared.place.Place.{Place}
-use Rattle.pv_types.specs.Tree.{TypeTree, plain, array, structure, named, unread, VarTree, var, VarTrees, no_vars, _then_}
+use Rattle.pv_types.specs.Tree.{named}
 use Rattle.pv_types.specs.View.{listed}
-use Rattle.pv_types.specs.Named.{NamedType, look_up, with_type, AllNamed, AllNamedIn, NestsWithin}
+use Rattle.pv_types.specs.Named.{NamedType, look_up, with_type, AllNamedIn, NestsWithin}
 use Rattle.pv_tree.specs.Tree.{PlacedName, BlockTree}
 use Rattle.pv_tree.specs.Scopes.{ProjectTree, is_type, block_where, first_block, type_named}
 use Rattle.pv_tree.specs.NamedTypes.{named_type, types_of_project}
 use Rattle.pv_tree.specs.Interfaces.{IsLater}
-use Rattle.pv_tree.specs.Rules.{KeepsRules, doubled_name, missing_type}
-use Rattle.pv_tree.specs.Rules.MissingTypes.{names_in, names_in_vars, name_of_kind, named_within, Holds, at_once, within}
+use Rattle.pv_tree.specs.Rules.{KeepsRules, doubled_name}
+use Rattle.pv_tree.specs.Rules.MissingTypes.{names_in_vars, name_of_kind, Holds, at_once}
 use Rattle.pv_tree.specs.RuleLaws.{TypesAreGrounded}
-use Rattle.pv_tree.proofs.ForCallers.{type_contained, type_looked_up}
+use Rattle.pv_tree.proofs.ForCallers.{type_contained, type_looked_up, left, also, left_all, fewer, all_named_in, holds_then, named_by, some_of, grounded}
 use Rattle.pv_mean.specs.ProjectSizes.{with_block, with_blocks}
 use Rattle.pv_mean.specs.Visits.{enter, seeds_of, Awaits, Covered, AreThere, AllNest, IsOpen}
 
@@ -194,86 +194,7 @@ typed_first (b ∷ bs) key differ some = by (typed_first bs key differ.1) (bytes
           ap (λ c. option_and_then (block_where (λ x. is_type x.kind)) (cond c (Some b) (first_block bs key))) s ∙ found.1,
         )
 
--- ---- how many types are left
-
-abbrev left : (List ℕ → Bool) → List NamedType → ℕ
-left met [] = 0
-left met (t ∷ ts) = cond (met t.key) (left met ts) (suc (left met ts))
-
-abbrev also : List ℕ → (List ℕ → Bool) → List ℕ → Bool
-also key met other = bytes_eq key other || met other
-
-left_all : (ts : List NamedType) → left (λ k. false) ts ≡ length ts
-left_all [] = refl
-left_all (t ∷ ts) = ap suc (left_all ts)
-
-not_more_at : (a b : Bool) (m n : ℕ) → m ≤ n → cond (a || b) m (suc m) ≤ cond b n (suc n)
-not_more_at true true m n le = le
-not_more_at true false m n le = omega (arith, le)
-not_more_at false true m n le = le
-not_more_at false false m n le = omega (arith, le)
-
-not_more : (key : List ℕ) (met : List ℕ → Bool) (ts : List NamedType) → left (also key met) ts ≤ left met ts
-not_more key met [] = omega arith
-not_more key met (t ∷ ts) = not_more_at (bytes_eq key t.key) (met t.key) (left (also key met) ts) (left met ts) (not_more key met ts)
-
-fewer_at : (a b : Bool) (vars : List VarTree) (rest : Option (List VarTree)) (m n : ℕ) → m ≤ n → (a ≡ true → b ≡ false)
-    → IsSome (cond a (Some vars) rest)
-    → (IsSome rest → m < n)
-    → cond (a || b) m (suc m) < cond b n (suc n)
-fewer_at true true vars rest m n le f some more = absurd (true≢false (f refl))
-fewer_at true false vars rest m n le f some more = omega (arith, le)
-fewer_at false true vars rest m n le f some more = more some
-fewer_at false false vars rest m n le f some more = omega (arith, more some)
-
-fewer : (key : List ℕ) (met : List ℕ → Bool) (ts : List NamedType) → met key ≡ false → IsSome (look_up ts key)
-    → left (also key met) ts < left met ts
-fewer key met [] unmet some = absurd (true≢false (sym some))
-fewer key met (t ∷ ts) unmet some =
-    fewer_at (bytes_eq key t.key) (met t.key) t.vars (look_up ts key) (left (also key met) ts) (left met ts) (not_more key met ts)
-    (λ e. subst (λ k. met k ≡ false) ((bytes_eq-Decides key t.key).0 e) unmet) some (λ there. fewer key met ts unmet there)
-
--- ---- all names in a type
-
-mutual
-  all_named : (P : List ℕ → Type 0) (ty : TypeTree) → ((name : PlacedName) → Contains (names_in ty) name → P name.0.key) → AllNamed P ty
-  all_named P (plain ty) f = tt
-  all_named P (array low high of place) f = all_named P of f
-  all_named P (structure vars) f = all_named_in P vars f
-  all_named P (named name place) f = f (name, place) (contains_here (name, place) (name, place) [] refl)
-  all_named P unread f = tt
-
-  all_named_in : (P : List ℕ → Type 0) (vars : VarTrees) → ((name : PlacedName) → Contains (names_in_vars vars) name → P name.0.key)
-      → AllNamedIn P vars
-  all_named_in P no_vars f = tt
-  all_named_in P (_then_ (var name section ty start place) more) f = (
-    all_named P ty (λ n c. f n (Contains-append_left (names_in ty) (names_in_vars more) n c)),
-    all_named_in P more (λ n c. f n (Contains-append_right (names_in ty) (names_in_vars more) n c)),
-  )
-
 -- ---- types that nest
-
-holds_then : (project : ProjectTree) (outer middle inner : List ℕ) → Holds project outer middle → Contains (named_within project middle) inner
-    → Holds project outer inner
-holds_then project outer middle inner (at_once c) d = within c (at_once d)
-holds_then project outer middle inner (within c h) d = within c (holds_then project _ middle inner h d)
-
-named_by : (project : ProjectTree) (key : List ℕ) (b : BlockTree) (name : PlacedName) → type_named project key ≡ Some b
-    → Contains (names_in_vars (listed b.vars)) name
-    → Contains (named_within project key) name.0.key
-named_by project key b name e c =
-    subst (λ o. Contains (elim o [ None ↦ [] | Some x ↦ map (λ n. n.0.key) (names_in_vars (listed x.vars)) ]) name.0.key) (sym e)
-    (contains_map (λ n. n.0.key) (names_in_vars (listed b.vars)) name c)
-
-some_of : {X : Type 0} (o : Option X) → o ≢ None → (x : X) × (o ≡ Some x)
-some_of None not = absurd (not refl)
-some_of (Some x) not = (x, refl)
-
-grounded : (project : ProjectTree) → KeepsRules project → TypesAreGrounded project
-grounded project keeps = record {
-  there = λ block name b n none. keeps missing_type name.1 (b.0, block, b.1, b.2, (n.0, name, n.1, n.2, (refl, inl none)));
-  ends = λ block name b n holds. keeps missing_type name.1 (b.0, block, b.1, b.2, (n.0, name, n.1, n.2, (refl, inr holds)));
-}
 
 -- a type that isn't among those that were met, each of which leads to it
 nests : (project : ProjectTree) → TypesAreGrounded project → (n : ℕ) (met : List ℕ → Bool) (key : List ℕ) (b : BlockTree)

@@ -13,7 +13,8 @@ use Rattle.pv_tree.specs.declared.expr.Area.{Area as In}
 use Rattle.pv_tree.specs.declared.expr.Area.TheVariants.{I, Q, M}
 use Rattle.pv_tree.specs.declared.expr.Root.{Root}
 use Rattle.pv_tree.specs.declared.expr.Root.TheVariants.{Local, Named, Area}
-use Rattle.pv_tree.specs.Tree.{ExprTree, lit, read, unary, binary, std, paren, ExprTrees, no_exprs, exprs, OperandTree, operand, StepTree, field, index, StepTrees, no_steps, steps, BlockTree}
+use Rattle.pv_tree.specs.Tree.{ExprTree, OperandTree, operand, no_steps, BlockTree}
+use Rattle.pv_tree.specs.Operands.{operands_in}
 use Rattle.pv_tree.specs.Lexemes.{lexemes_of}
 use Rattle.pv_tree.specs.LiteralTypes.{nothing}
 use Rattle.pv_tree.specs.Scopes.{Scope, first_var}
@@ -32,33 +33,6 @@ pub record IsTextOf (text : List ℕ) (e : ExprTree) : Type 0 where
   pub tokens : List Token
   pub cut : AreTokens Scl 0 text tokens
   pub reads : IsReadExpression (lexemes_of text tokens) e
-
--- ---- operands
-
-abbrev mutual
-  -- what an expression reads, indexes included
-  pub operands_in : ExprTree → List OperandTree
-  operands_in (lit own value place) = []
-  operands_in (read o) = o ∷ operands_in_path o
-  operands_in (unary op place arg) = operands_in arg
-  operands_in (binary op place left right) = operands_in left ++ operands_in right
-  operands_in (std function place args) = operands_in_all args
-  operands_in (paren place inner) = operands_in inner
-
-  pub operands_in_all : ExprTrees → List OperandTree
-  operands_in_all no_exprs = []
-  operands_in_all (exprs e more) = operands_in e ++ operands_in_all more
-
-  pub operands_in_path : OperandTree → List OperandTree
-  operands_in_path (operand root path place) = operands_in_steps path
-
-  pub operands_in_steps : StepTrees → List OperandTree
-  operands_in_steps no_steps = []
-  operands_in_steps (steps step more) = operands_in_step step ++ operands_in_steps more
-
-  pub operands_in_step : StepTree → List OperandTree
-  operands_in_step (field name place) = []
-  operands_in_step (index e place) = operands_in e
 
 -- ---- brief cells
 

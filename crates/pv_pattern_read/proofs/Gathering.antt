@@ -10,7 +10,7 @@ use Rattle.pv_tree.specs.declared.expr.BinaryOp.{BinaryOp}
 use Rattle.pv_tree.specs.declared.expr.StdFunction.{StdFunction}
 use Rattle.pv_tree.specs.Tree.{ExprTree, binary, std, read, OperandTree, operand, StepTrees, steps}
 use Rattle.pv_tree.specs.View.{exprs_of, expr_tree, operand_tree, step_tree, steps_of}
-use Rattle.pv_pattern.specs.Texts.{operands_in, operands_in_all, operands_in_steps, operands_in_step}
+use Rattle.pv_tree.specs.Operands.{operands_in, operands_in_args, operands_in_steps, operands_in_step}
 use Rattle.pv_pattern_read.proofs.Seen.{operand_seen}
 
 -- two parts, one behind the other
@@ -25,12 +25,12 @@ gathered_next now new part rest left total e f h =
     ap (λ l. l ++ rest) e ∙ append_assoc now part rest ∙ ap (λ l. now ++ l) (sym f) ∙ h
 
 pub args_left : (es : List Expr) (i j : ℕ) (e : Expr) → i < length es → e ≡ get_or es i e → j ≡ i + 1
-    → operands_in_all (exprs_of (map expr_tree (drop i es)))
-    ≡ operands_in (expr_tree e) ++ operands_in_all (exprs_of (map expr_tree (drop j es)))
+    → operands_in_args (exprs_of (map expr_tree (drop i es)))
+    ≡ operands_in (expr_tree e) ++ operands_in_args (exprs_of (map expr_tree (drop j es)))
 args_left es i j e inside is next =
     let k : j ≡ suc i = omega (arith, next) in
-    ap (λ l. operands_in_all (exprs_of (map expr_tree l))) (drop-cons es i e inside ∙ ap (λ y. y ∷ drop (suc i) es) (sym is))
-    ∙ ap (λ n. operands_in (expr_tree e) ++ operands_in_all (exprs_of (map expr_tree (drop n es)))) (sym k)
+    ap (λ l. operands_in_args (exprs_of (map expr_tree l))) (drop-cons es i e inside ∙ ap (λ y. y ∷ drop (suc i) es) (sym is))
+    ∙ ap (λ n. operands_in (expr_tree e) ++ operands_in_args (exprs_of (map expr_tree (drop n es)))) (sym k)
 
 pub steps_left : (ss : List Step) (i j : ℕ) (s : Step) → i < length ss → s ≡ get_or ss i s → j ≡ i + 1
     → operands_in_steps (steps_of (map step_tree (drop i ss)))
@@ -48,8 +48,8 @@ operand_first o =
 pub gathered_last : (now rest total : List OperandTree) → rest ≡ [] → now ++ rest ≡ total → now ≡ total
 gathered_last now rest total none h = sym (append-nil now) ∙ ap (λ l. now ++ l) (sym none) ∙ h
 
-pub no_args_left : (es : List Expr) (i : ℕ) → length es ≤ i → operands_in_all (exprs_of (map expr_tree (drop i es))) ≡ []
-no_args_left es i h = ap (λ l. operands_in_all (exprs_of (map expr_tree l))) (drop_all i es h)
+pub no_args_left : (es : List Expr) (i : ℕ) → length es ≤ i → operands_in_args (exprs_of (map expr_tree (drop i es))) ≡ []
+no_args_left es i h = ap (λ l. operands_in_args (exprs_of (map expr_tree l))) (drop_all i es h)
 
 pub no_steps_left : (ss : List Step) (i : ℕ) → length ss ≤ i → operands_in_steps (steps_of (map step_tree (drop i ss))) ≡ []
 no_steps_left ss i h = ap (λ l. operands_in_steps (steps_of (map step_tree l))) (drop_all i ss h)

@@ -2,7 +2,7 @@
 ghost use Rattle.std.specs.Prelude.{◌≡◌, ◌++◌, map, IfOk, OnOk};
 ghost use Rattle.pv_tree.specs.Tree.{read};
 ghost use Rattle.pv_tree.specs.View.{expr_tree, operand_tree, step_tree};
-ghost use Rattle.pv_pattern.specs.Texts as texts;
+ghost use Rattle.pv_tree.specs.Operands as operands;
 
 use pv_tree::{Expr, Operand, Step};
 use std::alloc::{AllocError, Global};
@@ -10,7 +10,7 @@ use std::alloc::{AllocError, Global};
 /// The operands that an expression reads, in the order of the text, those in the indexes of one behind it.
 pub(crate) fn operands_in<'e>(alloc: Global, e: &'e Expr) -> Result<Vec<&'e Operand>, AllocError>
     ensures { IfOk result (λ list. map (λ o. operand_tree o.now) list.items
-        ≡ texts.operands_in (expr_tree e.now)) }
+        ≡ operands.operands_in (expr_tree e.now)) }
 {
     let mut list = Vec::new(alloc);
     push_expr(&mut list, e)?;
@@ -20,7 +20,7 @@ pub(crate) fn operands_in<'e>(alloc: Global, e: &'e Expr) -> Result<Vec<&'e Oper
 #[cycle(gathering)]
 fn push_expr<'e>(list: &mut Vec<&'e Operand>, e: &'e Expr) -> Result<(), AllocError>
     ensures { OnOk result (map (λ o. operand_tree o.now) list.new.items
-        ≡ map (λ o. operand_tree o.now) list.old.items ++ texts.operands_in (expr_tree e.now)) }
+        ≡ map (λ o. operand_tree o.now) list.old.items ++ operands.operands_in (expr_tree e.now)) }
 {
     match e {
         Expr::Lit { .. } => Ok(()),
@@ -45,7 +45,7 @@ fn push_expr<'e>(list: &mut Vec<&'e Operand>, e: &'e Expr) -> Result<(), AllocEr
 fn push_operand<'e>(list: &mut Vec<&'e Operand>, operand: &'e Operand) -> Result<(), AllocError>
     ensures { OnOk result (map (λ o. operand_tree o.now) list.new.items
         ≡ map (λ o. operand_tree o.now) list.old.items
-        ++ texts.operands_in (read (operand_tree operand.now))) }
+        ++ operands.operands_in (read (operand_tree operand.now))) }
 {
     list.push(operand)?;
     for step in &operand.steps {
@@ -58,7 +58,7 @@ fn push_operand<'e>(list: &mut Vec<&'e Operand>, operand: &'e Operand) -> Result
 fn push_step<'e>(list: &mut Vec<&'e Operand>, step: &'e Step) -> Result<(), AllocError>
     ensures { OnOk result (map (λ o. operand_tree o.now) list.new.items
         ≡ map (λ o. operand_tree o.now) list.old.items
-        ++ texts.operands_in_step (step_tree step.now)) }
+        ++ operands.operands_in_step (step_tree step.now)) }
 {
     match step {
         Step::Field(..) => Ok(()),

@@ -15,7 +15,8 @@ use Rattle.pv_rules_expr.specs.Nearest.{is_before, IsNearest}
 use Rattle.pv_rules_expr.specs.NearestIn.{nearest_in}
 use Rattle.pv_rules_expr.proofs.ForCallers.{any_has, has_any, has_behind, has_either, has_front, itself, nearest_same, in_any, in_all_any}
 use Rattle.pv_rules.specs.Statements.{all_of}
-use Rattle.pv_rules.specs.Reads.{reads_in_operand, reads_of_call, reads_of_stmt, reads_of_instruction, reads_of_starts}
+use Rattle.pv_tree.specs.Operands.{operands_within}
+use Rattle.pv_rules.specs.Reads.{reads_of_call, reads_of_stmt, reads_of_instruction, reads_of_starts}
 use Rattle.pv_rules.specs.Values.{refused_at, call_at, value_at, both_in, body_place, block_place, project_place}
 use Rattle.pv_rules.proofs.StatementLaws.{seen_of}
 use Rattle.pv_rules.proofs.ReadLaws.{flat_seen, instrs_read, list_read, starts_read}
@@ -121,7 +122,7 @@ unwoven Q f g (x ∷ xs) h =
     ]
 
 abbrev in_expressions : InstrTree → List OperandTree
-in_expressions i = flat_map reads_in_operand (option_to_list (operand_of_instruction i)) ++ flat_map reads_of_call (option_to_list i.call)
+in_expressions i = flat_map operands_within (option_to_list (operand_of_instruction i)) ++ flat_map reads_of_call (option_to_list i.call)
 
 reads_in_instrs : (scope : Scope) (list : List InstrTree)
     → reads_within scope (stl list) ≡ flat_map in_expressions list ++ filter_map read_operand list

@@ -8,7 +8,8 @@ ghost use Rattle.pv_names.specs.InScope.{scope_of};
 ghost use Rattle.pv_rules_expr.specs.NearestIn.{nearest_in};
 ghost use Rattle.pv_rules_expr.specs.Operands.{void_at};
 ghost use Rattle.pv_rules.specs.Codes.{calls_of_code};
-ghost use Rattle.pv_rules.specs.Reads.{reads_in, reads_in_operand, reads_in_step, reads_of_call, reads_of_instruction, reads_of_stmt, reads_of_starts};
+ghost use Rattle.pv_tree.specs.Operands.{operands_in, operands_within, operands_in_step};
+ghost use Rattle.pv_rules.specs.Reads.{reads_of_call, reads_of_instruction, reads_of_stmt, reads_of_starts};
 ghost use Rattle.pv_rules.specs.Values.{value_at};
 
 use crate::code::Code;
@@ -62,7 +63,7 @@ fn value_name(scope: &Scope, code: Code, operand: &Operand) -> Option<Place>
 #[cycle(reading)]
 fn value_in(scope: &Scope, code: Code, e: &Expr, nearest: Option<Place>) -> Option<Place>
     ensures { let f = value_at (scope_of scope.now) (calls_of_code code.entry) in
-        result ≡ nearest_in f (reads_in (expr_tree e.now)) nearest }
+        result ≡ nearest_in f (operands_in (expr_tree e.now)) nearest }
 {
     match e {
         Expr::Lit { .. } => nearest,
@@ -90,7 +91,7 @@ fn value_in(scope: &Scope, code: Code, e: &Expr, nearest: Option<Place>) -> Opti
 #[cycle(reading)]
 fn value_in_step(scope: &Scope, code: Code, step: &Step, nearest: Option<Place>) -> Option<Place>
     ensures { let f = value_at (scope_of scope.now) (calls_of_code code.entry) in
-        result ≡ nearest_in f (reads_in_step (step_tree step.now)) nearest }
+        result ≡ nearest_in f (operands_in_step (step_tree step.now)) nearest }
 {
     match step {
         Step::Field(..) => nearest,
@@ -107,7 +108,7 @@ fn value_in_operand(
     nearest: Option<Place>,
 ) -> Option<Place>
     ensures { let f = value_at (scope_of scope.now) (calls_of_code code.entry) in
-        result ≡ nearest_in f (reads_in_operand (operand_tree operand.now)) nearest }
+        result ≡ nearest_in f (operands_within (operand_tree operand.now)) nearest }
 {
     let mut best = nearest;
     for step in &operand.steps {
@@ -119,7 +120,7 @@ fn value_in_operand(
 /// The nearest one, with those of arguments.
 fn value_in_args(scope: &Scope, code: Code, args: &[Arg], nearest: Option<Place>) -> Option<Place>
     ensures { let f = value_at (scope_of scope.now) (calls_of_code code.entry) in
-        result ≡ nearest_in f (flat_map (λ a. reads_in a.value) (map arg_tree args.now)) nearest }
+        result ≡ nearest_in f (flat_map (λ a. operands_in a.value) (map arg_tree args.now)) nearest }
 {
     let mut best = nearest;
     for arg in args {
@@ -136,7 +137,7 @@ fn value_in_conditions(
     nearest: Option<Place>,
 ) -> Option<Place>
     ensures { let f = value_at (scope_of scope.now) (calls_of_code code.entry) in
-        result ≡ nearest_in f (flat_map reads_in (map (λ a. expr_tree a.0) arms.now)) nearest }
+        result ≡ nearest_in f (flat_map operands_in (map (λ a. expr_tree a.0) arms.now)) nearest }
 {
     let mut best = nearest;
     for arm in arms {
@@ -154,8 +155,8 @@ fn value_in_assignment(
     nearest: Option<Place>,
 ) -> Option<Place>
     ensures { let f = value_at (scope_of scope.now) (calls_of_code code.entry) in
-        result ≡ nearest_in f (reads_in_operand (operand_tree target.now)
-        ++ reads_in (expr_tree value.now)) nearest }
+        result ≡ nearest_in f (operands_within (operand_tree target.now)
+        ++ operands_in (expr_tree value.now)) nearest }
 {
     let so_far = value_in_operand(scope, code, target, nearest);
     value_in(scope, code, value, so_far)
@@ -170,8 +171,8 @@ fn value_in_assigned(
     nearest: Option<Place>,
 ) -> Option<Place>
     ensures { let f = value_at (scope_of scope.now) (calls_of_code code.entry) in
-        result ≡ nearest_in f (reads_in_operand (operand_tree target.now)
-        ++ flat_map (λ a. reads_in a.value) (map arg_tree args.now)) nearest }
+        result ≡ nearest_in f (operands_within (operand_tree target.now)
+        ++ flat_map (λ a. operands_in a.value) (map arg_tree args.now)) nearest }
 {
     let so_far = value_in_operand(scope, code, target, nearest);
     value_in_args(scope, code, args, so_far)
@@ -186,8 +187,8 @@ fn value_in_bounds(
     nearest: Option<Place>,
 ) -> Option<Place>
     ensures { let f = value_at (scope_of scope.now) (calls_of_code code.entry) in
-        result ≡ nearest_in f (reads_in (expr_tree first.now)
-        ++ reads_in (expr_tree last.now)) nearest }
+        result ≡ nearest_in f (operands_in (expr_tree first.now)
+        ++ operands_in (expr_tree last.now)) nearest }
 {
     let so_far = value_in(scope, code, first, nearest);
     value_in(scope, code, last, so_far)
@@ -226,7 +227,7 @@ pub(crate) fn value_in_stmt(
 /// The nearest one, with those in an instruction's operand.
 fn value_in_named(scope: &Scope, code: Code, instr: &Instr, nearest: Option<Place>) -> Option<Place>
     ensures { let f = value_at (scope_of scope.now) (calls_of_code code.entry) in
-        result ≡ nearest_in f (flat_map reads_in_operand (option_to_list
+        result ≡ nearest_in f (flat_map operands_within (option_to_list
         (groups.operand_of_instruction (instr_tree instr.now)))) nearest }
 {
     match operand_of_instruction(instr) {

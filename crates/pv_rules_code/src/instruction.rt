@@ -16,7 +16,7 @@ use crate::target::aimed_place;
 use pv_names::{Scope, how_of};
 use pv_place::Place;
 use pv_rules_expr::{Look, look_in_operand, nearer_of};
-use pv_tree::{Instr, Op, Operand};
+use pv_tree::{Instr, Op, Operand, operand_of_instruction};
 use std::alloc::{AllocError, Global};
 
 /// Whether an instruction writes its operand.
@@ -24,28 +24,6 @@ fn is_written(op: Op) -> bool
     ensures { result ≡ groups.is_written (groups.group_of op) }
 {
     matches!(op, Op::Assign | Op::S | Op::R | Op::Fp | Op::Fn | Op::T)
-}
-
-/// Whether an instruction is a jump.
-fn is_jump(op: Op) -> bool
-    ensures { result ≡ groups.is_jump (groups.group_of op) }
-{
-    matches!(
-        op,
-        Op::Ju
-            | Op::Jc
-            | Op::Jcb
-            | Op::Jcn
-            | Op::Jnb
-            | Op::Jz
-            | Op::Jn
-            | Op::Jp
-            | Op::Jm
-            | Op::Jpz
-            | Op::Jmz
-            | Op::Jo
-            | Op::Loop
-    )
 }
 
 /// The operand that an instruction writes.
@@ -57,18 +35,6 @@ fn written_operand(instr: &Instr) -> Option<&Operand>
         instr.operand.as_ref()
     } else {
         None
-    }
-}
-
-/// The operand of an instruction, but that of a jump.
-fn operand_of_instruction(instr: &Instr) -> Option<&Operand>
-    ensures { option_map (λ o. operand_tree o.now) result
-        ≡ groups.operand_of_instruction (instr_tree instr.now) }
-{
-    if is_jump(instr.op) {
-        None
-    } else {
-        instr.operand.as_ref()
     }
 }
 

@@ -19,5 +19,8 @@ pub use Rattle.pv_tree.proofs.Faults.{fault-one}
 pub use Rattle.pv_tree.proofs.Leasts.{least-one, none-least}
 -- named types as declarations are laid out over them
 pub use Rattle.pv_tree.proofs.NamedTypes.{type_contained, type_looked_up, types_nest}
+-- how many are left of those that were met, and each name in a type
+pub use Rattle.pv_tree.proofs.NamedTypes.{left, also, left_all, fewer, all_named_in, holds_then, named_by, some_of}
+pub use Rattle.pv_tree.proofs.KeptRules.{grounded}
 -- the block that a call runs is the first of its name, and one of the project's
 pub use Rattle.pv_tree.proofs.CalledBlocks.{run_block, run_block_in}

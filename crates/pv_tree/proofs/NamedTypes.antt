@@ -43,7 +43,7 @@ found_contains : {X : Type 0} (test : X → Bool) (xs : List X) (x : X) → find
 found_contains test [] x e = absurd (none-some x e)
 found_contains test (y ∷ ys) x e = found_at (test y) y x ys (find test ys) e (found_contains test ys x)
 
-some_of : {X : Type 0} (o : Option X) → o ≢ None → (x : X) × (o ≡ Some x)
+pub some_of : {X : Type 0} (o : Option X) → o ≢ None → (x : X) × (o ≡ Some x)
 some_of None not = absurd (not refl)
 some_of (Some x) not = (x, refl)
 
@@ -89,14 +89,14 @@ type_looked_up project key b e = looked_among project.blocks key b e
 
 -- ---- how many types are left
 
-abbrev left : (List ℕ → Bool) → List NamedType → ℕ
+abbrev pub left : (List ℕ → Bool) → List NamedType → ℕ
 left met [] = 0
 left met (t ∷ ts) = cond (met t.key) (left met ts) (suc (left met ts))
 
-abbrev also : List ℕ → (List ℕ → Bool) → List ℕ → Bool
+abbrev pub also : List ℕ → (List ℕ → Bool) → List ℕ → Bool
 also key met other = bytes_eq key other || met other
 
-left_all : (ts : List NamedType) → left (λ k. false) ts ≡ length ts
+pub left_all : (ts : List NamedType) → left (λ k. false) ts ≡ length ts
 left_all [] = refl
 left_all (t ∷ ts) = ap suc (left_all ts)
 
@@ -119,7 +119,7 @@ fewer_at true false vars rest m n le f some more = omega (arith, le)
 fewer_at false true vars rest m n le f some more = more some
 fewer_at false false vars rest m n le f some more = omega (arith, more some)
 
-fewer : (key : List ℕ) (met : List ℕ → Bool) (ts : List NamedType) → met key ≡ false → IsSome (look_up ts key)
+pub fewer : (key : List ℕ) (met : List ℕ → Bool) (ts : List NamedType) → met key ≡ false → IsSome (look_up ts key)
     → left (also key met) ts < left met ts
 fewer key met [] unmet some = absurd (true≢false (sym some))
 fewer key met (t ∷ ts) unmet some =
@@ -136,7 +136,7 @@ mutual
   all_named P (named name place) f = f (name, place) (contains_here (name, place) (name, place) [] refl)
   all_named P unread f = tt
 
-  all_named_in : (P : List ℕ → Type 0) (vars : VarTrees) → ((name : PlacedName) → Contains (names_in_vars vars) name → P name.0.key)
+  pub all_named_in : (P : List ℕ → Type 0) (vars : VarTrees) → ((name : PlacedName) → Contains (names_in_vars vars) name → P name.0.key)
       → AllNamedIn P vars
   all_named_in P no_vars f = tt
   all_named_in P (_then_ (var name section ty start place) more) f = (
@@ -146,12 +146,12 @@ mutual
 
 -- ---- types that nest
 
-holds_then : (project : ProjectTree) (outer middle inner : List ℕ) → Holds project outer middle → Contains (named_within project middle) inner
+pub holds_then : (project : ProjectTree) (outer middle inner : List ℕ) → Holds project outer middle → Contains (named_within project middle) inner
     → Holds project outer inner
 holds_then project outer middle inner (at_once c) d = within c (at_once d)
 holds_then project outer middle inner (within c h) d = within c (holds_then project _ middle inner h d)
 
-named_by : (project : ProjectTree) (key : List ℕ) (b : BlockTree) (name : PlacedName) → type_named project key ≡ Some b
+pub named_by : (project : ProjectTree) (key : List ℕ) (b : BlockTree) (name : PlacedName) → type_named project key ≡ Some b
     → Contains (names_in_vars (listed b.vars)) name
     → Contains (named_within project key) name.0.key
 named_by project key b name e c =

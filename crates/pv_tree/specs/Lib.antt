@@ -6,6 +6,7 @@ pub mod Scopes
 pub mod Things
 pub mod Types
 pub mod InstructionGroups
+pub mod Operands
 pub mod Callees
 pub mod Parts
 pub mod Interfaces

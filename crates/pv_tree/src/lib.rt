@@ -12,6 +12,7 @@ mod instr;
 mod kept;
 mod laws;
 mod making;
+mod named_operand;
 mod rule_laws;
 mod stmt;
 
@@ -24,6 +25,7 @@ pub use laws::{
     parts_keep_the_order_of_tokens, syntax_fault_is_one,
 };
 pub use making::project;
+pub use named_operand::operand_of_instruction;
 pub use rule_laws::{
     calls_run_blocks, chains_of_calls_end, expressions_have_types, least_fault_is_one,
     literal_indexes_lie_in_bounds, named_types_are_grounded, parts_of_typed_expressions_have_types,

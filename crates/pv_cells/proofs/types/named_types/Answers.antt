@@ -4,7 +4,7 @@ use Rattle.pv_tree.specs.View.{block_tree}
 use Rattle.pv_tree.specs.NamedTypes.{types_of_project}
 use Rattle.pv_mean.specs.ProjectSizes.{project_tree, with_blocks}
 use Rattle.pv_cells.proofs.Results.{if_ok}
-use Rattle.pv_cells.proofs.TypeTables.{table_has_all}
+use Rattle.pv_mean.proofs.ForCallers.{table_has_all}
 use Rattle.pv_cells.proofs.types.named_types.Goals as goal
 
 pub returns : goal.returns

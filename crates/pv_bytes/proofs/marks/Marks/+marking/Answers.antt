@@ -1,7 +1,7 @@
 use Rattle.std.proofs.Common.{ap, sym, ◌∙◌, ◌∷◌, []}
 use Rattle.std.specs.Prelude.{flat_map}
 use Rattle.pv_tree.specs.View.{expr_tree, step_tree, operand_tree}
-use Rattle.pv_bytes.specs.Operands.{operands_in, operands_in_step, operands_within}
+use Rattle.pv_tree.specs.Operands.{operands_in, operands_in_step, operands_within}
 use Rattle.pv_bytes.proofs.Marking.{also_all, also_same, also_then}
 use Rattle.pv_bytes.proofs.Gathering.{args_listed, steps_listed, operand_seen, binary_seen, std_seen}
 use Rattle.pv_bytes.proofs.marks.Marks.+marking.Goals as goal

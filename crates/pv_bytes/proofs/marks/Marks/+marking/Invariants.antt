@@ -1,7 +1,8 @@
 use Rattle.std.proofs.Common.{take}
 use Rattle.std.specs.Prelude.{flat_map}
 use Rattle.pv_tree.specs.View.{expr_tree, step_tree}
-use Rattle.pv_bytes.specs.Operands.{operands_in, operands_in_step, MarksAlso}
+use Rattle.pv_tree.specs.Operands.{operands_in, operands_in_step}
+use Rattle.pv_bytes.specs.Operands.{MarksAlso}
 use Rattle.pv_bytes.proofs.marks.Marks.+marking.Given as goal
 
 abbrev pub invariant-mark_args-loop-arg : goal.invariant-mark_args-loop-arg

@@ -1,5 +1,5 @@
 use Rattle.pv_tree.specs.View.{expr_tree, operand_tree}
-use Rattle.pv_bytes.specs.Operands.{operands_in, operands_within}
+use Rattle.pv_tree.specs.Operands.{operands_in, operands_within}
 use Rattle.pv_bytes.proofs.Marking.{also_then}
 use Rattle.pv_bytes.proofs.marks.Marks.mark_assigned.Goals as goal
 

@@ -1,5 +1,6 @@
 use Rattle.pv_tree.specs.View.{call_tree, operand_tree}
-use Rattle.pv_bytes.specs.Operands.{operands_in_call, operands_within}
+use Rattle.pv_tree.specs.Operands.{operands_within}
+use Rattle.pv_bytes.specs.Operands.{operands_in_call}
 use Rattle.pv_bytes.proofs.Marking.{also_then}
 use Rattle.pv_bytes.proofs.marks.Marks.mark_assigned_call.Goals as goal
 

@@ -4,7 +4,8 @@ use Rattle.std.proofs.lemmas.List.{append-nil}
 use Rattle.std.proofs.lemmas.List.Folds.{flat_map-map}
 use Rattle.pv_tree.specs.Parts.{instructions_of, starts_of}
 use Rattle.pv_tree.specs.View.{instr_tree, operand_tree, start_tree, body_tree}
-use Rattle.pv_bytes.specs.Operands.{operands_within, operands_in_instr}
+use Rattle.pv_tree.specs.Operands.{operands_within}
+use Rattle.pv_bytes.specs.Operands.{operands_in_instr}
 use Rattle.pv_bytes.proofs.Marking.{also_same}
 use Rattle.pv_bytes.proofs.marks.Marks.mark_body.Goals as goal
 

@@ -2,7 +2,7 @@ use Rattle.std.proofs.Common.{ap, sym, ◌∙◌}
 use Rattle.std.specs.Prelude.{flat_map}
 use Rattle.pv_tree.specs.View.{expr_tree, arg_tree}
 use Rattle.std.proofs.lemmas.List.Folds.{flat_map-map}
-use Rattle.pv_bytes.specs.Operands.{operands_in}
+use Rattle.pv_tree.specs.Operands.{operands_in}
 use Rattle.pv_bytes.proofs.Marking.{also_nothing, also_more, also_all, also_same}
 use Rattle.pv_bytes.proofs.marks.Marks.mark_call.Goals as goal
 

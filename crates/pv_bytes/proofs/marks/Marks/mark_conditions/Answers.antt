@@ -1,5 +1,5 @@
 use Rattle.pv_tree.specs.View.{expr_tree}
-use Rattle.pv_bytes.specs.Operands.{operands_in}
+use Rattle.pv_tree.specs.Operands.{operands_in}
 use Rattle.pv_bytes.proofs.Marking.{also_nothing, also_more, also_all}
 use Rattle.pv_bytes.proofs.marks.Marks.mark_conditions.Goals as goal
 

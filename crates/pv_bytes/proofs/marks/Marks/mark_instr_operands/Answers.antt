@@ -14,7 +14,7 @@ loop-instr-preserved c =
     c.instr-item.result c.args.self.now.flags.items
     c.loop-instr.self.flags.items c.mark_own_of.new.self.flags.items c.loop-instr-test.true c.instr-item.is c.loop-instr.invariant
     (also_same c.args.area c.loop-instr.self.flags.items c.mark_own_of.new.self.flags.items _ _
-    (ap option_to_list c.operand_of.ensures) c.mark_own_of.ensures)
+    (ap option_to_list c.operand_of_instruction.ensures) c.mark_own_of.ensures)
 
 pub returns : goal.returns
 returns c =

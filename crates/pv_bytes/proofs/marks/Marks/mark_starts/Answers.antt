@@ -1,5 +1,5 @@
 use Rattle.pv_tree.specs.View.{operand_tree}
-use Rattle.pv_bytes.specs.Operands.{operands_within}
+use Rattle.pv_tree.specs.Operands.{operands_within}
 use Rattle.pv_bytes.proofs.Marking.{also_nothing, also_more, also_all}
 use Rattle.pv_bytes.proofs.marks.Marks.mark_starts.Goals as goal
 

@@ -1,7 +1,8 @@
 use Rattle.std.proofs.Common.{take}
 use Rattle.std.specs.Prelude.{flat_map}
 use Rattle.pv_tree.specs.View.{operand_tree}
-use Rattle.pv_bytes.specs.Operands.{operands_within, MarksAlso}
+use Rattle.pv_tree.specs.Operands.{operands_within}
+use Rattle.pv_bytes.specs.Operands.{MarksAlso}
 use Rattle.pv_bytes.proofs.marks.Marks.mark_starts.Given as goal
 
 abbrev pub invariant-loop-start : goal.invariant-loop-start
