@@ -1,49 +1,16 @@
 -- Statements listed along statements: those of the code as plain data, and one element more.
-use Rattle.std.proofs.Common.{◌≡◌, ℕ, ◌<◌, ◌≤◌, ◌+◌, suc, refl, sym, ap, ◌∙◌, List, [], ◌∷◌, ◌++◌, map, drop, get_or, length, arith, append_assoc, None, Some}
-use Rattle.std.specs.Prelude.{option_map, OnOk, Result, Ok, Err}
+use Rattle.std.proofs.Common.{◌≡◌, ℕ, ◌<◌, ◌≤◌, ◌+◌, suc, refl, sym, ap, ◌∙◌, List, [], ◌∷◌, ◌++◌, map, drop, get_or, length, arith, append_assoc}
+use Rattle.std.specs.Prelude.{OnOk, Result, Ok, Err}
 use Rattle.std.proofs.Math.Seq.{drop-cons}
-use Rattle.std.proofs.lemmas.Simd.{map-map}
 use Rattle.std.proofs.lemmas.List.{map-append, append-nil}
 use Rattle.pv_place.specs.declared.place.Place.{Place}
-use Rattle.pv_tree.specs.declared.stmt.Stmt.{Stmt, size-Stmt, fold-roll-Stmt, the_lemmas}
+use Rattle.pv_tree.specs.declared.stmt.Stmt.{Stmt, size-Stmt, the_lemmas}
 use Rattle.pv_tree.specs.declared.stmt.Stmt.TheViews as form
-use Rattle.pv_tree.specs.declared.stmt.Stmt.TheVariants.{rolls-If, rolls-Case, rolls-For}
-use Rattle.pv_tree.specs.declared.stmt.Stmt.TheOpen.{Stmt-F}
 use Rattle.pv_tree.specs.Tree.{ExprTree, Choices, StmtTree, assign, assign_call, if_, case_, for_, while_, repeat_, exit_, continue_, return_, call_, empty_, StmtTrees, no_stmts, stmts, ArmTrees, no_arms, arms, BranchTrees, no_branches, branches, ElseTree, no_else, else_}
 use denote.Param.Weighed.{most, at_most}
-use Rattle.pv_tree.specs.View.{expr_tree, stmt_tree, stmt_step, stmts_of, arms_of, branches_of, else_of}
+use Rattle.pv_tree.specs.View.{stmts_of, arms_of, branches_of}
 use Rattle.pv_tree.specs.Parts.{Loop, a_for, another, Spot, spots_of, spots_of_stmts, spots_of_arms, spots_of_branches, spots_of_else}
 use Rattle.pv_bytes.specs.Statements.{stmts_of_spots, within, listed, within_arms, within_branches, within_else}
-
--- ---- forms
-
-pub stmt-for : (v : _) (at : Place) (first : _) (last : _) (by : _) (body : _) (place : Place)
-    → stmt_tree (form.For v at first last by body place) ≡ for_ v at (expr_tree first) (expr_tree last) by
-    (stmts_of (map stmt_tree body.items)) place
-stmt-for v at first last by body place =
-    ap stmt_tree (sym (rolls-For v at first last by body place)) ∙ fold-roll-Stmt StmtTree stmt_step
-    (Stmt-F.For v at first last by body place)
-
-pub stmt-if : (all : _) (other : _) (place : Place) → stmt_tree (form.If all other place)
-    ≡ if_ (arms_of (map (λ a. (expr_tree a.0, stmts_of (map stmt_tree a.1.items))) all.items))
-    (else_of (option_map (λ o. stmts_of (map stmt_tree o.items)) other)) place
-stmt-if all None place =
-    ap stmt_tree (sym (rolls-If all None place)) ∙ fold-roll-Stmt StmtTree stmt_step (Stmt-F.If all None place)
-    ∙ ap (λ l. if_ (arms_of l) no_else place) (map-map _ _ all.items)
-stmt-if all (Some o) place =
-    ap stmt_tree (sym (rolls-If all (Some o) place)) ∙ fold-roll-Stmt StmtTree stmt_step (Stmt-F.If all (Some o) place)
-    ∙ ap (λ l. if_ (arms_of l) (else_ (stmts_of (map stmt_tree o.items))) place) (map-map _ _ all.items)
-
-pub stmt-case : (selector : _) (all : _) (other : _) (place : Place) → stmt_tree (form.Case selector all other place)
-    ≡ case_ (expr_tree selector) (branches_of (map (λ b. (b.0.items, stmts_of (map stmt_tree b.1.items))) all.items))
-    (else_of (option_map (λ o. stmts_of (map stmt_tree o.items)) other)) place
-stmt-case selector all None place =
-    ap stmt_tree (sym (rolls-Case selector all None place)) ∙ fold-roll-Stmt StmtTree stmt_step (Stmt-F.Case selector all None place)
-    ∙ ap (λ l. case_ (expr_tree selector) (branches_of l) no_else place) (map-map _ _ all.items)
-stmt-case selector all (Some o) place =
-    ap stmt_tree (sym (rolls-Case selector all (Some o) place)) ∙ fold-roll-Stmt StmtTree stmt_step
-    (Stmt-F.Case selector all (Some o) place)
-    ∙ ap (λ l. case_ (expr_tree selector) (branches_of l) (else_ (stmts_of (map stmt_tree o.items))) place) (map-map _ _ all.items)
 
 -- ---- depth
 

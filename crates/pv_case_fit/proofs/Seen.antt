@@ -5,14 +5,10 @@ use Rattle.pv_place.specs.declared.place.Place.{Place}
 use Rattle.pv_tree.specs.declared.expr.Root.{Root}
 use Rattle.pv_tree.specs.declared.expr.Operand.{Operand}
 use Rattle.pv_tree.specs.declared.expr.Step.{Step}
-use Rattle.pv_tree.specs.declared.expr.Expr.TheFolds.{fold_out-Operand}
-use Rattle.pv_tree.specs.Tree.{ExprTree, StepTree, OperandTree, operand}
-use Rattle.pv_tree.specs.View.{expr_step, step_step, operand_step, operand_tree, step_tree, steps_of}
+use Rattle.pv_tree.specs.Tree.{operand}
+use Rattle.pv_tree.specs.View.{operand_tree, step_tree, steps_of}
+use Rattle.pv_tree.proofs.ForCallers.{operand_seen}
 use Rattle.pv_case_fit.specs.Named.{name_of_root, name_of_operand}
-
--- an operand has its parts
-operand_seen : (o : Operand) → operand_tree o ≡ operand o.root (steps_of (map step_tree o.steps.items)) o.place
-operand_seen o = fold_out-Operand ExprTree StepTree OperandTree expr_step step_step operand_step o
 
 stepless : (root : Root) (place : Place) (list : List Step) → nat_eq (length list) 0 ≡ true
     → name_of_operand (operand root (steps_of (map step_tree list)) place) ≡ name_of_root root

@@ -1,7 +1,6 @@
 -- The leaves of the variables whose section passes a test, variable by variable, and how many there are.
-use Rattle.std.proofs.Common.{◌≡◌, ℕ, zero, suc, ◌+◌, ℤ, pos, ◌+ℤ◌, List, [], ◌∷◌, ◌++◌, length, Bool, true, false, not, cond, Option, Some, None, refl, sym, ap, ◌∙◌, arith}
-use Rattle.std.specs.Prelude.{filter, unwrap_or, if◌then◌else◌}
-use Rattle.std.specs.List.{AllByRecursion}
+use Rattle.std.proofs.Common.{◌≡◌, ℕ, ◌+◌, List, [], ◌∷◌, ◌++◌, length, Bool, true, false, not, cond, Option, Some, None, refl, sym, ap, ◌∙◌, arith}
+use Rattle.std.specs.Prelude.{filter, if◌then◌else◌}
 use Rattle.std.proofs.lemmas.Bool.{true≢false}
 use Rattle.std.proofs.lemmas.Option.{none-some}
 use Rattle.std.proofs.lemmas.List.{length-append, append-nil}
@@ -12,66 +11,16 @@ use Rattle.pv_types.specs.declared.declaration.Literal.{Literal}
 use Rattle.pv_types.specs.declared.declaration.Section.{Section}
 use Rattle.pv_types.specs.declared.declaration.Section.TheVariants.{Input, Output, InOut, Static, Temp, Const}
 use Rattle.pv_types.specs.declared.leaf.Leaf.{Leaf}
-use Rattle.pv_types.specs.Tree.{TypeTree, plain, array, structure, named, unread, VarTree, var, VarTrees, no_vars, _then_}
-use Rattle.pv_types.specs.View.{listed, section_of}
-use Rattle.pv_types.specs.Named.{NamedType, look_up}
-use Rattle.pv_types.specs.Leaves.{block, instance, fields, section_within, field_path, element_path, start_value, count_between, leaves_where, leaves_of_elements, leaves_of_type, leaves_of_vars, leaves_of_named, leaves_of}
+use Rattle.pv_types.specs.Tree.{TypeTree, VarTree, var}
+use Rattle.pv_types.specs.View.{section_of}
+use Rattle.pv_types.specs.Leaves.{block, section_within, field_path, start_value, leaves_where, leaves_of_type, leaves_of_named, leaves_of}
 use Rattle.pv_types.proofs.ForCallers.{counted_leaves}
 use Rattle.pv_tree.specs.Tree.{BlockTree}
 use Rattle.pv_tree.specs.Scopes.{ProjectTree, is_fb, is_const, is_of_instance}
 use Rattle.pv_tree.specs.NamedTypes.{types_of_project}
 use Rattle.pv_mean.specs.Layout.{size_in, size_among, is_temp, is_brief_in}
+use Rattle.pv_mean.proofs.ForCallers.{AreOf, of-type, of-named}
 use Rattle.pv_cells.specs.Forms.{leaves_if, leaves_among}
-
--- ---- the leaves of a declaration have its section
-
-abbrev AreOf : Section → List Leaf → Type 0
-AreOf s leaves = AllByRecursion (λ l. l.section ≡ s) leaves
-
-of-append : (s : Section) (xs ys : List Leaf) → AreOf s xs → AreOf s ys → AreOf s (xs ++ ys)
-of-append s [] ys a b = b
-of-append s (x ∷ xs) ys a b = (a.0, of-append s xs ys a.1 b)
-
-of-elements : (s : Section) (element : ℤ → List Leaf) → ((i : ℤ) → AreOf s (element i)) → (i : ℤ) (count : ℕ)
-    → AreOf s (leaves_of_elements element i count)
-of-elements s element each i zero = tt
-of-elements s element each i (suc count) = of-append s (element i) _ (each i) (of-elements s element each (i +ℤ pos 1) count)
-
-module _ (expand : List ℕ → List ℕ → Section → List Leaf) (known : (key path : List ℕ) (s : Section) → AreOf s (expand key path s)) where
-  mutual
-    of-type : (path : List ℕ) (start : ℤ) (s : Section) (t : TypeTree) → AreOf s (leaves_of_type expand path start s t)
-    of-type path start s (plain ty) = (refl, tt)
-    of-type path start s (array low high of place) =
-        of-elements s _ (λ i. of-type (element_path path i) (pos 0) s of) low (count_between low high)
-    of-type path start s (structure vars) = of-fields path s vars
-    of-type path start s (named name place) = known name.key path s
-    of-type path start s unread = tt
-
-    of-fields : (path : List ℕ) (s : Section) (vars : VarTrees) → AreOf s (leaves_of_vars expand (fields s) path vars)
-    of-fields path s no_vars = tt
-    of-fields path s (_then_ (var name section ty start place) xs) =
-        of-append s (leaves_of_type expand (field_path path name) (start_value start) s ty) _
-        (of-type (field_path path name) (start_value start) s ty) (of-fields path s xs)
-
-  of-instance : (path : List ℕ) (s : Section) (vars : VarTrees) → AreOf s (leaves_of_vars expand (instance s) path vars)
-  of-instance path s no_vars = tt
-  of-instance path s (_then_ (var name section ty start place) xs) =
-      of-append s (leaves_where (section_within (instance s) section)
-      (λ r. leaves_of_type expand (field_path path name) (start_value start) r ty)) _ (lead section) (of-instance path s xs)
-    where
-      lead : (own : Section) → AreOf s (leaves_where (section_within (instance s) own)
-          (λ r. leaves_of_type expand (field_path path name) (start_value start) r ty))
-      lead Input = of-type (field_path path name) (start_value start) s ty
-      lead Output = of-type (field_path path name) (start_value start) s ty
-      lead InOut = of-type (field_path path name) (start_value start) s ty
-      lead Static = of-type (field_path path name) (start_value start) s ty
-      lead Temp = tt
-      lead Const = tt
-
-of-named : (types : List NamedType) (n : ℕ) (key path : List ℕ) (s : Section) → AreOf s (leaves_of_named types n key path s)
-of-named types zero key path s = tt
-of-named types (suc n) key path s =
-    of-instance (leaves_of_named types n) (λ k p r. of-named types n k p r) path s (listed (unwrap_or (look_up types key) []))
 
 -- ---- filters by section
 

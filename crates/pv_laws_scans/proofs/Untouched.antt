@@ -1,17 +1,15 @@
 -- A cell that an activation leaves has its value behind it. What statements and instructions do is handed in, as the laws of `pv_mean` say
 -- it; here are the calls.
-use Rattle.std.proofs.Common.{◌≡◌, ◌≢◌, ◌⊎◌, inl, inr, ◌<◌, ◌≤◌, ℕ, zero, suc, ◌+◌, ◌/◌, ◌%◌, ◌^◌, ℤ, pos, List, [], ◌∷◌, get_or, Option, Some, None, refl, subst, ◌∙◌, arith}
+use Rattle.std.proofs.Common.{◌≡◌, ℕ, zero, suc, ℤ, pos, List, [], ◌∷◌, get_or, Option, Some, None, refl, subst, ◌∙◌, arith}
 use Rattle.std.specs.Prelude.{IfSome}
 use Rattle.std.specs.List.{AllByRecursion}
-use Rattle.std.proofs.lemmas.List.{get_or-set_other}
-use Rattle.pv_word.specs.Types.{pattern_of}
 use Rattle.pv_tree.specs.Tree.{ArgTree, OperandTree, InstrTree, StmtTrees, BodyTree, scl, stl, starts}
 use Rattle.pv_tree.specs.Callees.{CallSite, Callee, runs, not_declared, not_callable, unknown, callee_of}
 use Rattle.pv_tree.specs.Parts.{operand_of}
 use Rattle.pv_mean.specs.Sources.{Source}
-use Rattle.pv_mean.specs.Frames.{Frame, visible_value, with_visible}
+use Rattle.pv_mean.specs.Frames.{Frame, visible_value}
 use Rattle.pv_mean.specs.Endings.{Tried, got, trap, Ended, ended, trapped, over, Ending, normal, at_exit, at_continue, at_return, by_trap, by_over, and_then, end_of, and_end, body_end}
-use Rattle.pv_mean.specs.Spots.{Spot, visible, brief, bit, bytes, fixed, nowhere, with_bytes, read_spot, write_spot}
+use Rattle.pv_mean.specs.Spots.{visible, read_spot, write_spot}
 use Rattle.pv_mean.specs.Activations.{Activation, scope_in}
 use Rattle.pv_mean.specs.Values.{value, locate}
 use Rattle.pv_mean.specs.Statements.{Returned, Calls, run_stmts}
@@ -20,6 +18,7 @@ use Rattle.pv_mean.specs.Calls.{Linked, outside, inside, with_inside, Passed, pa
 use Rattle.pv_mean.specs.Scans.{visible_end, scan_from, entry_activation, entry_frame}
 use Rattle.pv_mean.specs.Doings.{EachInList, EachInstruction, HoldsAt, HoldsOf, HoldsIfGot}
 use Rattle.pv_mean.specs.Correct.{Misses, IsApart, CallLeaves}
+use Rattle.pv_mean.proofs.ForCallers.{write-misses}
 use Rattle.pv_laws_scans.specs.Leaving.{EachInBody, TakesElsewhere, GivesElsewhere, CallPasses, CalleePasses, Leaves}
 use Rattle.pv_laws_scans.proofs.Passing.{passed-body}
 
@@ -34,32 +33,6 @@ abbrev pub InstructionsKeep : Type 0
 InstructionsKeep = (source : Source) (calls : Calls) (act : Activation) (n : ℕ) (instructions : List InstrTree) (frame : Frame) (v : ℤ)
     → EachInstruction (IsApart source act n) (CallLeaves calls act n) instructions → visible_value frame n ≡ v
     → HoldsOf (λ f. visible_value f n ≡ v) (run_stl source calls act instructions frame)
-
--- ---- writes
-
-pub bytes-miss : (source : Source) (n : ℕ) (count m number : ℕ) (frame : Frame) → (n < m) ⊎ (m + count ≤ n)
-    → visible_value (with_bytes source frame m count number) n ≡ visible_value frame n
-bytes-miss source n zero m number frame apart = refl
-bytes-miss source n (suc count) m number frame apart =
-    bytes-miss source n count (m + 1) number (with_visible source frame m (pos (number / 256 ^ count % 256))) (further apart)
-    ∙ get_or-set_other frame.visible m n _ (pos 0) (differ apart)
-  where
-    further : (n < m) ⊎ (m + suc count ≤ n) → (n < m + 1) ⊎ (m + 1 + count ≤ n)
-    further (inl lt) = inl (omega arith)
-    further (inr le) = inr (omega arith)
-
-    differ : (n < m) ⊎ (m + suc count ≤ n) → n ≢ m
-    differ (inl lt) e = absurd (omega arith)
-    differ (inr le) e = absurd (omega arith)
-
-write-misses : (source : Source) (n : ℕ) (spot : Spot) (frame : Frame) (v : ℤ) → Misses n spot
-    → visible_value (write_spot source frame spot v) n ≡ visible_value frame n
-write-misses source n (visible m) frame v apart = get_or-set_other frame.visible m n _ (pos 0) apart
-write-misses source n (brief ty m) frame v apart = refl
-write-misses source n (bit m b) frame v apart = get_or-set_other frame.visible m n _ (pos 0) apart
-write-misses source n (bytes ty m count) frame v apart = bytes-miss source n count m (pattern_of ty v) frame apart
-write-misses source n (fixed w) frame v apart = refl
-write-misses source n nowhere frame v apart = refl
 
 -- ---- the ways of going on
 

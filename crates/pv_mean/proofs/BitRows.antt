@@ -1,4 +1,4 @@
--- Bit logic, nestings, jumps and ends, step by step, worked out by hand from the table of what each does; docs/instruction-steps.md has the same steps.
+-- Bit logic, nestings, jumps and ends, step by step, worked out by hand from the table of what each does.
 use Rattle.std.proofs.Common.{pos, [], ◌∷◌, true, false, refl, Some, None}
 use Rattle.pv_word.specs.declared.types.Ty.TheVariants as ty
 use Rattle.pv_word.specs.Wrap.{wrap_at}

@@ -159,7 +159,7 @@ bytes-miss source n (suc count) m number frame apart =
     differ (inl lt) e = absurd (omega arith)
     differ (inr le) e = absurd (omega arith)
 
-write-misses : (source : Source) (n : ℕ) (spot : Spot) (frame : Frame) (v : ℤ) → Misses n spot
+pub write-misses : (source : Source) (n : ℕ) (spot : Spot) (frame : Frame) (v : ℤ) → Misses n spot
     → visible_value (write_spot source frame spot v) n ≡ visible_value frame n
 write-misses source n (visible m) frame v apart = get_or-set_other frame.visible m n _ (pos 0) apart
 write-misses source n (brief ty m) frame v apart = refl

@@ -31,7 +31,7 @@ use Rattle.pv_mean.specs.Cells.{cell_of, leaves_of_block, entry_cells, with_star
 abbrev pub AreOf : Section → List Leaf → Type 0
 AreOf s leaves = AllByRecursion (λ l. l.section ≡ s) leaves
 
-of-append : (s : Section) (xs ys : List Leaf) → AreOf s xs → AreOf s ys → AreOf s (xs ++ ys)
+pub of-append : (s : Section) (xs ys : List Leaf) → AreOf s xs → AreOf s ys → AreOf s (xs ++ ys)
 of-append s [] ys a b = b
 of-append s (x ∷ xs) ys a b = (a.0, of-append s xs ys a.1 b)
 

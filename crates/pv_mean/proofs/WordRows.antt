@@ -1,4 +1,4 @@
--- Instructions on accumulators, step by step, worked out by hand from the table of what each does; docs/instruction-steps.md has the same steps.
+-- Instructions on accumulators, step by step, worked out by hand from the table of what each does.
 use Rattle.std.proofs.Common.{pos, negsuc, [], ◌∷◌, true, false, refl, Some, None}
 use Rattle.pv_word.specs.declared.types.Ty.TheVariants as ty
 use Rattle.pv_word.specs.Wrap.{wrap_at}

@@ -2,6 +2,4 @@
 pub use Rattle.pv_names.proofs.FirstNumbers.{grown}
 pub use Rattle.pv_names.proofs.Functions.{misfits_alone, misfits_beside, misfits_taken}
 pub use Rattle.pv_names.proofs.Parameters.{for_none, for_some}
-pub use Rattle.pv_names.proofs.Seen.{binary_seen, std_seen, unary_seen}
 pub use Rattle.pv_names.proofs.Steps.{rest_step}
-pub use Rattle.pv_names.proofs.StmtForms.{stmt-for, stmt-if, stmt-case}

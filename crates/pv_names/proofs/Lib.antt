@@ -4,8 +4,6 @@ pub mod Functions
 pub mod LiteralSorts
 pub mod LookUps
 pub mod Parameters
-pub mod Seen
 pub mod Steps
-pub mod StmtForms
 pub mod Widening
 pub mod ForCallers

@@ -11,7 +11,7 @@ use Rattle.pv_tree.specs.declared.expr.StdFunction.{StdFunction}
 use Rattle.pv_tree.specs.Tree.{ExprTree, binary, std, read, OperandTree, operand, StepTrees, steps}
 use Rattle.pv_tree.specs.View.{exprs_of, expr_tree, operand_tree, step_tree, steps_of}
 use Rattle.pv_tree.specs.Operands.{operands_in, operands_in_args, operands_in_steps, operands_in_step}
-use Rattle.pv_pattern_read.proofs.Seen.{operand_seen}
+use Rattle.pv_tree.proofs.ForCallers.{operand_seen}
 
 -- two parts, one behind the other
 pub gathered_both : (old mid new xs ys all : List OperandTree) → mid ≡ old ++ xs → new ≡ mid ++ ys → all ≡ xs ++ ys → new ≡ old ++ all

@@ -1,7 +1,6 @@
 mod Readings
 mod Telling
 mod Faults
-mod Seen
 mod Termed
 mod Gathering
 mod PatternLaws

@@ -8,7 +8,7 @@ use Rattle.pv_tree.specs.declared.expr.Step.{Step}
 use Rattle.pv_tree.specs.Tree.{StepTree, OperandTree}
 use Rattle.pv_tree.specs.View.{operand_tree, step_tree, steps_of}
 use Rattle.pv_pattern.specs.Reads.{AreFixedSteps, IsFixedStep, IsFixedOperand}
-use Rattle.pv_pattern_read.proofs.Seen.{operand_seen}
+use Rattle.pv_tree.proofs.ForCallers.{operand_seen}
 
 item_first : {A : Type 0} (all : List A) (i : ℕ) (x : A) → i < length all → x ≡ get_or all i x → drop i all ≡ x ∷ drop (suc i) all
 item_first all i x lt is = drop-cons all i x lt ∙ ap (λ y. y ∷ drop (suc i) all) (sym is)

@@ -1,3 +1,2 @@
 mod ImageLaws
-mod RangeLaws
 mod ReplayLaws

@@ -20,7 +20,7 @@ use Rattle.pv_replay.specs.Images.{AreLong, BeginLong, stored_count}
 use Rattle.pv_replay.specs.Ends.{scan_end, is_done}
 use Rattle.pv_replay.specs.Replays.{IsReplayOf, IsScanned, Leaves, image_of, begin_of, end_of}
 use Rattle.pv_replay.proofs.ImageLaws.{begin-roles, left-roles, count-roles, length-within, long-values, begin-long}
-use Rattle.pv_replay.proofs.RangeLaws.{within-begin}
+use Rattle.pv_mean.proofs.ForCallers.{within-begin}
 
 -- the visible cells at a scan's beginning
 begins : (source : Source) (r : Replay) (input values : List ℤ) → IsReplayOf source r → AreWithin (input_ranges source.cells) input

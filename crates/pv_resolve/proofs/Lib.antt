@@ -2,7 +2,6 @@ mod Laying
 mod Beginning
 mod Tabling
 mod Starting
-mod Seen
 mod Naming
 mod Ordered
 mod FormLaws

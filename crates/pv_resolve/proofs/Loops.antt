@@ -26,7 +26,7 @@ use Rattle.pv_resolve.specs.Functions.{HaveValues, AreArguments}
 use Rattle.pv_resolve.specs.Growing.{Adds, Grows}
 use Rattle.pv_resolve.specs.Walks.{IsWalk, HasAddress}
 use Rattle.pv_resolve.proofs.FormLaws.{added_grows, added_within, grows_twice}
-use Rattle.pv_resolve.proofs.Seen.{operand_seen}
+use Rattle.pv_tree.proofs.ForCallers.{operand_seen}
 use Rattle.pv_resolve.proofs.Arguments.{no_values, one_more, as_arguments, padded}
 use Rattle.pv_resolve.proofs.Walking.{walk_begins, walk_ends}
 

@@ -38,7 +38,7 @@ use Rattle.pv_resolve.specs.declared.begin.Where.TheVariants.{Own, Visible, Brie
 use Rattle.pv_bytes.specs.Lent.{bytes_tree}
 use Rattle.pv_resolve.specs.Contexts.{IsContext, block_in, address_spot_at, area_spot}
 use Rattle.pv_resolve.specs.Begins.{further, begins_in, begins_found, cells_begin, undeclared_begins, type_held}
-use Rattle.pv_resolve.proofs.Seen.{operand_seen}
+use Rattle.pv_tree.proofs.ForCallers.{operand_seen}
 use Rattle.pv_resolve.proofs.Beginning.{exact_number, laid_from}
 
 -- ---- the numbers of area bytes

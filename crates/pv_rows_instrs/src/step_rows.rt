@@ -1,4 +1,4 @@
-//! Single steps of instructions, as `docs/instruction-steps.md` has them.
+//! Single steps of instructions.
 use crate::reading::instr_of;
 use crate::state::{State, fresh, same, targets, with_all};
 use pv_place::TrapKind;

@@ -1,23 +1,18 @@
 -- Statements of the code as plain data, form by form, and the walk over lists of them, one element more.
-use Rattle.std.proofs.Common.{◌≡◌, ℕ, ◌<◌, ◌+◌, suc, refl, sym, ap, ◌∙◌, List, [], ◌∷◌, ◌++◌, map, drop, get_or, length, arith, append_assoc, Option, None, Some}
-use Rattle.std.specs.Prelude.{option_map, option_to_list}
+use Rattle.std.proofs.Common.{◌≡◌, ℕ, ◌<◌, ◌+◌, suc, refl, sym, ap, ◌∙◌, List, [], ◌∷◌, ◌++◌, map, drop, get_or, length, arith, append_assoc, Option}
+use Rattle.std.specs.Prelude.{option_to_list}
 use Rattle.std.proofs.Math.Seq.{drop-cons}
-use Rattle.std.proofs.lemmas.Simd.{map-map}
 use Rattle.pv_place.specs.declared.place.Place.{Place}
 use Rattle.pv_tree.specs.declared.stmt.Choice.{Choice}
-use Rattle.pv_tree.specs.declared.stmt.Stmt.{Stmt, fold-roll-Stmt}
 use Rattle.pv_tree.specs.declared.stmt.Stmt.TheViews as form
-use Rattle.pv_tree.specs.declared.stmt.Stmt.TheVariants.{rolls-If, rolls-Case, rolls-For}
-use Rattle.pv_tree.specs.declared.stmt.Stmt.TheOpen.{Stmt-F}
-use Rattle.pv_tree.specs.Tree.{ExprTree, Choices, StmtTree, StmtTrees, if_, case_, for_, ArmTrees, BranchTrees, ElseTree, no_else, else_}
-use Rattle.pv_tree.specs.View.{expr_tree, stmt_tree, stmt_step, stmts_of, arms_of, branches_of, else_of}
+use Rattle.pv_tree.specs.Tree.{ExprTree, Choices, StmtTree, StmtTrees, if_, case_, ArmTrees, BranchTrees, ElseTree}
+use Rattle.pv_tree.specs.View.{stmts_of, arms_of, branches_of}
 use Rattle.pv_tree.specs.Parts.{Loop, Spot, spots_of, spots_of_stmts, spots_of_arms, spots_of_branches, spots_of_else, conditions_of}
 use Rattle.pv_tree.specs.Rules.MissingNames.{values_of_choices, values_of_branches}
 use Rattle.pv_rules_expr.specs.Looks.{nearer_of}
 use Rattle.pv_rules_expr.specs.NearestIn.{nearest_in}
 use Rattle.pv_rules_code.specs.Spots.{spot}
 use Rattle.pv_rules_expr.proofs.ForCallers.{in_append}
-pub use Rattle.pv_names.proofs.ForCallers.{stmt-for, stmt-if, stmt-case}
 
 -- ---- conditions
 

@@ -24,3 +24,6 @@ pub use Rattle.pv_tree.proofs.NamedTypes.{left, also, left_all, fewer, all_named
 pub use Rattle.pv_tree.proofs.KeptRules.{grounded}
 -- the block that a call runs is the first of its name, and one of the project's
 pub use Rattle.pv_tree.proofs.CalledBlocks.{run_block, run_block_in}
+-- the code's trees as plain data, form by form
+pub use Rattle.pv_tree.proofs.Seen.{operand_seen, place_seen, read_seen, paren_seen, unary_seen, binary_seen, std_seen, field_seen, index_seen}
+pub use Rattle.pv_tree.proofs.StmtSeen.{stmt-for, stmt-if, stmt-case}

@@ -1,6 +1,8 @@
 mod KeptRules
 pub mod NamedTypes
 mod ToldCalls
+pub mod Seen
+pub mod StmtSeen
 pub mod ForCallers
 pub mod Firsts
 pub mod Orders

@@ -4,7 +4,8 @@ use Rattle.std.proofs.Common.{arith, ◌+◌, ◌*◌, ◌<◌, refl, ap, sym, �
 use Rattle.std.specs.Prelude.{option_map}
 use Rattle.pv_tree.specs.View.{expr_tree, stmt_tree, stmts_of, arms_of, branches_of, else_of}
 use Rattle.pv_bytes.specs.Statements.{within, listed, within_arms, within_branches, within_else}
-use Rattle.pv_bytes.proofs.Listing.{stmt-if, stmt-case, next_stmt, next_arm, next_branch, branch_smaller}
+use Rattle.pv_tree.proofs.ForCallers.{stmt-if, stmt-case}
+use Rattle.pv_bytes.proofs.Listing.{next_stmt, next_arm, next_branch, branch_smaller}
 use Rattle.pv_bytes.proofs.statements.+listing.Goals as goal
 
 pub push_statements-loop-stmt-preserved : goal.push_statements-loop-stmt-preserved

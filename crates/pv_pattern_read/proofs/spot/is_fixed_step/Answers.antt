@@ -1,6 +1,6 @@
 use Rattle.std.proofs.Common.{sym, ◌∙◌, subst}
 use Rattle.pv_pattern.specs.Reads.{IsFixedStep}
-use Rattle.pv_pattern_read.proofs.Seen.{field_seen, index_seen}
+use Rattle.pv_tree.proofs.ForCallers.{field_seen, index_seen}
 use Rattle.pv_pattern_read.proofs.spot.is_fixed_step.Goals as goal
 
 pub returns-in-Field : goal.returns-in-Field

@@ -4,9 +4,8 @@ use Rattle.pv_tree.specs.Types.{literal_of}
 use Rattle.pv_tree.specs.View.{expr_tree, operand_tree, exprs_of}
 use Rattle.pv_names.specs.Written.{written_tree}
 use Rattle.pv_names.specs.Sorts.{number_value}
-use Rattle.pv_names.proofs.ForCallers.{unary_seen, binary_seen, std_seen}
+use Rattle.pv_tree.proofs.ForCallers.{unary_seen, binary_seen, std_seen, read_seen, paren_seen}
 use Rattle.pv_pattern.specs.Terms.{IsTermOf}
-use Rattle.pv_pattern_read.proofs.Seen.{read_seen, paren_seen}
 use Rattle.pv_pattern_read.proofs.Termed.{of_literal, of_paren, type_in, terms_none, terms_next, terms_all}
 use Rattle.pv_pattern_read.proofs.term.+making.Goals as goal
 

@@ -1,7 +1,7 @@
 use Rattle.std.proofs.Common.{arith, refl, ap, sym, ◌∙◌}
 use Rattle.pv_tree.specs.Tree.{std}
 use Rattle.pv_mean.specs.Placed.{placed}
-use Rattle.pv_names.proofs.ForCallers.{std_seen}
+use Rattle.pv_tree.proofs.ForCallers.{std_seen}
 use Rattle.pv_program.proofs.Placing.{placed-whole, steps-placed-whole}
 use Rattle.pv_program.proofs.placed.+placed.Goals as goal
 

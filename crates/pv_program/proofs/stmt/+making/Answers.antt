@@ -1,7 +1,7 @@
 use Rattle.std.proofs.Common.{refl, sym, ap, ◌∙◌, subst, arith}
 use Rattle.pv_tree.specs.Tree.{for_, while_, repeat_}
 use Rattle.pv_tree.specs.View.{expr_tree, stmt_tree, stmt_trees}
-use Rattle.pv_names.proofs.ForCallers.{stmt-for, stmt-if, stmt-case}
+use Rattle.pv_tree.proofs.ForCallers.{stmt-for, stmt-if, stmt-case}
 use Rattle.pv_resolve.specs.Contexts.{block_in}
 use Rattle.pv_run.specs.Code.{AreChoices, decides, selects, counts, goes_while, repeats, exits, continues, returns, nothing, calls}
 use Rattle.pv_program.specs.Made.{IsNext, IsArm, IsBranch}

@@ -1,7 +1,7 @@
 use Rattle.std.proofs.Common.{refl, sym, ap, ◌∙◌, map}
 use Rattle.pv_tree.specs.View.{expr_tree, exprs_of, step_tree, steps_of}
 use Rattle.pv_names.specs.InScope.{scope_of}
-use Rattle.pv_names.proofs.ForCallers.{binary_seen, std_seen}
+use Rattle.pv_tree.proofs.ForCallers.{binary_seen, std_seen}
 use Rattle.pv_rules_expr.specs.NearestIn.{nearest_in}
 use Rattle.pv_rules.specs.Codes.{calls_of_code}
 use Rattle.pv_tree.specs.Operands.{operands_in, operands_in_args, operands_in_steps, operands_in_step}

@@ -2,7 +2,7 @@ use Rattle.std.proofs.Common.{sym, ap, ◌∙◌, map}
 use Rattle.std.specs.Prelude.{flat_map}
 use Rattle.pv_tree.specs.View.{expr_tree, stmt_tree, stmts_of}
 use Rattle.pv_names.specs.InScope.{scope_of}
-use Rattle.pv_names.proofs.ForCallers.{stmt-if}
+use Rattle.pv_tree.proofs.ForCallers.{stmt-if}
 use Rattle.pv_rules_expr.specs.NearestIn.{nearest_in}
 use Rattle.pv_rules.specs.Codes.{calls_of_code}
 use Rattle.pv_tree.specs.Operands.{operands_in}

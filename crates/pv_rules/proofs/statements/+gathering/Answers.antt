@@ -3,7 +3,7 @@ use Rattle.std.specs.Prelude.{option_map}
 use Rattle.std.proofs.lemmas.Result.{on_ok_weaker}
 use Rattle.pv_tree.specs.Tree.{if_, case_, for_, while_, repeat_}
 use Rattle.pv_tree.specs.View.{expr_tree, stmt_tree, stmt_trees, stmts_of, arms_of, branches_of, else_of}
-use Rattle.pv_names.proofs.ForCallers.{stmt-if, stmt-case, stmt-for}
+use Rattle.pv_tree.proofs.ForCallers.{stmt-if, stmt-case, stmt-for}
 use Rattle.pv_rules.specs.Statements.{all_in, all_of, all_of_arms, all_of_branches, all_of_else}
 use Rattle.pv_rules.proofs.Gathering.{begun, ended, formed, stmt-while, stmt-repeat}
 use Rattle.pv_rules.proofs.statements.+gathering.Goals as goal

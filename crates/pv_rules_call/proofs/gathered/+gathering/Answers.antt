@@ -4,7 +4,7 @@ use Rattle.pv_tree.specs.declared.stmt.Stmt.TheViews as form
 use Rattle.pv_tree.specs.Parts.{a_for, another, spots_of, spots_of_stmts, spots_of_arms, spots_of_branches, spots_of_else}
 use Rattle.pv_tree.specs.View.{expr_tree, stmt_tree, stmt_trees}
 use Rattle.pv_names.specs.InScope.{scope_of}
-use Rattle.pv_names.proofs.ForCallers.{stmt-if, stmt-case, stmt-for}
+use Rattle.pv_tree.proofs.ForCallers.{stmt-if, stmt-case, stmt-for}
 use Rattle.pv_rules_expr.proofs.ForCallers.{if_ok}
 use Rattle.pv_rules_call.specs.Links.{link_tree}
 use Rattle.pv_rules_call.specs.Gathered.{with_spots, arm_trees, branch_trees, other_tree}

@@ -6,7 +6,8 @@ use Rattle.pv_names.specs.InScope.{scope_of}
 use Rattle.pv_names.specs.Sorts.{want_tree}
 use Rattle.pv_rules_expr.specs.NearestIn.{nearest_in}
 use Rattle.pv_rules_code.specs.AtCases.{value_at, values_place}
-use Rattle.pv_rules_code.proofs.StmtSeen.{stmt-case, next_values}
+use Rattle.pv_tree.proofs.ForCallers.{stmt-case}
+use Rattle.pv_rules_code.proofs.StmtSeen.{next_values}
 use Rattle.pv_rules_code.proofs.case.values_place.Goals as goal
 
 pub loop-branch-init : goal.loop-branch-init

@@ -3,7 +3,7 @@ use Rattle.std.specs.Prelude.{option_and_then}
 use Rattle.pv_tree.specs.View.{stmt_tree}
 use Rattle.pv_names.specs.InScope.{scope_of}
 use Rattle.pv_rules_code.specs.AtLoops.{by_at, step_place}
-use Rattle.pv_rules_code.proofs.StmtSeen.{stmt-for}
+use Rattle.pv_tree.proofs.ForCallers.{stmt-for}
 use Rattle.pv_rules_code.proofs.counter.step_place.Goals as goal
 
 pub returns-in-For : goal.returns-in-For

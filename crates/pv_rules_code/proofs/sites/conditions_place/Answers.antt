@@ -4,7 +4,8 @@ use Rattle.pv_tree.specs.View.{expr_tree, stmt_tree, stmts_of}
 use Rattle.pv_names.specs.InScope.{scope_of}
 use Rattle.pv_rules_expr.specs.NearestIn.{nearest_in}
 use Rattle.pv_rules_code.specs.AtStatements.{condition_at, conditions_place}
-use Rattle.pv_rules_code.proofs.StmtSeen.{stmt-if, conditions_seen}
+use Rattle.pv_tree.proofs.ForCallers.{stmt-if}
+use Rattle.pv_rules_code.proofs.StmtSeen.{conditions_seen}
 use Rattle.pv_rules_code.proofs.sites.conditions_place.Goals as goal
 
 pub loop-arm-init : goal.loop-arm-init

@@ -7,7 +7,8 @@ use Rattle.pv_rules_expr.specs.Looks.{nearer_of}
 use Rattle.pv_rules_expr.specs.NearestIn.{nearest_in}
 use Rattle.pv_rules_code.specs.Sites.{site_place}
 use Rattle.pv_rules_code.specs.Spots.{loop_tree}
-use Rattle.pv_rules_code.proofs.StmtSeen.{stmt-if, stmt-case, if_begun, case_begun, next_stmt, next_arm, next_branch}
+use Rattle.pv_tree.proofs.ForCallers.{stmt-if, stmt-case}
+use Rattle.pv_rules_code.proofs.StmtSeen.{if_begun, case_begun, next_stmt, next_arm, next_branch}
 use Rattle.pv_rules_code.proofs.walk.+walking.Goals as goal
 
 pub walk-loop-arm-init : goal.walk-loop-arm-init

@@ -2,7 +2,7 @@ use Rattle.std.proofs.Common.{sym, ◌∙◌}
 use Rattle.pv_tree.specs.View.{expr_tree}
 use Rattle.pv_names.specs.InScope.{scope_of}
 use Rattle.pv_names.specs.Sorts.{sort_tree}
-use Rattle.pv_names.proofs.ForCallers.{unary_seen}
+use Rattle.pv_tree.proofs.ForCallers.{unary_seen}
 use Rattle.pv_rules_expr.proofs.Misapplying.{unary_place}
 use Rattle.pv_rules_expr.proofs.misfit.misapplied_place.Goals as goal
 

@@ -6,7 +6,7 @@ use Rattle.pv_tree.specs.View.{expr_tree, exprs_of, step_tree, steps_of}
 use Rattle.pv_names.specs.InScope.{scope_of}
 use Rattle.pv_names.specs.Sorts.{sort_tree, want_tree}
 use Rattle.pv_rules_expr.specs.Looks.{nearer_of, near_parts, first_then}
-use Rattle.pv_names.proofs.ForCallers.{binary_seen, std_seen}
+use Rattle.pv_tree.proofs.ForCallers.{binary_seen, std_seen}
 use Rattle.pv_names.proofs.ForCallers.{rest_step}
 use Rattle.pv_rules_expr.proofs.Looking.{near_binary, next_arg, next_step, std_begun, if_ok}
 use Rattle.pv_rules_expr.proofs.search.+looking.Goals as goal

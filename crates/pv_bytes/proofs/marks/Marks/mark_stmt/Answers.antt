@@ -4,7 +4,7 @@ use Rattle.pv_tree.specs.View.{expr_tree, stmt_tree, stmts_of}
 use Rattle.pv_tree.specs.Operands.{operands_in}
 use Rattle.pv_bytes.specs.Operands.{operands_in_stmt}
 use Rattle.pv_bytes.proofs.Marking.{also_same}
-use Rattle.pv_bytes.proofs.Listing.{stmt-if}
+use Rattle.pv_tree.proofs.ForCallers.{stmt-if}
 use Rattle.pv_bytes.proofs.Gathering.{conditions_listed}
 use Rattle.pv_bytes.proofs.marks.Marks.mark_stmt.Goals as goal
 

@@ -5,7 +5,7 @@ use Rattle.pv_tree.specs.Types as types
 use Rattle.pv_tree.specs.View.{expr_tree}
 use Rattle.pv_names.specs.InScope.{scope_of}
 use Rattle.pv_names.specs.Sorts.{sort_tree}
-use Rattle.pv_names.proofs.Seen.{unary_seen, std_seen}
+use Rattle.pv_tree.proofs.ForCallers.{unary_seen, std_seen}
 use Rattle.pv_names.proofs.Steps.{sorts_mapped}
 use Rattle.pv_names.proofs.LiteralSorts.{unary_made}
 use Rattle.pv_names.proofs.scope.Scope.+typing.Goals as goal

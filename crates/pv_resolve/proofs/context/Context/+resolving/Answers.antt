@@ -1,10 +1,9 @@
 use Rattle.std.proofs.Common.{[], map, sym, subst, arith}
 use Rattle.std.proofs.lemmas.Result.{IfOk-weaker, on_ok_weaker}
 use Rattle.pv_tree.specs.View.{expr_tree, operand_tree, step_tree, exprs_of, steps_of}
-use Rattle.pv_names.proofs.ForCallers.{unary_seen, binary_seen, std_seen}
+use Rattle.pv_tree.proofs.ForCallers.{unary_seen, binary_seen, std_seen, read_seen, place_seen, paren_seen, field_seen, index_seen}
 use Rattle.pv_resolve.specs.Contexts.{block_in}
 use Rattle.pv_resolve.proofs.FormLaws.{grows_twice, paren_means}
-use Rattle.pv_resolve.proofs.Seen.{read_seen, place_seen, paren_seen, field_seen, index_seen}
 use Rattle.pv_resolve.proofs.Walking.{number_then, index_makes, walk_index, walk_field}
 use Rattle.pv_resolve.proofs.Loops.{grows_none, HasArguments, arguments_none, arguments_next, arguments_all, walked_none, walked_next, walked_all}
 use Rattle.pv_resolve.proofs.context.Context.+resolving.Goals as goal
