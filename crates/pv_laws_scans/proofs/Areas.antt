@@ -15,8 +15,8 @@ use Rattle.pv_mean.specs.Sources.{Source}
 use Rattle.pv_mean.specs.Frames.{Frame, visible_cells, type_of_visible, visible_value, with_visible}
 use Rattle.pv_mean.specs.Endings.{got}
 use Rattle.pv_mean.specs.Spots.{bit, bytes, byte_in, number_of_bytes, with_bytes, with_bit, read_spot, write_spot}
+use Rattle.pv_mean.proofs.ForCallers.{bytes-miss}
 use Rattle.pv_laws_scans.specs.Areas.{AreBytes}
-use Rattle.pv_laws_scans.proofs.Untouched.{bytes-miss}
 
 -- ---- a value and its bits
 

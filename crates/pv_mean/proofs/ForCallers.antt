@@ -6,4 +6,4 @@ pub use Rattle.pv_mean.proofs.TypeTables.{table_has_all}
 -- the leaves of a declaration have its section
 pub use Rattle.pv_mean.proofs.Tables.{AreOf, of-append, of-type, of-named}
 -- bytes and values that are written elsewhere
-pub use Rattle.pv_mean.proofs.Steps.{write-misses}
+pub use Rattle.pv_mean.proofs.Steps.{bytes-miss, write-misses}

@@ -144,7 +144,7 @@ pub read-written_brief : (source : Source) (frame : Frame) (ty : Ty) (n : ℕ) (
 read-written_brief source frame ty n v place within =
     ap (λ (o : Option ℤ). told o place) (get_or-set_same frame.brief n (Some (wrap_of ty v)) None within)
 
-bytes-miss : (source : Source) (n : ℕ) (count m number : ℕ) (frame : Frame) → (n < m) ⊎ (m + count ≤ n)
+pub bytes-miss : (source : Source) (n : ℕ) (count m number : ℕ) (frame : Frame) → (n < m) ⊎ (m + count ≤ n)
     → visible_value (with_bytes source frame m count number) n ≡ visible_value frame n
 bytes-miss source n zero m number frame apart = refl
 bytes-miss source n (suc count) m number frame apart =

@@ -1,4 +1,4 @@
-use Rattle.std.proofs.Common.{Err, subst}
+use Rattle.std.proofs.Common.{◌<◌, length, Err, subst}
 use Rattle.pv_tree.specs.View.{block_trees}
 use Rattle.pv_tree.specs.Lexemes.{lexemes_of}
 use Rattle.pv_parse_source.specs.SourceAnswers.{AnswersSource}
@@ -22,10 +22,12 @@ pub offset_bounds-tokens-at : goal.offset_bounds-tokens-at
 offset_bounds-tokens-at c =
     let text = c.args.text.now in
     let inner = c.split_at.result.0.now in
+    let within : c.in-Syntax.at < length c.args.tokens.now =
     fault_lies c.args.its text c.args.tokens.now inner c.in-Syntax.at
     (ends c.args.its c.requires.tokens.0 text c.args.tokens.now inner c.requires.tokens.1 c.split_at.ensures.front)
     (subst (λ fault. AnswersSource c.args.its (lexemes_of text inner) (Err fault)) c.in-Syntax.is
-    (subst (λ answer. AnswersSource c.args.its (lexemes_of text inner) answer) c.in-Err.is (c.in_ok-blocks.ensures c.args.its c.requires.reads)))
+    (subst (λ answer. AnswersSource c.args.its (lexemes_of text inner) answer) c.in-Err.is (c.in_ok-blocks.ensures c.args.its c.requires.reads))) in
+    search rules
 
 pub bounds-tokens-at : goal.bounds-tokens-at
 bounds-tokens-at c =
