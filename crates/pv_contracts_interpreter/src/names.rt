@@ -20,7 +20,7 @@ use pv_bytes::AreaBytes;
 use pv_eval::{Expression, Target};
 use pv_mean::Sizes;
 use pv_names::Scope;
-use pv_resolve::{Begin, Context, Firsts, ResolveFault};
+use pv_resolve::{Begin, Context, FirstCells, ResolveFault};
 use pv_tree::{Block, Expr, Operand};
 use pv_types::{Name, Var};
 use std::alloc::{AllocError, Global};
@@ -78,7 +78,7 @@ pub fn context_of<'p>(
 }
 
 /// [`pv_resolve::with_firsts`].
-pub fn with_firsts<'p>(context: Context<'p>, firsts: &'p Firsts<'p>) -> Context<'p>
+pub fn with_firsts<'p>(context: Context<'p>, firsts: &'p FirstCells<'p>) -> Context<'p>
     ensures is { (source : Source) → IsContext context.entry source
         → AreFirsts firsts.now source.project (block_in context.entry) → IsContext result source }
     ensures scope { result.scope ≡ context.entry.scope }
@@ -87,12 +87,12 @@ pub fn with_firsts<'p>(context: Context<'p>, firsts: &'p Firsts<'p>) -> Context<
     pv_resolve::with_firsts(context, firsts)
 }
 
-/// [`Firsts::of`].
-pub fn firsts_of<'p>(alloc: Global, context: &Context<'p>) -> Result<Firsts<'p>, AllocError>
+/// [`FirstCells::of`].
+pub fn firsts_of<'p>(alloc: Global, context: &Context<'p>) -> Result<FirstCells<'p>, AllocError>
     ensures { (source : Source) → IsContext context.now source
         → IfOk result (λ f. AreFirsts f source.project (block_in context.now)) }
 {
-    Firsts::of(alloc, context)
+    FirstCells::of(alloc, context)
 }
 
 /// [`Context::expression`].
