@@ -1,4 +1,4 @@
-use Rattle.std.proofs.Common.{◌<◌, length, Err, subst}
+use Rattle.std.proofs.Common.{◌<◌, length, Err, subst, rules}
 use Rattle.pv_tree.specs.View.{block_trees}
 use Rattle.pv_tree.specs.Lexemes.{lexemes_of}
 use Rattle.pv_parse_source.specs.SourceAnswers.{AnswersSource}
