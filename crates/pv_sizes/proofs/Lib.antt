@@ -1,0 +1,4 @@
+pub mod Adding
+mod Examples
+pub mod Instructing
+pub mod SizeLaws
