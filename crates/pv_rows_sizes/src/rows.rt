@@ -1,8 +1,8 @@
 //! Bodies with their sizes, worked out by hand from the tables of checks and sizes.
-use pv_sizes::block_size;
 use pv_lex::{Language, MAX_SOURCE, tokens};
 use pv_names::{Scope, Tables, entries};
 use pv_scl_parse::parse;
+use pv_sizes::block_size;
 use pv_stl_parse::parse as parse_stl;
 use pv_tree::{Block, Blocks};
 use std::alloc::Global;
@@ -153,7 +153,10 @@ fn bodies_have_sizes(rt: HostRuntime) -> Result<(), Fail> {
     for row in SCL.split('|') {
         let (body, wanted) = row.split_once('~').unwrap_or((row, ""));
         let size = size_between(rt.alloc(), Language::Scl, SCL_HEAD, body)?;
-        assert!(rt; format!(in rt.alloc(); "{size}")?.as_str() == wanted, "{row}: {size}");
+        assert!(rt;
+            format!(in rt.alloc(); "{size}")?.as_str() == wanted,
+            "{row}: {size}"
+        );
     }
     Ok(())
 }
@@ -163,7 +166,10 @@ fn instructions_have_sizes(rt: HostRuntime) -> Result<(), Fail> {
     for row in STL.split('|') {
         let (body, wanted) = row.split_once('~').unwrap_or((row, ""));
         let size = size_between(rt.alloc(), Language::Stl, STL_HEAD, body)?;
-        assert!(rt; format!(in rt.alloc(); "{size}")?.as_str() == wanted, "{row}: {size}");
+        assert!(rt;
+            format!(in rt.alloc(); "{size}")?.as_str() == wanted,
+            "{row}: {size}"
+        );
     }
     Ok(())
 }

@@ -1,8 +1,7 @@
 -- Numbers that are counted up to the bound: sums of such numbers, and sums that a loop goes on with.
-use Rattle.std.proofs.Common.{◌≡◌, ℕ, suc, ◌<◌, ◌≤◌, ◌+◌, List, [], ◌∷◌, length, get_or, drop, refl, sym, ap, ◌∙◌, arith}
+use Rattle.std.proofs.Common.{◌≡◌, ℕ, suc, ◌<◌, ◌+◌, List, ◌∷◌, length, get_or, drop, refl, sym, ap, ◌∙◌, arith}
 use Rattle.std.specs.Prelude.{min}
 use Rattle.std.proofs.Math.Seq.{drop-cons}
-use Rattle.std.proofs.lemmas.List.{drop_all}
 use Rattle.pv_sizes.specs.declared.count.TheConstants.{BEYOND}
 use Rattle.pv_sizes.specs.Counts.{capped}
 
@@ -15,18 +14,11 @@ capped_twice n = omega arith
 pub capped_sum : (x y u v : ℕ) → capped x ≡ capped y → capped u ≡ capped v → capped (x + u) ≡ capped (y + v)
 capped_sum x y u v e f = sum_alike BEYOND x y u v e f
 
--- the code's sum of numbers that are counted so, and of one of them and a number that is exact
-pub sum_of : (r a b x y : ℕ) → r ≡ capped (a + b) → a ≡ capped x → b ≡ capped y → r ≡ capped (x + y)
-sum_of r a b x y is p q =
-    is ∙ capped_sum a x b y (ap capped p ∙ capped_twice x) (ap capped q ∙ capped_twice y)
-
+-- the code's sum of a number that is counted so and of one that is exact
 pub sum_with : (r a x n : ℕ) → r ≡ capped (a + n) → a ≡ capped x → r ≡ capped (x + n)
 sum_with r a x n is p = is ∙ capped_sum a x n n (ap capped p ∙ capped_twice x) refl
 
-pub sum_behind : (r b y n : ℕ) → r ≡ capped (n + b) → b ≡ capped y → r ≡ capped (n + y)
-sum_behind r b y n is p = is ∙ capped_sum n n b y refl (ap capped p ∙ capped_twice y)
-
--- a sum that is the one up to the bound goes on, stays within the bound, and is the whole where nothing is left
+-- a sum that is the one up to the bound goes on, and stays within the bound
 pub goes_on : (r total s x rest whole more : ℕ) → r ≡ capped (total + s) → s ≡ capped x → more ≡ x + rest
     → capped (total + more) ≡ capped whole
     → capped (r + rest) ≡ capped whole
@@ -38,14 +30,15 @@ goes_on r total s x rest whole more is part split before =
 pub stays_within : (r n : ℕ) → r ≡ capped n → capped r ≡ r
 stays_within r n is = ap capped is ∙ capped_twice n ∙ sym is
 
-pub all_added : (total rest whole : ℕ) → capped total ≡ total → rest ≡ 0 → capped (total + rest) ≡ capped whole → total ≡ capped whole
-all_added total rest whole within none left =
-    let z : total ≡ total + rest = omega (arith, none) in sym within ∙ ap capped z ∙ left
+-- before anything is added, and behind a first part
+pub none_added : (rest other whole : ℕ) → rest ≡ other → whole ≡ other → capped (0 + rest) ≡ capped whole
+none_added rest other whole same is = let e : 0 + rest ≡ whole = omega (arith, same, is) in ap capped e
 
--- the last part is added behind the loop
-pub last_added : (r total s rest whole : ℕ) → r ≡ capped (total + s) → s ≡ capped rest → capped (total + rest) ≡ capped whole → r ≡ capped whole
-last_added r total s rest whole is part left =
-    is ∙ capped_sum total total s rest refl (ap capped part ∙ capped_twice rest) ∙ left
+pub first_added : (r x part other last whole : ℕ) → r ≡ capped x → part ≡ other → whole ≡ (x + other) + last
+    → capped (r + (part + last)) ≡ capped whole
+first_added r x part other last whole is same all =
+    capped_sum r x (part + last) (part + last) (ap capped is ∙ capped_twice x) refl
+    ∙ (let e : x + (part + last) ≡ whole = omega (arith, same, all) in ap capped e)
 
 -- ---- lists
 
@@ -54,6 +47,3 @@ pub left_from : {X : Type 0} (xs : List X) (i j : ℕ) (x : X) → i < length xs
 left_from xs i j x inside is next =
     let k : j ≡ suc i = omega (arith, next) in
     drop-cons xs i x inside ∙ ap (λ y. y ∷ drop (suc i) xs) (sym is) ∙ ap (λ n. x ∷ drop n xs) (sym k)
-
-pub none_left : {X : Type 0} (f : List X → ℕ) (xs : List X) (i : ℕ) → length xs ≤ i → f (drop i xs) ≡ f []
-none_left f xs i past = ap f (drop_all i xs past)

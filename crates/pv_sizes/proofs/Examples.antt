@@ -1,7 +1,7 @@
 -- Sizes of automata that were made by hand.
 use Rattle.std.proofs.Common.{◌≡◌, ℕ, [], ◌∷◌, refl, true, false}
 use Rattle.std.specs.Prelude.{◌==◌, if◌then◌else◌}
-use Rattle.pv_sizes.specs.Automata.{Range, Flow, size_of_automaton, inlined_size, unrolled_size}
+use Rattle.pv_sizes.specs.Automata.{Flow, size_of_automaton, inlined_size, unrolled_size}
 
 -- FOR around one assignment: two locations before it, its test at 2, the assignment, the step
 abbrev one_for : Flow

@@ -8,7 +8,7 @@ use Rattle.pv_tree.specs.Scopes.{Scope}
 use Rattle.pv_mean.specs.InstructionReads.{Read, rlo, rlo_if_checked, outer_rlo, accu1, accu2, cc1, cc0, ov, found, value, reads}
 use Rattle.pv_sizes.specs.Checks.{one_if, checks_of}
 use Rattle.pv_sizes.specs.Counts.{capped}
-use Rattle.pv_sizes.specs.InstructionChecks.{checks_of_found, checks_of_value, checks_of_read, checks_of_reads, checks_of_instr, divides_by_accu, ways_of}
+use Rattle.pv_sizes.specs.InstructionChecks.{checks_of_value, checks_of_read, checks_of_reads, checks_of_instr, divides_by_accu, ways_of}
 use Rattle.pv_sizes.specs.Steps.{apart, sum_apart, behind, sum_behind, size_apart, checks_behind, joined_edges, checks_of_load}
 
 one_read : (scope : Scope) (i : InstrTree) (r : Read) → checks_of_read scope i r ≡ apart r + behind scope i r

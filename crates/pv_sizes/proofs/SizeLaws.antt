@@ -1,5 +1,5 @@
 -- Sizes are at least 1; which blocks the limit asks about.
-use Rattle.std.proofs.Common.{◌≡◌, ℕ, ◌≤◌, ◌+◌, List, [], ◌∷◌, Option, Some, None, refl, arith}
+use Rattle.std.proofs.Common.{◌≤◌, ◌+◌, List, [], ◌∷◌, Option, Some, None, arith}
 use Rattle.pv_tree.specs.declared.instr.Op.{Op}
 use Rattle.pv_tree.specs.declared.instr.Op.TheVariants as op
 use Rattle.pv_tree.specs.Tree.{StmtTree, assign, assign_call, if_, case_, for_, while_, repeat_, exit_, continue_, return_, call_, empty_, StmtTrees, no_stmts, stmts, no_arms, arms, InstrTree, CallPlain, BlockTree}
@@ -8,18 +8,17 @@ use Rattle.pv_tree.specs.Statements.{SpellsStmt, SpellsStmts}
 use Rattle.pv_tree.specs.Scopes.{ProjectTree, Scope}
 use Rattle.pv_tree.specs.Callees.{as_statement, CallSite, callee_of, block_of_callee}
 use Rattle.pv_tree.specs.Parts.{site, how_of}
-use Rattle.pv_tree.specs.Rules.Chains.{Calls, LeadsTo, here, by}
+use Rattle.pv_tree.specs.Rules.Chains.{Calls, here, by}
 use Rattle.pv_sizes.specs.InstructionChecks.{checks_of_instr, ways_of}
-use Rattle.pv_sizes.specs.Sizes.{size_of_args, size_of_call, size_of_instr, size_of_instrs, size_of_list, size_of_stmt}
+use Rattle.pv_sizes.specs.Sizes.{size_of_run, size_of_call, size_of_instr, size_of_instrs, size_of_list, size_of_stmt}
 use Rattle.pv_sizes.specs.Limits.{IsAsked}
 
-call_by : (scope : Scope) (s : CallSite) (o : Option BlockTree)
-    → 1 ≤ elim o [ None ↦ 1 | Some callee ↦ size_of_args scope s callee s.call.args + 1 ]
-call_by scope s None = omega arith
-call_by scope s (Some callee) = omega arith
+run_one : (scope : Scope) (s : CallSite) (o : Option BlockTree) → 1 ≤ size_of_run scope s o
+run_one scope s None = omega arith
+run_one scope s (Some callee) = omega arith
 
 pub call_one : (scope : Scope) (s : CallSite) → 1 ≤ size_of_call scope s
-call_one scope s = call_by scope s (block_of_callee (callee_of scope s))
+call_one scope s = run_one scope s (block_of_callee (callee_of scope s))
 
 pub stmt_one : (scope : Scope) (s : StmtTree) (tokens : List Lexeme) → SpellsStmt s tokens → 1 ≤ size_of_stmt scope s
 stmt_one scope (assign target place value) tokens h = omega arith

@@ -1,6 +1,6 @@
 -- Sizes of automata, by where their edges begin: before anything is copied, with the automata of called blocks in place of the calls, and
 -- with the turns of loops one after another.
-use Rattle.std.specs.Prelude.{ℕ, zero, suc, ◌+◌, ◌*◌, nat_le, ◌==◌, List, [], ◌∷◌, length, Bool as Truth, true, false, ◌&&◌, not, if◌then◌else◌}
+use Rattle.std.specs.Prelude.{ℕ, zero, suc, ◌+◌, ◌*◌, nat_le, ◌==◌, List, [], ◌∷◌, length, Bool as Truth, ◌&&◌, not, if◌then◌else◌}
 
 -- the locations from the first to the last; whether entering from outside starts the first turn
 pub record Range : Type 0 where

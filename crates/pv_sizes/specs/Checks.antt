@@ -6,7 +6,7 @@ use Rattle.pv_types.specs.View.{section_of}
 use Rattle.pv_tree.specs.declared.expr.Root.{Root}
 use Rattle.pv_tree.specs.declared.expr.Root.TheVariants.{Local, Named, Area}
 use Rattle.pv_tree.specs.declared.expr.BinaryOp.{BinaryOp}
-use Rattle.pv_tree.specs.declared.expr.BinaryOp.TheVariants.{Mul, Div, Mod, Add, Sub, Less, Greater, LessEqual, GreaterEqual, Equal, NotEqual, And, Xor, Or}
+use Rattle.pv_tree.specs.declared.expr.BinaryOp.TheVariants.{Div, Mod}
 use Rattle.pv_tree.specs.Tree.{ExprTree, lit, read, unary, binary, std, paren, ExprTrees, no_exprs, exprs, OperandTree, operand, StepTree, field, index, StepTrees, no_steps, steps, BlockTree}
 use Rattle.pv_tree.specs.Scopes.{Scope, first_var, own_value}
 use Rattle.pv_tree.specs.Things.{quoted_value}

@@ -1,5 +1,5 @@
 -- How many checks an instruction makes, and how many ways lead on from it.
-use Rattle.std.specs.Prelude.{ℕ, ◌+◌, List, [], ◌∷◌, Bool as Truth, true, false, Option, Some, None}
+use Rattle.std.specs.Prelude.{ℕ, ◌+◌, List, [], ◌∷◌, Bool as Truth, true, false, Some, None}
 use Rattle.pv_tree.specs.declared.instr.Op.{Op}
 use Rattle.pv_tree.specs.declared.instr.Op.TheVariants as op
 use Rattle.pv_tree.specs.Tree.{read, InstrTree}

@@ -5,7 +5,7 @@ use Rattle.pv_types.specs.declared.declaration.Section.{Section}
 use Rattle.pv_types.specs.declared.declaration.Section.TheVariants.{Input, Output, InOut, Static, Temp, Const}
 use Rattle.pv_tree.specs.Tree.{ExprTree, ArgTree, StmtTree, assign, assign_call, if_, case_, for_, while_, repeat_, exit_, continue_, return_, call_, empty_, StmtTrees, no_stmts, stmts, ArmTrees, no_arms, arms, BranchTrees, no_branches, branches, ElseTree, no_else, else_, InstrTree, BodyTree, scl, stl, starts, BlockTree}
 use Rattle.pv_tree.specs.Scopes.{Scope, is_fc}
-use Rattle.pv_tree.specs.Callees.{as_statement, as_value, CallSite, callee_of, block_of_callee, Param, param_for}
+use Rattle.pv_tree.specs.Callees.{How, as_statement, as_value, CallSite, callee_of, block_of_callee, Param, param_for}
 use Rattle.pv_tree.specs.Parts.{operand_of, site, how_of}
 use Rattle.pv_sizes.specs.Checks.{one_if, checks_of, checks_of_target}
 use Rattle.pv_sizes.specs.InstructionChecks.{checks_of_instr, ways_of}
@@ -33,17 +33,22 @@ abbrev pub size_of_param : Scope → BlockTree → ExprTree → Option Param →
 size_of_param scope callee value None = 0
 size_of_param scope callee value (Some p) = size_of_copy scope callee value p.section
 
-abbrev pub size_of_args : Scope → CallSite → BlockTree → List ArgTree → ℕ
-size_of_args scope s callee [] = 0
-size_of_args scope s callee (arg ∷ more) =
-    size_of_param scope callee arg.value (param_for s.how callee arg) + size_of_args scope s callee more
+abbrev pub size_of_arg : Scope → How → BlockTree → ArgTree → ℕ
+size_of_arg scope how callee arg =
+    size_of_param scope callee arg.value (param_for how callee arg)
+
+abbrev pub size_of_args : Scope → How → BlockTree → List ArgTree → ℕ
+size_of_args scope how callee [] = 0
+size_of_args scope how callee (arg ∷ more) =
+    size_of_arg scope how callee arg + size_of_args scope how callee more
 
 -- the copies, and the call edge; a call that runs no block breaks a rule
+abbrev pub size_of_run : Scope → CallSite → Option BlockTree → ℕ
+size_of_run scope s None = 1
+size_of_run scope s (Some callee) = size_of_args scope s.how callee s.call.args + 1
+
 abbrev pub size_of_call : Scope → CallSite → ℕ
-size_of_call scope s = elim (block_of_callee (callee_of scope s)) [
-  | None ↦ 1
-  | Some callee ↦ size_of_args scope s callee s.call.args + 1
-]
+size_of_call scope s = size_of_run scope s (block_of_callee (callee_of scope s))
 
 -- ---- statements
 

@@ -1,4 +1,4 @@
--- What the code adds up, step by step: arguments, the arms of an IF and the branches of a CASE, and the checks of an instruction by where
+-- What the code adds up, step by step: the arms of an IF and the branches of a CASE, and the checks of an instruction by where
 -- they come from.
 use Rattle.std.specs.Prelude.{ℕ, ◌+◌, List, [], ◌∷◌, Vec, map, Option, Some, None, option_map}
 use Rattle.std.specs.declared.alloc.Global.{Global}
@@ -6,23 +6,12 @@ use Rattle.pv_types.specs.declared.declaration.Literal.{Literal}
 use Rattle.pv_tree.specs.declared.expr.Expr.{Expr}
 use Rattle.pv_tree.specs.declared.stmt.Choice.{Choice}
 use Rattle.pv_tree.specs.declared.stmt.Stmt.{Stmt}
-use Rattle.pv_tree.specs.Tree.{ArgTree, BlockTree, ArmTrees, BranchTrees, ElseTree, InstrTree}
+use Rattle.pv_tree.specs.Tree.{ArmTrees, BranchTrees, ElseTree, InstrTree}
 use Rattle.pv_tree.specs.View.{expr_tree, stmt_tree, stmts_of, arms_of, branches_of, else_of}
 use Rattle.pv_tree.specs.Scopes.{Scope}
-use Rattle.pv_tree.specs.Callees.{How, Param, param_for}
 use Rattle.pv_mean.specs.InstructionReads.{Read, rlo, rlo_if_checked, outer_rlo, accu1, accu2, cc1, cc0, ov, found, value, reads}
 use Rattle.pv_sizes.specs.Checks.{one_if}
 use Rattle.pv_sizes.specs.InstructionChecks.{checks_of_found, checks_of_value, divides_by_accu, ways_of}
-use Rattle.pv_sizes.specs.Sizes.{size_of_param}
-
--- ---- arguments
-
-abbrev pub size_of_arg : Scope → How → BlockTree → ArgTree → ℕ
-size_of_arg scope how callee arg = size_of_param scope callee arg.value (param_for how callee arg)
-
-abbrev pub size_of_args : Scope → How → BlockTree → List ArgTree → ℕ
-size_of_args scope how callee [] = 0
-size_of_args scope how callee (arg ∷ more) = size_of_arg scope how callee arg + size_of_args scope how callee more
 
 -- ---- the arms of an IF, the branches of a CASE and an ELSE, as plain data
 

@@ -7,7 +7,6 @@ ghost use Rattle.pv_names.specs.InScope.{scope_of};
 ghost use Rattle.pv_names.specs.Callees.{how_tree};
 ghost use Rattle.pv_sizes.specs.Counts.{capped};
 ghost use Rattle.pv_sizes.specs.Sizes as sizes;
-ghost use Rattle.pv_sizes.specs.Steps.{size_of_arg, size_of_args};
 
 use crate::checks::{expr_size, target_size};
 use crate::count::{one_if, sum};
@@ -52,7 +51,7 @@ fn copy_size(scope: &Scope, callee: &Entry, value: &Expr, section: Section) -> u
 
 /// The size of what is copied for an argument.
 fn arg_size(scope: &Scope, how: How, callee: &Entry, arg: &Arg) -> u64
-    ensures { result ≡ capped (size_of_arg (scope_of scope.now) (how_tree how)
+    ensures { result ≡ capped (sizes.size_of_arg (scope_of scope.now) (how_tree how)
         (block_of callee.now) (arg_tree arg.now)) }
 {
     match param_for(how, callee, arg) {
@@ -63,7 +62,7 @@ fn arg_size(scope: &Scope, how: How, callee: &Entry, arg: &Arg) -> u64
 
 /// The size of what is copied for arguments.
 fn args_size(scope: &Scope, how: How, callee: &Entry, args: &[Arg]) -> u64
-    ensures { result ≡ capped (size_of_args (scope_of scope.now) (how_tree how)
+    ensures { result ≡ capped (sizes.size_of_args (scope_of scope.now) (how_tree how)
         (block_of callee.now) (map arg_tree args.now)) }
 {
     let mut total = 0;

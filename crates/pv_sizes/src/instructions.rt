@@ -7,9 +7,9 @@ ghost use Rattle.pv_sizes.specs.InstructionChecks as checks;
 ghost use Rattle.pv_sizes.specs.Sizes as sizes;
 ghost use Rattle.pv_sizes.specs.Steps.{joined_edges, size_apart, checks_of_load, checks_behind};
 
+use crate::brief::is_brief;
 use crate::calls::call_size;
 use crate::checks::target_size;
-use crate::brief::is_brief;
 use crate::count::{one_if, sum};
 use pv_names::{Scope, how_of};
 use pv_tree::{Instr, Op};

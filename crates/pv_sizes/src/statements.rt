@@ -53,15 +53,26 @@ fn one_size(scope: &Scope, stmt: &Stmt) -> u64
                 None => total,
             }
         }
-        Stmt::For { first, last, body, .. } => {
+        Stmt::For {
+            first,
+            last,
+            body,
+            ..
+        } => {
             let bounds = sum(expr_size(scope, first), expr_size(scope, last));
             sum(sum(bounds, stmt_size(scope, body.as_slice())), 5)
         }
         Stmt::While { cond, body, .. } => {
-            sum(sum(expr_size(scope, cond), 2), stmt_size(scope, body.as_slice()))
+            sum(
+                sum(expr_size(scope, cond), 2),
+                stmt_size(scope, body.as_slice()),
+            )
         }
         Stmt::Repeat { body, cond, .. } => {
-            sum(sum(expr_size(scope, cond), 2), stmt_size(scope, body.as_slice()))
+            sum(
+                sum(expr_size(scope, cond), 2),
+                stmt_size(scope, body.as_slice()),
+            )
         }
         Stmt::Exit(_) => 1,
         Stmt::Continue(_) => 1,

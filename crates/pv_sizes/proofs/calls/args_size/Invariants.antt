@@ -4,7 +4,7 @@ use Rattle.pv_names.specs.Entries.{block_of}
 use Rattle.pv_names.specs.InScope.{scope_of}
 use Rattle.pv_names.specs.Callees.{how_tree}
 use Rattle.pv_sizes.specs.Counts.{capped}
-use Rattle.pv_sizes.specs.Steps.{size_of_args}
+use Rattle.pv_sizes.specs.Sizes.{size_of_args}
 use Rattle.pv_sizes.proofs.calls.args_size.Given as goal
 
 abbrev pub invariant-loop-arg : goal.invariant-loop-arg
