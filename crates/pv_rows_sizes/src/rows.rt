@@ -58,7 +58,7 @@ other(io := ta[i]);~6";
 const STL_HEAD: &str = "\
 FUNCTION G : INT VAR_INPUT p : INT; END_VAR VAR_OUTPUT o : INT; END_VAR BEGIN L #p; T #o; T #RET_VAL; END_FUNCTION \
 FUNCTION_BLOCK F VAR_INPUT x : INT; END_VAR BEGIN END_FUNCTION_BLOCK \
-FUNCTION_BLOCK Demo VAR_INPUT g : BOOL; END_VAR VAR a, b, c, q, plain, ovf : BOOL; i, s : INT; arr : ARRAY[1..3] OF INT; \
+FUNCTION_BLOCK Demo VAR_INPUT ip : BOOL; END_VAR VAR a, b, c, q, plain, ovf : BOOL; i, s : INT; arr : ARRAY[1..3] OF INT; \
 bits : ARRAY[1..3] OF BOOL; inst : F; END_VAR VAR_TEMP ti : INT; tb : BOOL; END_VAR BEGIN ";
 
 const STL: &str = "\
@@ -69,7 +69,7 @@ T #i;~2|\
 );~3|\
 O;~2|\
 A #tb;~3|\
-A #g;~2|\
+A #ip;~2|\
 = #q;~2|\
 m: LOOP m;~3|\
 m: JZ m;~4|\

@@ -39,7 +39,8 @@ two_repeats = refl
 -- IF with a call in each of its lists, the first of which copies a value in; the called block has one assignment
 abbrev two_calls : ℕ → Flow
 two_calls block =
-    if block == 0 then record { edges = 0 ∷ 0 ∷ 1 ∷ []; calls = 1 ∷ 1 ∷ []; loops = [] } else record { edges = 0 ∷ []; calls = []; loops = [] }
+    if block == 0 then record { edges = 0 ∷ 0 ∷ 1 ∷ []; calls = 1 ∷ 1 ∷ []; loops = [] }
+    else record { edges = 0 ∷ []; calls = []; loops = [] }
 
 plain_calls : size_of_automaton (two_calls 0) ≡ 5
 plain_calls = refl

@@ -71,7 +71,8 @@ load_of : (l : Option Literal) (scope : Scope) (i : InstrTree)
 load_of None scope i = omega arith
 load_of (Some x) scope i = refl
 
-pub load_behind : (scope : Scope) (i : InstrTree) (r : ℕ) → r ≡ capped (checks_of_load scope i) → r ≡ capped (sum_behind scope i (reads i op.L))
+pub load_behind : (scope : Scope) (i : InstrTree) (r : ℕ) → r ≡ capped (checks_of_load scope i)
+    → r ≡ capped (sum_behind scope i (reads i op.L))
 load_behind scope i r is = let same = load_of i.literal scope i in omega (arith, is, same)
 
 or_of : (o : Option OperandTree) (scope : Scope) (i : InstrTree) → i.operand ≡ o
@@ -79,5 +80,6 @@ or_of : (o : Option OperandTree) (scope : Scope) (i : InstrTree) → i.operand �
 or_of None scope i is = sym (ap (λ o. elim o as (λ x. ℕ) [ None ↦ 0 | Some p ↦ checks_of scope (read p) ]) is)
 or_of (Some p) scope i is = omega arith
 
-pub or_behind : (scope : Scope) (i : InstrTree) (r : ℕ) → r ≡ capped (checks_of_value scope i) → r ≡ capped (sum_behind scope i (reads i op.O))
+pub or_behind : (scope : Scope) (i : InstrTree) (r : ℕ) → r ≡ capped (checks_of_value scope i)
+    → r ≡ capped (sum_behind scope i (reads i op.O))
 or_behind scope i r is = let same = or_of i.operand scope i refl in omega (arith, is, same)

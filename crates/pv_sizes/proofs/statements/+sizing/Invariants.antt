@@ -9,14 +9,16 @@ use Rattle.pv_sizes.proofs.statements.+sizing.Given as goal
 abbrev pub invariant-one_size-loop-arm : goal.invariant-one_size-loop-arm
 invariant-one_size-loop-arm l = record {
   within : capped l.total ≡ l.total;
-  total : capped (l.total + (size_of_arms (scope_of l.scope) (arm_trees (drop l.arm-index l.arm-items)) + size_of_else (scope_of l.scope) (other_tree l.other)))
+  total : capped (l.total + (size_of_arms (scope_of l.scope) (arm_trees (drop l.arm-index l.arm-items))
+      + size_of_else (scope_of l.scope) (other_tree l.other)))
       ≡ capped (size_of_stmt (scope_of l.scope) (stmt_tree l.fn.stmt));
 }
 
 abbrev pub invariant-one_size-loop-branch : goal.invariant-one_size-loop-branch
 invariant-one_size-loop-branch l = record {
   within : capped l.total ≡ l.total;
-  total : capped (l.total + (size_of_branches (scope_of l.scope) (branch_trees (drop l.branch-index l.branch-items)) + size_of_else (scope_of l.scope) (other_tree l.other)))
+  total : capped (l.total + (size_of_branches (scope_of l.scope) (branch_trees (drop l.branch-index l.branch-items))
+      + size_of_else (scope_of l.scope) (other_tree l.other)))
       ≡ capped (size_of_stmt (scope_of l.scope) (stmt_tree l.fn.stmt));
 }
 
