@@ -13,7 +13,7 @@ use Rattle.pv_kind.specs.declared.decision.Limits.{Limits}
 use Rattle.pv_kind.specs.declared.decision.End.{End}
 use Rattle.pv_kind.specs.declared.ask.Reply.{Reply}
 use Rattle.pv_kind.specs.declared.ask.Reply.TheVariants.{Met, Refuted, SpentLemmas, SpentRegion}
-use Rattle.pv_kind.specs.Refinements.{Stage, Round, IsRound, Refines, put_back}
+use Rattle.pv_kind.specs.Refinements.{Stage, Round, IsRound, put_back}
 use Rattle.pv_kind.specs.Oracles.{Encoding, MeetsInRuns}
 use Rattle.pv_kind.specs.Decisions.{problem_of, IsFull, SpendsWords, IsTurn, Decides}
 
@@ -56,18 +56,14 @@ pub record IsRefinedOnce (e : Encoding) (q : Query) (s t : Stage) : Type 0 where
   pub leads : t ≡ put_back round.cells s
 
 -- what is told of values: cells were put back, or a trace shows the query
-abbrev pub Tells : Encoding → Query → Stage → Stage → Option Trace → Type 0
-Tells e q s t None = IsRefinedOnce e q s t
-Tells e q s t (Some trace) = (t ≡ s) × e.shows q trace
+abbrev pub TellsOf : Encoding → Query → Stage → Stage → Option Trace → Type 0
+TellsOf e q s t None = IsRefinedOnce e q s t
+TellsOf e q s t (Some trace) = (t ≡ s) × e.shows q trace
 
 -- what came of asking a query once: cells were put back, or there is a reply
 abbrev pub GoesOn : Machine → Encoding → Limits → Query → Stage → Stage → List Proof → List Proof → Option Reply → Type 0
 GoesOn m e limits q s t old new None = IsRefinedOnce e q s t × (new ≡ old)
 GoesOn m e limits q s t old new (Some reply) = (t ≡ s) × Replies m e s limits q old new reply
-
--- some rounds lead from one stage to the other
-abbrev pub IsRefined : Encoding → Stage → Stage → Type 0
-IsRefined e s t = (rounds : List Round) × Refines e.tells s rounds t
 
 -- ---- the turns of a decision
 

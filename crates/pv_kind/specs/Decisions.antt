@@ -13,7 +13,7 @@ use Rattle.pv_cert.specs.declared.proof.Proof.{Proof}
 use Rattle.pv_kind.specs.declared.decision.Limits.{Limits}
 use Rattle.pv_kind.specs.declared.decision.End.{End}
 use Rattle.pv_kind.specs.declared.decision.End.TheVariants.{Proved, Failed, Depth, SpentLemmas, SpentRegion}
-use Rattle.pv_kind.specs.Refinements.{Stage, IsOnWay}
+use Rattle.pv_kind.specs.Refinements.{Stage, AreOnWay}
 use Rattle.pv_kind.specs.Oracles.{Encoding}
 
 -- ---- whose turn it is
@@ -42,11 +42,11 @@ IsWithin depth (Step k) = k ≤ depth
 abbrev pub Refutes : Encoding → Proof → Type 0
 Refutes e p = IsAccepted (Follows (e.variables p.chain p.query)) (e.clauses p.chain p.query) p.log
 
--- proofs of these queries in this order, each under a chain on the way from the first stage to the last
+-- proofs of these queries in this order, each under the chain that there was when its query was last asked
 pub record AreProofs (e : Encoding) (first last : Stage) (queries : List Query) (proofs : List Proof) : Type 0 where
   pub in_order : map (λ (p : Proof). p.query) proofs ≡ queries
   pub refute : AllByRecursion (Refutes e) proofs
-  pub chains : AllByRecursion (λ (p : Proof). IsOnWay e.tells first last p.chain) proofs
+  pub chains : AreOnWay e.tells first (map (λ (p : Proof). p.chain) proofs) last
 
 -- it is the query's turn: each base query before it is refuted by a proof and isn't met, and each step query before it is met
 pub record IsTurn (m : Machine) (e : Encoding) (first last : Stage) (q : Query) (proofs : List Proof) : Type 0 where

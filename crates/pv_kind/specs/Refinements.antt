@@ -45,14 +45,14 @@ abbrev pub Refines : Tells → Stage → List Round → Stage → Type 0
 Refines tells s [] t = s ≡ t
 Refines tells s (round ∷ rounds) t = IsRound tells s round × Refines tells (put_back round.cells s) rounds t
 
--- the chain is one of those on the way from the first stage to the last
-pub record IsOnWay (tells : Tells) (first last : Stage) (chain : Chain) : Type 0 where
-  pub stage : Stage
-  pub is : stage.chain ≡ chain
-  pub before : List Round
-  pub after : List Round
-  pub leads : Refines tells first before stage
-  pub goes_on : Refines tells stage after last
+-- some rounds lead from one stage to the other
+abbrev pub IsRefined : Tells → Stage → Stage → Type 0
+IsRefined tells s t = (rounds : List Round) × Refines tells s rounds t
+
+-- the chains are those of stages on the way from the first to the last, in this order
+abbrev pub AreOnWay : Tells → Stage → List Chain → Stage → Type 0
+AreOnWay tells s [] t = IsRefined tells s t
+AreOnWay tells s (chain ∷ chains) t = (u : Stage) × IsRefined tells s u × (u.chain ≡ chain) × AreOnWay tells u chains t
 
 -- rounds lead from the first stage to the last, no more than there were abstracted cells
 pub record IsRefinedInFew (tells : Tells) (first last : Stage) : Type 0 where

@@ -3,8 +3,9 @@ ghost use Rattle.std.specs.Prelude.{◌≡◌, ℕ, ◌+◌, ◌*◌, ◌^◌, �
 ghost use Rattle.pv_cnf.specs.Clause.{Holds};
 ghost use Rattle.pv_solver.specs.Answers.{lines_of, values_of, assigned_of, truth_of};
 ghost use Rattle.pv_kind.specs.Oracles.{IsAsked, IsRefuted};
+ghost use Rattle.pv_kind.specs.Refinements.{IsRefined};
 ghost use Rattle.pv_kind.specs.Decisions.{problem_of, IsFull};
-ghost use Rattle.pv_kind.specs.Asking.{IsFilled, Fills, IsRefutedBy, Tells, Replies, GoesOn, IsRefined};
+ghost use Rattle.pv_kind.specs.Asking.{IsFilled, Fills, IsRefutedBy, TellsOf, Replies, GoesOn};
 
 use crate::copy::{add_proof, copied_line};
 use crate::decision::Limits;
@@ -40,8 +41,8 @@ fn fill<O: Oracle>(
     requires asked { IsAsked q }
     requires ready { O.is_ready oracle.old q }
     requires made { solver.old ≡ record {
-        problem = problem_of limits ((O.encoding (O.fixed oracle.old)).variables (O.stage oracle.old).chain q) [];
-        outcome = None;
+      problem = problem_of limits ((O.encoding (O.fixed oracle.old)).variables (O.stage oracle.old).chain q) [];
+      outcome = None;
     } }
     requires fit { 2 * (O.encoding (O.fixed oracle.old)).variables (O.stage oracle.old).chain q ≤ limits.words }
     ensures fills { IfOk result (Fills (problem_of limits
@@ -84,7 +85,7 @@ fn told<O: Oracle>(oracle: &mut O, q: Query, solver: &Solver) -> Result<Option<T
     requires assigned { (O.encoding (O.fixed oracle.old)).variables (O.stage oracle.old).chain q ≤ assigned_of solver.now }
     requires hold { Holds (truth_of (values_of solver.now.outcome))
         ((O.encoding (O.fixed oracle.old)).clauses (O.stage oracle.old).chain q) }
-    ensures tells { IfOk result (Tells (O.encoding (O.fixed oracle.old)) q (O.stage oracle.old) (O.stage oracle.new)) }
+    ensures tells { IfOk result (TellsOf (O.encoding (O.fixed oracle.old)) q (O.stage oracle.old) (O.stage oracle.new)) }
     ensures err { OnErr result (O.stage oracle.new ≡ O.stage oracle.old) }
     ensures fixed_kept { O.fixed oracle.new ≡ O.fixed oracle.old }
 {
@@ -175,8 +176,8 @@ fn posed<O: Oracle>(
     requires lemmas { 1 ≤ limits.lemmas }
     requires words { limits.words ≤ 250000000 }
     requires made { solver.old ≡ record {
-        problem = problem_of limits ((O.encoding (O.fixed oracle.old)).variables (O.stage oracle.old).chain q) [];
-        outcome = None;
+      problem = problem_of limits ((O.encoding (O.fixed oracle.old)).variables (O.stage oracle.old).chain q) [];
+      outcome = None;
     } }
     requires fit { 2 * (O.encoding (O.fixed oracle.old)).variables (O.stage oracle.old).chain q ≤ limits.words }
     ensures goes_on { IfOk result (GoesOn (O.Source.machine (O.source (O.fixed oracle.old))) (O.encoding (O.fixed oracle.old)) limits q
@@ -229,7 +230,7 @@ pub(crate) fn ask<O: Oracle>(
     requires words { limits.words ≤ 250000000 }
     ensures replies { IfOk result (Replies (O.Source.machine (O.source (O.fixed oracle.old))) (O.encoding (O.fixed oracle.old))
         (O.stage oracle.new) limits q proofs.old proofs.new) }
-    ensures refined { IsRefined (O.encoding (O.fixed oracle.old)) (O.stage oracle.old) (O.stage oracle.new) }
+    ensures refined { IsRefined (O.encoding (O.fixed oracle.old)).tells (O.stage oracle.old) (O.stage oracle.new) }
     ensures gates { result ≡ Err OracleFault.Gates → (O.encoding (O.fixed oracle.old)).passes (O.stage oracle.new).chain ≡ true }
     ensures fixed_kept { O.fixed oracle.new ≡ O.fixed oracle.old }
 {

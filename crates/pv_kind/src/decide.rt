@@ -1,9 +1,9 @@
 //! The queries in their order.
 ghost use Rattle.std.specs.Prelude.{◌≡◌, ℕ, ◌+◌, ◌<◌, ◌≤◌, true, List, IfOk};
 ghost use Rattle.pv_machine.specs.Queries.{MeetsBase, MeetsStep};
-ghost use Rattle.pv_kind.specs.Refinements.{Stage, IsRefinedInFew};
+ghost use Rattle.pv_kind.specs.Refinements.{Stage, IsRefined, IsRefinedInFew};
 ghost use Rattle.pv_kind.specs.Decisions.{IsTurn, Decides, IsUnspent, IsProvedBy, IsFailedBy};
-ghost use Rattle.pv_kind.specs.Asking.{IsRefined, AfterStep, AfterBase};
+ghost use Rattle.pv_kind.specs.Asking.{AfterStep, AfterBase};
 
 use crate::ask::{Reply, ask};
 use crate::decision::{Decision, End, Limits};
@@ -27,7 +27,7 @@ fn ask_step<O: Oracle>(
     ensures after { (first : Stage) → IsTurn (O.Source.machine (O.source (O.fixed oracle.old))) (O.encoding (O.fixed oracle.old)) first
         (O.stage oracle.old) (Query.Step k) proofs.old → IfOk result (AfterStep (O.Source.machine (O.source (O.fixed oracle.old)))
         (O.encoding (O.fixed oracle.old)) first (O.stage oracle.new) limits k proofs.new) }
-    ensures refined { IsRefined (O.encoding (O.fixed oracle.old)) (O.stage oracle.old) (O.stage oracle.new) }
+    ensures refined { IsRefined (O.encoding (O.fixed oracle.old)).tells (O.stage oracle.old) (O.stage oracle.new) }
     ensures gates { result ≡ Err OracleFault.Gates → (O.encoding (O.fixed oracle.old)).passes (O.stage oracle.new).chain ≡ true }
     ensures fixed_kept { O.fixed oracle.new ≡ O.fixed oracle.old }
 {
@@ -58,7 +58,7 @@ fn ask_base<O: Oracle>(
     ensures after { (first : Stage) → IsTurn (O.Source.machine (O.source (O.fixed oracle.old))) (O.encoding (O.fixed oracle.old)) first
         (O.stage oracle.old) (Query.Base n) proofs.old → IfOk result (AfterBase (O.Source.machine (O.source (O.fixed oracle.old)))
         (O.encoding (O.fixed oracle.old)) first (O.stage oracle.new) limits n proofs.new) }
-    ensures refined { IsRefined (O.encoding (O.fixed oracle.old)) (O.stage oracle.old) (O.stage oracle.new) }
+    ensures refined { IsRefined (O.encoding (O.fixed oracle.old)).tells (O.stage oracle.old) (O.stage oracle.new) }
     ensures gates { result ≡ Err OracleFault.Gates → (O.encoding (O.fixed oracle.old)).passes (O.stage oracle.new).chain ≡ true }
     ensures fixed_kept { O.fixed oracle.new ≡ O.fixed oracle.old }
 {
@@ -83,7 +83,7 @@ fn ask_last<O: Oracle>(
     ensures decides { (first : Stage) → IsTurn (O.Source.machine (O.source (O.fixed oracle.old))) (O.encoding (O.fixed oracle.old)) first
         (O.stage oracle.old) (Query.Step limits.depth) proofs.old → IfOk result (Decides (O.Source.machine (O.source (O.fixed oracle.old)))
         (O.encoding (O.fixed oracle.old)) first (O.stage oracle.new) limits proofs.new) }
-    ensures refined { IsRefined (O.encoding (O.fixed oracle.old)) (O.stage oracle.old) (O.stage oracle.new) }
+    ensures refined { IsRefined (O.encoding (O.fixed oracle.old)).tells (O.stage oracle.old) (O.stage oracle.new) }
     ensures gates { result ≡ Err OracleFault.Gates → (O.encoding (O.fixed oracle.old)).passes (O.stage oracle.new).chain ≡ true }
     ensures fixed_kept { O.fixed oracle.new ≡ O.fixed oracle.old }
 {
@@ -109,7 +109,7 @@ fn go<O: Oracle>(
         (O.stage oracle.old) (Query.Step 0) proofs.old }
     ensures decides { IfOk result (Decides (O.Source.machine (O.source (O.fixed oracle.old))) (O.encoding (O.fixed oracle.old))
         (O.stage oracle.old) (O.stage oracle.new) limits proofs.new) }
-    ensures refined { IsRefined (O.encoding (O.fixed oracle.old)) (O.stage oracle.old) (O.stage oracle.new) }
+    ensures refined { IsRefined (O.encoding (O.fixed oracle.old)).tells (O.stage oracle.old) (O.stage oracle.new) }
     ensures gates { result ≡ Err OracleFault.Gates → (O.encoding (O.fixed oracle.old)).passes (O.stage oracle.new).chain ≡ true }
     ensures fixed_kept { O.fixed oracle.new ≡ O.fixed oracle.old }
 {
@@ -128,7 +128,11 @@ fn go<O: Oracle>(
 /// a step query is refuted or a limit is spent. `Gates` comes where the circuit of the oracle's chain passes the limit on circuits.
 ///
 /// One solver's memory is held at a time, besides the proofs.
-pub fn decide<O: Oracle>(alloc: Global, oracle: &mut O, limits: &Limits) -> Result<Decision, OracleFault>
+pub fn decide<O: Oracle>(
+    alloc: Global,
+    oracle: &mut O,
+    limits: &Limits,
+) -> Result<Decision, OracleFault>
     requires depth { limits.now.depth ≤ 64 }
     requires lemmas { 1 ≤ limits.now.lemmas }
     requires words { limits.now.words ≤ 250000000 }
