@@ -211,7 +211,11 @@ fn ask_once<O: Oracle>(
 {
     let variables = oracle.variables(q)?;
     match Solver::make(alloc, variables, limits.words, limits.lemmas) {
-        Ok(mut solver) => posed(alloc, oracle, q, limits, &mut solver, proofs),
+        Ok(mut solver) => {
+            let reply = posed(alloc, oracle, q, limits, &mut solver, proofs);
+            drop(solver);
+            reply
+        }
         Err(MakeFault::Full { need }) => Ok(Some(full(alloc, oracle, q, limits, need, proofs)?)),
         Err(MakeFault::NoMemory) => Err(OracleFault::NoMemory),
     }

@@ -1,6 +1,7 @@
 //! The queries in their order.
 ghost use Rattle.std.specs.Prelude.{◌≡◌, ℕ, ◌+◌, ◌<◌, ◌≤◌, true, List, IfOk};
 ghost use Rattle.pv_machine.specs.Queries.{MeetsBase, MeetsStep};
+ghost use Rattle.pv_kind.specs.declared.told.TheConstants.{LAST_QUERY};
 ghost use Rattle.pv_kind.specs.Refinements.{Stage, IsRefined, IsRefinedInFew};
 ghost use Rattle.pv_kind.specs.Decisions.{IsTurn, Decides, IsUnspent, IsProvedBy, IsFailedBy};
 ghost use Rattle.pv_kind.specs.Asking.{AfterStep, AfterBase};
@@ -21,7 +22,7 @@ fn ask_step<O: Oracle>(
     proofs: &mut Proofs,
 ) -> Result<Option<End>, OracleFault>
     requires within { k < limits.depth }
-    requires depth { limits.depth ≤ 64 }
+    requires depth { limits.depth ≤ LAST_QUERY }
     requires lemmas { 1 ≤ limits.lemmas }
     requires words { limits.words ≤ 250000000 }
     ensures after { (first : Stage) → IsTurn (O.Source.machine (O.source (O.fixed oracle.old))) (O.encoding (O.fixed oracle.old)) first
@@ -52,7 +53,7 @@ fn ask_base<O: Oracle>(
 ) -> Result<Option<End>, OracleFault>
     requires from_one { 1 ≤ n }
     requires within { n ≤ limits.depth }
-    requires depth { limits.depth ≤ 64 }
+    requires depth { limits.depth ≤ LAST_QUERY }
     requires lemmas { 1 ≤ limits.lemmas }
     requires words { limits.words ≤ 250000000 }
     ensures after { (first : Stage) → IsTurn (O.Source.machine (O.source (O.fixed oracle.old))) (O.encoding (O.fixed oracle.old)) first
@@ -77,7 +78,7 @@ fn ask_last<O: Oracle>(
     limits: Limits,
     proofs: &mut Proofs,
 ) -> Result<End, OracleFault>
-    requires depth { limits.depth ≤ 64 }
+    requires depth { limits.depth ≤ LAST_QUERY }
     requires lemmas { 1 ≤ limits.lemmas }
     requires words { limits.words ≤ 250000000 }
     ensures decides { (first : Stage) → IsTurn (O.Source.machine (O.source (O.fixed oracle.old))) (O.encoding (O.fixed oracle.old)) first
@@ -102,7 +103,7 @@ fn go<O: Oracle>(
     limits: Limits,
     proofs: &mut Proofs,
 ) -> Result<End, OracleFault>
-    requires depth { limits.depth ≤ 64 }
+    requires depth { limits.depth ≤ LAST_QUERY }
     requires lemmas { 1 ≤ limits.lemmas }
     requires words { limits.words ≤ 250000000 }
     requires turn { IsTurn (O.Source.machine (O.source (O.fixed oracle.old))) (O.encoding (O.fixed oracle.old)) (O.stage oracle.old)
@@ -133,7 +134,7 @@ pub fn decide<O: Oracle>(
     oracle: &mut O,
     limits: &Limits,
 ) -> Result<Decision, OracleFault>
-    requires depth { limits.now.depth ≤ 64 }
+    requires depth { limits.now.depth ≤ LAST_QUERY }
     requires lemmas { 1 ≤ limits.now.lemmas }
     requires words { limits.now.words ≤ 250000000 }
     ensures decides { IfOk result (λ d. Decides (O.Source.machine (O.source (O.fixed oracle.old))) (O.encoding (O.fixed oracle.old))
@@ -153,6 +154,11 @@ pub fn decide<O: Oracle>(
     ensures fixed_kept { O.fixed oracle.new ≡ O.fixed oracle.old }
 {
     let mut proofs = Proofs::new(alloc);
-    let end = go(alloc, oracle, *limits, &mut proofs)?;
-    Ok(Decision { end, proofs })
+    match go(alloc, oracle, *limits, &mut proofs) {
+        Ok(end) => Ok(Decision { end, proofs }),
+        Err(fault) => {
+            drop(proofs);
+            Err(fault)
+        }
+    }
 }
