@@ -1,12 +1,13 @@
 -- Room in a solver: what its store says of pushed clauses is what its words say.
-use Rattle.std.proofs.Common.{◌≡◌, ℕ, zero, suc, ◌+◌, ◌-◌, ◌*◌, ◌<◌, ◌≤◌, true, false, Bool, inl, inr, List, [], ◌∷◌, ◌++◌, length, refl, sym, ap, subst, ◌∙◌, arith, Option, Some, None, append_assoc, append-nil}
+use Rattle.std.proofs.Common.{◌≡◌, ℕ, zero, suc, ◌+◌, ◌-◌, ◌*◌, ◌<◌, ◌≤◌, ◌⊎◌, true, false, Bool, inl, inr, List, [], ◌∷◌, ◌++◌, length, refl, sym, ap, subst, ◌∙◌, arith, Option, Some, None, append_assoc, append-nil}
 use Rattle.std.specs.Prelude.{if◌then◌else◌}
 use Rattle.std.proofs.lemmas.Bool.{cases_lt, lt-ltb, le-ltb}
+use Rattle.std.proofs.lemmas.List.Sums.{sum_by-cons}
 use Rattle.pv_cnf.specs.declared.clauses.PushFault.TheVariants.{Full}
 use Rattle.pv_frames.specs.Pushing.{AllFit, StopsAt}
 use Rattle.pv_log.specs.declared.line.Line.{Line}
 use Rattle.pv_solver.specs.Answers.{Problem, HasSpentLemmas, HasSpentRegion}
-use Rattle.pv_solver.specs.Costs.{words_of, line_cost, past}
+use Rattle.pv_solver.specs.Costs.{words_of, words_with, clause_cost, line_cost, past}
 use Rattle.pv_kind.specs.Decisions.{IsFull, IsFullAt}
 
 past_is : (words used : ℕ) → words < used → past words used ≡ Some used
@@ -74,15 +75,31 @@ length-zeros (suc n) = ap suc (length-zeros n)
 words_at : (v need : ℕ) → 2 * v + 3 ≤ need → words_of v (zeros (need - (2 * v + 3)) ∷ []) ≡ need
 words_at v need enough = omega (arith, length-zeros (need - (2 * v + 3)))
 
-same_past : (w u v need : ℕ) → ((all : List (List ℕ)) → past u (words_of v all) ≡ past w (words_of v all)) → 2 * v + 3 ≤ need → u < need → w < need
-same_past w u v need room enough over =
+-- two stores that refuse alike have room alike for so many words
+same_past : (w u v need : ℕ) → ((all : List (List ℕ)) → past u (words_of v all) ≡ past w (words_of v all)) → 2 * v + 3 ≤ need → past u need ≡ past w need
+same_past w u v need room enough =
     let all : List (List ℕ) = zeros (need - (2 * v + 3)) ∷ [] in
-    let is : words_of v all ≡ need = words_at v need enough in
-    let one : past u need ≡ Some need = past_is u need over in
-    let two : past w need ≡ Some need =
-    subst (λ (n : ℕ). past w n ≡ Some need) is
-    (sym (room all) ∙ subst (λ (n : ℕ). past u n ≡ Some need) (sym is) one) in
-    (past_some w need need two).1
+    subst (λ (n : ℕ). past u n ≡ past w n) (words_at v need enough) (room all)
+
+same_over : (w u v need : ℕ) → ((all : List (List ℕ)) → past u (words_of v all) ≡ past w (words_of v all)) → 2 * v + 3 ≤ need → u < need → w < need
+same_over w u v need room enough over =
+    (past_some w need need (sym (same_past w u v need room enough) ∙ past_is u need over)).1
+
+same_fits : (w u v need : ℕ) → ((all : List (List ℕ)) → past u (words_of v all) ≡ past w (words_of v all)) → 2 * v + 3 ≤ need → need ≤ u → need ≤ w
+same_fits w u v need room enough fits =
+    past_none w need (sym (same_past w u v need room enough) ∙ past_not u need fits)
+
+words_more : (v : ℕ) (clauses : List (List ℕ)) (lines : List Line) → (words_with v clauses lines ≡ 2 * v) ⊎ (2 * v + 3 ≤ words_with v clauses lines)
+words_more v [] [] = inl (omega arith)
+words_more v [] (line ∷ lines) = inr (omega (arith, sum_by-cons line_cost line lines))
+words_more v (clause ∷ clauses) lines = inr (omega (arith, sum_by-cons clause_cost clause clauses))
+
+with_fits : (w u v : ℕ) (clauses : List (List ℕ)) (lines : List Line) → ((all : List (List ℕ)) → past u (words_of v all) ≡ past w (words_of v all)) → 2 * v ≤ w
+    → words_with v clauses lines ≤ u → words_with v clauses lines ≤ w
+with_fits w u v clauses lines room least fits = elim (words_more v clauses lines) [
+  | inl none ↦ omega (arith, none)
+  | inr some ↦ same_fits w u v (words_with v clauses lines) room some fits
+]
 
 -- ---- problems that differ in their words alone
 
@@ -94,9 +111,9 @@ same_lemmas p q lines variables clauses lemmas h =
     record { spent = record { lemmas = c.spent.lemmas; none_false = c.spent.none_false }; all = c.all }
 
 pub same_region : (p q : Problem) (lines : List Line) (next : Line) (need : ℕ) → q.variables ≡ p.variables → q.clauses ≡ p.clauses → q.lemmas ≡ p.lemmas
-    → ((all : List (List ℕ)) → past q.words (words_of q.variables all) ≡ past p.words (words_of p.variables all))
+    → 2 * p.variables ≤ p.words → ((all : List (List ℕ)) → past q.words (words_of q.variables all) ≡ past p.words (words_of p.variables all))
     → HasSpentRegion q lines next need → HasSpentRegion p lines next need
-same_region p q lines next need variables clauses lemmas room h =
+same_region p q lines next need variables clauses lemmas least room h =
     let a = subst (λ (v : ℕ). HasSpentRegion (record { variables = v; clauses = q.clauses; words = q.words; lemmas = q.lemmas }) lines next need) variables h in
     let b = subst (λ (c : List (List ℕ)). HasSpentRegion (record { variables = p.variables; clauses = c; words = q.words; lemmas = q.lemmas }) lines next need) clauses a in
     let c = subst (λ (l : ℕ). HasSpentRegion (record { variables = p.variables; clauses = p.clauses; words = q.words; lemmas = l }) lines next need) lemmas b in
@@ -106,7 +123,8 @@ same_region p q lines next need variables clauses lemmas room h =
     record {
       spent = record { lemmas = c.spent.lemmas; none_false = c.spent.none_false };
       left = c.left;
+      fits = with_fits p.words q.words p.variables p.clauses lines same least c.fits;
       next_is = c.next_is;
       sum = c.sum;
-      past = same_past p.words q.words p.variables need same enough c.past;
+      past = same_over p.words q.words p.variables need same enough c.past;
     }

@@ -14,9 +14,9 @@ use Rattle.pv_cert.specs.declared.proof.Query.TheVariants.{Base, Step}
 use Rattle.pv_cert.specs.declared.proof.Chain.{Chain}
 use Rattle.pv_cert.specs.declared.proof.Proof.{Proof}
 use Rattle.pv_kind.specs.declared.decision.Limits.{Limits}
-use Rattle.pv_kind.specs.Refinements.{Stage, IsRefined, AreOnWay}
+use Rattle.pv_kind.specs.Refinements.{Stage, IsRefinedBy}
 use Rattle.pv_kind.specs.Oracles.{Encoding}
-use Rattle.pv_kind.specs.Decisions.{bases, IsWithin, Refutes, AreProofs, IsTurn, IsSpent, IsProved, problem_of}
+use Rattle.pv_kind.specs.Decisions.{bases, bases_before, IsWithin, Refutes, AreProofs, IsTurn, IsSpent, IsProved, problem_of}
 use Rattle.pv_kind.specs.Asking.{Adds, IsRefutedBy}
 use Rattle.pv_kind.proofs.Rounds.{way_on, way_push, refined_none}
 
@@ -26,18 +26,36 @@ all_push : (P : Proof → Type 0) (xs : List Proof) (x : Proof) → AllByRecursi
 all_push P [] x all is = (is, tt)
 all_push P (y ∷ xs) x all is = (all.0, all_push P xs x all.1 is)
 
-module _ (m : Machine) (e : Encoding) (first : Stage) where
-  proofs_on : (s t : Stage) (queries : List Query) (proofs : List Proof) → IsRefined e.tells s t → AreProofs e first s queries proofs → AreProofs e first t queries proofs
-  proofs_on s t queries proofs r h = record {
-    in_order = h.in_order;
-    refute = h.refute;
-    chains = way_on e.tells first s t (map (λ (p : Proof). p.chain) proofs) h.chains r;
-  }
+all_by_query : (P : Query → Type 0) (proofs : List Proof) → AllByRecursion P (map (λ (p : Proof). p.query) proofs)
+    → AllByRecursion (λ (p : Proof). P p.query) proofs
+all_by_query P [] all = tt
+all_by_query P (p ∷ proofs) all = (all.0, all_by_query P proofs all.1)
 
+all_queries : (P : Query → Type 0) (xs : List Query) (x : Query) → AllByRecursion P xs → P x → AllByRecursion P (xs ++ x ∷ [])
+all_queries P [] x all is = (is, tt)
+all_queries P (y ∷ xs) x all is = (all.0, all_queries P xs x all.1 is)
+
+all_bases : (P : Query → Type 0) (n : ℕ) → ((j : ℕ) → 1 ≤ j → j ≤ n → P (Base j)) → AllByRecursion P (bases n)
+all_bases P zero f = tt
+all_bases P (suc n) f =
+    all_queries P (bases n) (Base (suc n)) (all_bases P n (λ j from to. f j from (omega arith))) (f (suc n) (omega arith) (omega arith))
+
+-- the query is none of the base queries before it
+differs : (q : Query) → AllByRecursion (λ (x : Query). x ≡ q → ⊥) (bases (bases_before q))
+differs (Base n) = all_bases (λ (x : Query). x ≡ Base n → ⊥) (n - 1) (λ j from to e. (let same : j ≡ n = cc in absurd (omega arith)))
+differs (Step k) = all_bases (λ (x : Query). x ≡ Step k → ⊥) k (λ j from to e. absurd cc)
+
+module _ (m : Machine) (e : Encoding) (first : Stage) where
   -- cells were put back while it was the query's turn
-  pub turn_on : (s t : Stage) (q : Query) (proofs : List Proof) → IsRefined e.tells s t → IsTurn m e first s q proofs → IsTurn m e first t q proofs
+  pub turn_on : (s t : Stage) (q : Query) (proofs : List Proof) → IsRefinedBy e.tells (λ (x : Query). x ≡ q) s t → IsTurn m e first s q proofs
+      → IsTurn m e first t q proofs
   turn_on s t q proofs r h = record {
-    are_proofs = proofs_on s t _ proofs r h.are_proofs;
+    are_proofs = record {
+      in_order = h.are_proofs.in_order;
+      refute = h.are_proofs.refute;
+      chains = way_on e.tells q first s t proofs (all_by_query (λ (x : Query). x ≡ q → ⊥) proofs
+          (subst (AllByRecursion (λ (x : Query). x ≡ q → ⊥)) (sym h.are_proofs.in_order) (differs q))) h.are_proofs.chains r;
+    };
     refuted = h.refuted;
     met = h.met;
   }
@@ -57,8 +75,7 @@ module _ (m : Machine) (e : Encoding) (first : Stage) where
           in_order = map-append (λ (p : Proof). p.query) old (a.proof ∷ [])
               ∙ (ap (λ (l : List Query). l ++ a.proof.query ∷ []) h.in_order ∙ ap (λ (x : Query). queries ++ x ∷ []) a.query);
           refute = all_push (Refutes e) old a.proof h.refute (log_of q IsRefutedBy old new a);
-          chains = subst (λ (l : List Chain). AreOnWay e.tells first l s) (sym (map-append (λ (p : Proof). p.chain) old (a.proof ∷ [])))
-              (way_push e.tells first s (map (λ (p : Proof). p.chain) old) a.proof.chain h.chains (sym a.chain));
+          chains = way_push e.tells first s old a.proof h.chains (sym a.chain);
         } in
         subst (λ (l : List Proof). AreProofs e first s (queries ++ q ∷ []) l) (sym a.added) whole
 

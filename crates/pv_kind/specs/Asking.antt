@@ -1,5 +1,5 @@
 -- What the parts of a decision say of one another: private contracts cite this.
-use Rattle.std.specs.Prelude.{◌≡◌, ℕ, ◌+◌, List, [], ◌∷◌, ◌++◌, Option, Some, None}
+use Rattle.std.specs.Prelude.{◌≡◌, ℕ, ◌+◌, ◌*◌, ◌≤◌, List, [], ◌∷◌, ◌++◌, Option, Some, None}
 use Rattle.pv_machine.specs.Machines.{Machine}
 use Rattle.pv_log.specs.declared.line.Line.{Line}
 use Rattle.pv_log.specs.Follows.{Follows, IsAccepted}
@@ -22,6 +22,7 @@ pub record IsFilled (p : Problem) (s : Solving) : Type 0 where
   pub variables : s.problem.variables ≡ p.variables
   pub clauses : s.problem.clauses ≡ p.clauses
   pub outcome : s.outcome ≡ None
+  pub fits : 2 * p.variables ≤ p.words
   pub room : (all : List (List ℕ)) → past s.problem.words (words_of s.problem.variables all) ≡ past p.words (words_of p.variables all)
 
 -- what came of pushing the clauses: all are there, or there is no room, and so many words would be needed

@@ -46,7 +46,7 @@ Refutes e p = IsAccepted (Follows (e.variables p.chain p.query)) (e.clauses p.ch
 pub record AreProofs (e : Encoding) (first last : Stage) (queries : List Query) (proofs : List Proof) : Type 0 where
   pub in_order : map (λ (p : Proof). p.query) proofs ≡ queries
   pub refute : AllByRecursion (Refutes e) proofs
-  pub chains : AreOnWay e.tells first (map (λ (p : Proof). p.chain) proofs) last
+  pub chains : AreOnWay e.tells first proofs last
 
 -- it is the query's turn: each base query before it is refuted by a proof and isn't met, and each step query before it is met
 pub record IsTurn (m : Machine) (e : Encoding) (first last : Stage) (q : Query) (proofs : List Proof) : Type 0 where

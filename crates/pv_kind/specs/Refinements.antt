@@ -3,6 +3,7 @@ use Rattle.std.specs.Prelude.{◌≡◌, ℕ, ◌<◌, ◌≤◌, Bool, not, Lis
 use Rattle.std.specs.List.{list_any, AllByRecursion}
 use Rattle.pv_cert.specs.declared.proof.Query.{Query}
 use Rattle.pv_cert.specs.declared.proof.Chain.{Chain}
+use Rattle.pv_cert.specs.declared.proof.Proof.{Proof}
 
 -- where an oracle stands: how the machine is made smaller, and the cells that are abstracted
 pub record Stage : Type 0 where
@@ -49,10 +50,17 @@ Refines tells s (round ∷ rounds) t = IsRound tells s round × Refines tells (p
 abbrev pub IsRefined : Tells → Stage → Stage → Type 0
 IsRefined tells s t = (rounds : List Round) × Refines tells s rounds t
 
--- the chains are those of stages on the way from the first to the last, in this order
-abbrev pub AreOnWay : Tells → Stage → List Chain → Stage → Type 0
+-- some rounds do in which only such queries were asked
+abbrev pub IsRefinedBy : Tells → (Query → Type 0) → Stage → Stage → Type 0
+IsRefinedBy tells asked s t = (rounds : List Round) × Refines tells s rounds t × AllByRecursion (λ round. asked round.query) rounds
+
+-- on the way from the first stage to the last there were, in this order, the chains of the proofs, each when its query was asked for the
+-- last time
+abbrev pub AreOnWay : Tells → Stage → List Proof → Stage → Type 0
 AreOnWay tells s [] t = IsRefined tells s t
-AreOnWay tells s (chain ∷ chains) t = (u : Stage) × IsRefined tells s u × (u.chain ≡ chain) × AreOnWay tells u chains t
+AreOnWay tells s (proof ∷ proofs) t =
+    (u : Stage) × IsRefined tells s u × (u.chain ≡ proof.chain) × IsRefinedBy tells (λ query. query ≡ proof.query → ⊥) u t
+    × AreOnWay tells u proofs t
 
 -- rounds lead from the first stage to the last, no more than there were abstracted cells
 pub record IsRefinedInFew (tells : Tells) (first last : Stage) : Type 0 where

@@ -3,7 +3,7 @@ ghost use Rattle.std.specs.Prelude.{◌≡◌, ℕ, ◌+◌, ◌*◌, ◌^◌, �
 ghost use Rattle.pv_cnf.specs.Clause.{Holds};
 ghost use Rattle.pv_solver.specs.Answers.{lines_of, values_of, assigned_of, truth_of};
 ghost use Rattle.pv_kind.specs.Oracles.{IsAsked, IsRefuted};
-ghost use Rattle.pv_kind.specs.Refinements.{IsRefined};
+ghost use Rattle.pv_kind.specs.Refinements.{IsRefinedBy};
 ghost use Rattle.pv_kind.specs.Decisions.{problem_of, IsFull};
 ghost use Rattle.pv_kind.specs.Asking.{IsFilled, Fills, IsRefutedBy, TellsOf, Replies, GoesOn};
 
@@ -234,7 +234,7 @@ pub(crate) fn ask<O: Oracle>(
     requires words { limits.words ≤ 250000000 }
     ensures replies { IfOk result (Replies (O.Source.machine (O.source (O.fixed oracle.old))) (O.encoding (O.fixed oracle.old))
         (O.stage oracle.new) limits q proofs.old proofs.new) }
-    ensures refined { IsRefined (O.encoding (O.fixed oracle.old)).tells (O.stage oracle.old) (O.stage oracle.new) }
+    ensures refined { IsRefinedBy (O.encoding (O.fixed oracle.old)).tells (λ asked. asked ≡ q) (O.stage oracle.old) (O.stage oracle.new) }
     ensures gates { result ≡ Err OracleFault.Gates → (O.encoding (O.fixed oracle.old)).passes (O.stage oracle.new).chain ≡ true }
     ensures fixed_kept { O.fixed oracle.new ≡ O.fixed oracle.old }
 {

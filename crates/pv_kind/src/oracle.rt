@@ -42,6 +42,7 @@ pub trait Oracle {
         requires { IsAsked q }
         ensures number { IfOk result (λ n. n ≡ (encoding (fixed self.old)).variables (stage self.old).chain q) }
         ensures ready { IfOk result (λ _. is_ready self.new q) }
+        ensures ready_kept { (p : Query) → is_ready self.old p → is_ready self.new p }
 
         // Gates comes exactly where the circuit of the chain passes the limit, running out of memory aside.
         ensures gates { result ≡ Err OracleFault.Gates → (encoding (fixed self.old)).passes (stage self.old).chain ≡ true }
@@ -64,7 +65,7 @@ pub trait Oracle {
         ensures takes_kept { C.takes_clauses into.new ≡ C.takes_clauses into.old }
         ensures overflow_kept { (all : List (List ℕ)) → C.overflow into.new all ≡ C.overflow into.old all }
 
-        ensures ready_kept { is_ready self.new q }
+        ensures ready_kept { (p : Query) → is_ready self.old p → is_ready self.new p }
         ensures fixed_kept { fixed self.new ≡ fixed self.old }
         ensures stage_kept { stage self.new ≡ stage self.old };
 
@@ -80,6 +81,7 @@ pub trait Oracle {
         requires hold { Holds (V.truth values.now) ((encoding (fixed self.old)).clauses (stage self.old).chain q) }
         ensures told { IfOk result (IsTold (encoding (fixed self.old)) (stage self.old) q) }
 
+        ensures ready_kept { (p : Query) → is_ready self.old p → is_ready self.new p }
         ensures fixed_kept { fixed self.new ≡ fixed self.old }
         ensures stage_kept { stage self.new ≡ stage self.old };
 
