@@ -1,8 +1,8 @@
 -- That a decision whose limits aren't spent shows what can be shown up to its depth.
 use Rattle.std.proofs.Common.{◌≡◌, ℕ, ◌-◌, ◌<◌, ◌≤◌, inl, inr, List, [], ◌∷◌, length, sym, subst, arith}
 use Rattle.std.proofs.lemmas.Bool.{cases_lt}
-use Rattle.pv_machine.specs.Machines.{Machine, Values}
-use Rattle.pv_machine.specs.Queries.{MeetsBase, MeetsStep, FailsAtLast}
+use Rattle.pv_machine.specs.Machines.{Machine}
+use Rattle.pv_machine.specs.Queries.{MeetsBase, MeetsStep}
 use Rattle.pv_cert.specs.declared.proof.Query.{Query}
 use Rattle.pv_cert.specs.declared.proof.Query.TheVariants.{Base, Step}
 use Rattle.pv_cert.specs.declared.proof.Proof.{Proof}
@@ -12,12 +12,8 @@ use Rattle.pv_kind.specs.declared.decision.End.{End}
 use Rattle.pv_kind.specs.declared.decision.End.TheVariants.{Proved, Failed, Depth, SpentLemmas, SpentRegion}
 use Rattle.pv_kind.specs.Refinements.{Stage}
 use Rattle.pv_kind.specs.Oracles.{Encoding, Meets}
+use Rattle.pv_kind.proofs.Early.{some_scan}
 use Rattle.pv_kind.specs.Decisions.{Decides, IsUnspent, IsProvedBy, IsFailedBy}
-
--- a run that fails has a scan
-some_scan : (m : Machine) (s : Values) (inputs : List Values) → FailsAtLast m s inputs → 1 ≤ length inputs
-some_scan m s [] f = absurd f
-some_scan m s (i ∷ inputs) f = omega arith
 
 from_one : (m : Machine) (n : ℕ) → MeetsBase m n → 1 ≤ n
 from_one m n b = let count = b.count in omega (arith, some_scan m (m.start b.params) b.inputs b.fails)

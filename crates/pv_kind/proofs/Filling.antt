@@ -1,14 +1,16 @@
 -- Room in a solver: what its store says of pushed clauses is what its words say.
 use Rattle.std.proofs.Common.{◌≡◌, ℕ, zero, suc, ◌+◌, ◌-◌, ◌*◌, ◌<◌, ◌≤◌, ◌⊎◌, true, false, Bool, inl, inr, List, [], ◌∷◌, ◌++◌, length, refl, sym, ap, subst, ◌∙◌, arith, Option, Some, None, append_assoc, append-nil}
-use Rattle.std.specs.Prelude.{if◌then◌else◌}
+use Rattle.std.specs.Prelude.{if◌then◌else◌, is_none}
 use Rattle.std.proofs.lemmas.Bool.{cases_lt, lt-ltb, le-ltb}
 use Rattle.std.proofs.lemmas.List.Sums.{sum_by-cons}
 use Rattle.pv_cnf.specs.declared.clauses.PushFault.TheVariants.{Full}
-use Rattle.pv_frames.specs.Pushing.{AllFit, StopsAt}
+use Rattle.pv_frames.specs.Pushing.{AllFit, ArePushed, StopsAt}
 use Rattle.pv_log.specs.declared.line.Line.{Line}
-use Rattle.pv_solver.specs.Answers.{Problem, HasSpentLemmas, HasSpentRegion}
+use Rattle.pv_solver.specs.Answers.{Problem, Solving, HasSpentLemmas, HasSpentRegion}
+use Rattle.pv_solver.specs.declared.outcome.Outcome.{Outcome}
 use Rattle.pv_solver.specs.Costs.{words_of, words_with, clause_cost, line_cost, past}
 use Rattle.pv_kind.specs.Decisions.{IsFull, IsFullAt}
+use Rattle.pv_kind.specs.Asking.{IsFilled}
 
 past_is : (words used : ℕ) → words < used → past words used ≡ Some used
 past_is words used less = ap (λ (b : Bool). if b then Some used else None) (lt-ltb words used less)
@@ -36,7 +38,7 @@ fit_words words v there (c ∷ clauses) fits fit =
     (fit_words words v (there ++ c ∷ []) clauses (past_none words (words_of v (there ++ c ∷ [])) fit.0) fit.1)
 
 -- the first clause for which there is no room
-pub full_at : (p : Problem) (new : List (List ℕ)) (need : ℕ) → 2 * p.variables ≤ p.words
+full_at : (p : Problem) (new : List (List ℕ)) (need : ℕ) → 2 * p.variables ≤ p.words
     → StopsAt (λ (all : List (List ℕ)). past p.words (words_of p.variables all)) [] p.clauses new (Full need) → IsFull p [] need
 full_at p new need fits s =
     let is : past p.words (words_of p.variables (s.before ++ s.refused ∷ [])) ≡ Some need =
@@ -59,6 +61,32 @@ full_at p new need fits s =
 -- the variables alone
 pub full_of_variables : (p : Problem) (need : ℕ) → need ≡ 2 * p.variables → p.words < need → IsFull p [] need
 full_of_variables p need is past = record { no_line = refl; past = past; at = inl is }
+
+-- ---- a solver without clauses, into which they are pushed
+
+none_of : (o : Option Outcome) → is_none o ≡ true → o ≡ None
+none_of None e = refl
+none_of (Some found) e = absurd cc
+
+abbrev pub overflow_of : Solving → List (List ℕ) → Option ℕ
+overflow_of s all = past s.problem.words (words_of s.problem.variables all)
+
+pub filled : (p : Problem) (old new : Solving) → old ≡ record { problem = record p { clauses = [] }; outcome = None } → 2 * p.variables ≤ p.words
+    → new.problem.variables ≡ old.problem.variables → is_none new.outcome ≡ is_none old.outcome
+    → ((all : List (List ℕ)) → overflow_of new all ≡ overflow_of old all)
+    → ArePushed (overflow_of old) old.problem.clauses p.clauses new.problem.clauses → IsFilled p new
+filled p old new made fits variables takes overflow pushed = record {
+  variables = variables ∙ ap (λ (s : Solving). s.problem.variables) made;
+  clauses = pushed.stand ∙ ap (λ (s : Solving). s.problem.clauses ++ p.clauses) made;
+  outcome = none_of new.outcome (takes ∙ ap (λ (s : Solving). is_none s.outcome) made);
+  fits = fits;
+  room = λ all. overflow all ∙ ap (λ (s : Solving). overflow_of s all) made;
+}
+
+pub stopped : (p : Problem) (old : Solving) (new : List (List ℕ)) (need : ℕ) → old ≡ record { problem = record p { clauses = [] }; outcome = None }
+    → 2 * p.variables ≤ p.words → StopsAt (overflow_of old) old.problem.clauses p.clauses new (Full need) → IsFull p [] need
+stopped p old new need made fits s =
+    full_at p new need fits (subst (λ (x : Solving). StopsAt (overflow_of x) x.problem.clauses p.clauses new (Full need)) made s)
 
 -- ---- stores that refuse alike have room alike
 

@@ -48,6 +48,7 @@ fn fill<O: Oracle>(
     ensures fills { IfOk result (Fills (problem_of limits
         ((O.encoding (O.fixed oracle.old)).variables (O.stage oracle.old).chain q)
         ((O.encoding (O.fixed oracle.old)).clauses (O.stage oracle.old).chain q)) solver.new) }
+    ensures no_gates { result ≡ Err OracleFault.Gates → ⊥ }
     ensures ready_kept { O.is_ready oracle.new q }
     ensures fixed_kept { O.fixed oracle.new ≡ O.fixed oracle.old }
     ensures stage_kept { O.stage oracle.new ≡ O.stage oracle.old }
@@ -239,8 +240,9 @@ pub(crate) fn ask<O: Oracle>(
     ensures fixed_kept { O.fixed oracle.new ≡ O.fixed oracle.old }
 {
     'rounds: loop {
-        if let Some(reply) = ask_once(alloc, oracle, q, limits, proofs)? {
-            return Ok(reply);
+        match ask_once(alloc, oracle, q, limits, proofs)? {
+            Some(reply) => return Ok(reply),
+            None => {}
         }
     }
 }

@@ -6,12 +6,13 @@
 
 mod ask;
 mod copy;
-mod decide;
+mod deciding;
 mod decision;
+pub mod laws;
 mod oracle;
 mod told;
 
-pub use decide::decide;
+pub use deciding::decide;
 pub use decision::{Decision, End, Limits};
 pub use oracle::Oracle;
 pub use told::{LAST_QUERY, OracleFault, Told};

@@ -3,6 +3,7 @@ ghost use Rattle.std.specs.Prelude.{◌≡◌, ℕ, ◌≤◌, true, false, List
 ghost use Rattle.std.specs.List.{AllByRecursion};
 ghost use Rattle.pv_cnf.specs.Clause.{Holds};
 ghost use Rattle.pv_frames.specs.Pushing.{Pushes};
+ghost use Rattle.pv_cert.specs.declared.proof.Query.{Query};
 ghost use Rattle.pv_kind.specs.Oracles.{Encoding, IsAsked, IsTold, IsSound};
 ghost use Rattle.pv_kind.specs.Refinements.{Stage, is_among, put_back};
 

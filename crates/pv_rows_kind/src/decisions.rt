@@ -178,3 +178,90 @@ fn ends(rt: HostRuntime) -> Result<(), Fail> {
     assert_eq!(rt; failed, ('F', 3, 2, 1, 0));
     Ok(())
 }
+
+#[test]
+fn depths_and_rounds(rt: HostRuntime) -> Result<(), Fail> {
+    let alloc = rt.alloc();
+    let shallow = Limits {
+        depth: 0,
+        ..ROW.limits
+    };
+    let depth = Row {
+        most: 1,
+        limits: shallow,
+        ..ROW
+    };
+    assert_eq!(rt; end_of(alloc, depth, &THREE)?, ('D', 0, 0, 0, 0));
+    // Of two cells one is put back.
+    let differs = Row { cells: 2, ..depth };
+    assert_eq!(rt; end_of(alloc, differs, &THREE)?, ('D', 0, 0, 0, 1));
+    let limited = Row {
+        limited: true,
+        ..differs
+    };
+    assert_eq!(rt; end_of(alloc, limited, &THREE)?, ('G', 0, 0, 0, 1));
+    let deeper = Limits {
+        depth: 2,
+        ..ROW.limits
+    };
+    let depth = Row {
+        most: 3,
+        limits: deeper,
+        ..ROW
+    };
+    assert_eq!(rt; end_of(alloc, depth, &THREE)?, ('D', 0, 2, 1, 0));
+    Ok(())
+}
+
+#[test]
+fn spent(rt: HostRuntime) -> Result<(), Fail> {
+    let alloc = rt.alloc();
+    let one_lemma = Limits {
+        lemmas: 1,
+        ..ROW.limits
+    };
+    let hard = Row {
+        hard_from: 0,
+        limits: one_lemma,
+        ..ROW
+    };
+    assert_eq!(rt; end_of(alloc, hard, &THREE)?, ('L', 0, 1, 1, 0));
+    let hard = Row {
+        most: 2,
+        hard_from: 2,
+        ..hard
+    };
+    assert_eq!(rt; end_of(alloc, hard, &THREE)?, ('L', 0, 2, 1, 0));
+    // Seven variables take 14 words, and the first clause 4.
+    let words = Limits {
+        words: 13,
+        ..ROW.limits
+    };
+    let full = Row {
+        limits: words,
+        ..ROW
+    };
+    assert_eq!(rt; end_of(alloc, full, &THREE)?, ('R', 14, 1, 0, 0));
+    let words = Limits {
+        words: 16,
+        ..ROW.limits
+    };
+    let full = Row {
+        limits: words,
+        ..ROW
+    };
+    assert_eq!(rt; end_of(alloc, full, &THREE)?, ('R', 18, 1, 0, 0));
+    // The first lemma takes 7 words.
+    let words = Limits {
+        words: 30,
+        ..ROW.limits
+    };
+    let full = Row {
+        variables: 2,
+        hard_from: 0,
+        limits: words,
+        ..ROW
+    };
+    assert_eq!(rt; end_of(alloc, full, &TWO)?, ('N', 31, 1, 0, 0));
+    Ok(())
+}

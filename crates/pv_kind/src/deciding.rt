@@ -115,11 +115,13 @@ fn go<O: Oracle>(
     ensures fixed_kept { O.fixed oracle.new ≡ O.fixed oracle.old }
 {
     for k in 0..limits.depth {
-        if let Some(end) = ask_step(alloc, oracle, k, limits, proofs)? {
-            return Ok(end);
+        match ask_step(alloc, oracle, k, limits, proofs)? {
+            Some(end) => return Ok(end),
+            None => {}
         }
-        if let Some(end) = ask_base(alloc, oracle, k + 1, limits, proofs)? {
-            return Ok(end);
+        match ask_base(alloc, oracle, k + 1, limits, proofs)? {
+            Some(end) => return Ok(end),
+            None => {}
         }
     }
     ask_last(alloc, oracle, limits, proofs)

@@ -2,7 +2,7 @@ use Rattle.std.proofs.Common.{◌≡◌}
 use Rattle.pv_cert.specs.declared.proof.Query.TheVariants.{Step}
 use Rattle.pv_kind.specs.Refinements.{IsRefined}
 use Rattle.pv_kind.specs.Decisions.{IsTurn}
-use Rattle.pv_kind.proofs.decide.go.Given as goal
+use Rattle.pv_kind.proofs.deciding.go.Given as goal
 
 abbrev pub invariant-loop-k : goal.invariant-loop-k
 invariant-loop-k g l = record {
