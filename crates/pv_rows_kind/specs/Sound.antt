@@ -40,12 +40,11 @@ module _ (start most : ℕ) where
   -- it fails at the last of as many scans as its number is
   falls : (n : ℕ) (s : Values) → number_of s ≡ suc n → FailsAtLast (counting start most) s (scans (suc n))
   falls zero s is = subst (λ (k : ℕ). nat_eq k 1 ≡ true) (sym is) refl
-  falls (suc n) s is =
-      (
-        pos (number_of s - 1) ∷ [],
-        record { done = refl; keeps = ne_eqb (number_of s) 1 (λ e. absurd (omega (arith, is, e))) },
-        falls n (pos (number_of s - 1) ∷ []) (omega (arith, is)),
-      )
+  falls (suc n) s is = (
+    pos (number_of s - 1) ∷ [],
+    record { done = refl; keeps = ne_eqb (number_of s) 1 (λ e. absurd (omega (arith, is, e))) },
+    falls n (pos (number_of s - 1) ∷ []) (omega (arith, is)),
+  )
 
   met : (q : Query) → start ≤ most → IsAsked q → is_met start most q ≡ true → Meets (counting start most) q
   met (query.Base zero) le asked is = absurd (omega (arith, asked.0))

@@ -117,7 +117,11 @@ fn last_lines(proofs: &Proofs) -> u32 {
 
 /// The end of a row: its kind, its number, how many proofs there are, how many lines the last one has, and how many cells are abstracted
 /// in the end.
-fn end_of(alloc: Global, row: Row, hard: &[&[u32]]) -> Result<(char, u64, usize, u32, usize), Fail> {
+fn end_of(
+    alloc: Global,
+    row: Row,
+    hard: &[&[u32]],
+) -> Result<(char, u64, usize, u32, usize), Fail> {
     let limits = row.limits;
     let fit = limits.depth <= LAST_QUERY && limits.lemmas >= 1 && limits.words <= 250000000;
     if !fit || row.start > row.most || row.variables >= 1 << 31 || hard.len() >= 99 {

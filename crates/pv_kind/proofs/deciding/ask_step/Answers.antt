@@ -13,7 +13,7 @@ returns-in-Met-clause-after g c = λ first turn.
     let s = g.O.Oracle.stage c.args.oracle.now in
     let t = g.O.Oracle.stage c.ask.new.oracle in
     let r = subst (λ (x : Reply). Replies m e t c.args.limits (Step c.args.k) c.args.proofs.now c.ask.new.proofs x) c.in-Met.is c.in_ok-trace.ensures.replies in
-    step_is_met m e first s t c.args.limits c.args.proofs.now c.ask.new.proofs c.args.k c.in-Met.trace (g.O.Oracle.sound c.args.oracle.now).shown turn c.in_ok-trace.ensures.refined r
+    step_is_met m e first s t c.args.limits c.args.proofs.now c.ask.new.proofs c.args.k c.in-Met.trace (g.met.O.Oracle.sound c.args.oracle.now).shown turn c.in_ok-trace.ensures.refined r
 
 pub returns-in-Refuted-clause-after : goal.returns-in-Refuted-clause-after
 returns-in-Refuted-clause-after g c = λ first turn.

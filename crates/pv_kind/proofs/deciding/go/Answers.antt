@@ -1,6 +1,8 @@
 use Rattle.std.proofs.Common.{◌≡◌, ◌+◌, ◌∙◌, subst, Option, None}
 use Rattle.pv_cert.specs.declared.proof.Query.TheVariants.{Base, Step}
 use Rattle.pv_kind.specs.declared.decision.End.{End}
+use Rattle.pv_machine.specs.Machines.{Machine}
+use Rattle.pv_kind.specs.Oracles.{Encoding}
 use Rattle.pv_kind.specs.Asking.{AfterStep, AfterBase}
 use Rattle.pv_kind.proofs.Going.{refined_from, base_next, step_next}
 use Rattle.pv_kind.proofs.deciding.go.Goals as goal
@@ -78,8 +80,8 @@ loop-k-preserved g c =
     let s3 = g.O.Oracle.stage c.ask_base.new.oracle in
     let r3 = refined_from g.O.Oracle.Fixed (λ x. g.O.Oracle.encoding x) f0 f2 (c.ask_step.ensures.fixed_kept ∙ (c.loop-k.invariant.fixed)) s0 s2 s3 r2 c.ask_base.ensures.refined in
     let f3 = g.O.Oracle.fixed c.ask_base.new.oracle in
-    let mach = λ x. g.O.Source.Machine.machine (g.O.Oracle.source x) in
-    let enc = λ x. g.O.Oracle.encoding x in
+    let mach : g.O.Oracle.Fixed → Machine = λ x. g.O.Source.Machine.machine (g.O.Oracle.source x) in
+    let enc : g.O.Oracle.Fixed → Encoding = λ x. g.O.Oracle.encoding x in
     let limits = c.args.limits in
     let base = base_next g.O.Oracle.Fixed mach enc f0 f1 c.loop-k.invariant.fixed s0 s1 s2 limits c.loop-k.proofs c.ask_step.new.proofs c.loop-k.k c.loop-k.invariant.turn
     (λ turn. subst (λ (o : Option End). AfterStep (mach f1) (enc f1) s0 s2 limits c.loop-k.k c.ask_step.new.proofs o) c.in-None.is (c.in_ok-end.ensures.after s0 turn)) in
