@@ -29,5 +29,5 @@ pub none_early : (m : Machine) (n : ℕ) → ((j : ℕ) → 1 ≤ j → j ≤ n 
     → AreParams m params → AllByRecursion (IsInput m) inputs → length inputs ≤ n → NoneFails m (m.start params) inputs
 none_early m n base params inputs are_params are_inputs few =
     none_fails_within m n (m.start params) inputs few are_inputs
-        (λ others less are f. base (length others) (some_scan m (m.start params) others f) less
-        (record { params = params; inputs = others; are_params = are_params; are_inputs = are; count = refl; fails = f }))
+    (λ others less are f. base (length others) (some_scan m (m.start params) others f) less
+    (record { params = params; inputs = others; are_params = are_params; are_inputs = are; count = refl; fails = f }))
