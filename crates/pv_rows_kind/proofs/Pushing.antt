@@ -1,6 +1,6 @@
 -- A formula's clauses pushed one after another into a store without clauses.
-use Rattle.std.proofs.Common.{◌≡◌, ◌↔◌, ℕ, ◌+◌, ◌≤◌, Bool, true, false, ◌||◌, List, [], ◌∷◌, ◌++◌, length, refl, sym, ap, subst, ◌∙◌, arith, Option, Some, None, append_assoc, append-nil}
-use Rattle.std.specs.Prelude.{nat_lt}
+use Rattle.std.proofs.Common.{◌≡◌, ℕ, zero, suc, take, drop, ◌+◌, ◌≤◌, Bool, true, false, ◌||◌, List, [], ◌∷◌, ◌++◌, length, refl, sym, ap, subst, ◌∙◌, arith, Option, Some, None, append_assoc, append-nil}
+use Rattle.std.specs.Prelude.{nat_lt, slice_get}
 use Rattle.std.proofs.lemmas.Bool.{ltb-false, le-ltb, true≢false}
 use Rattle.pv_cnf.specs.declared.clauses.PushFault.{PushFault}
 use Rattle.pv_cnf.specs.declared.clauses.PushFault.TheVariants.{VariableOutOfRange, Doubled, Empty, Full, NoMemory}
@@ -67,3 +67,19 @@ stops_one f g front mid new behind n lits fault same h good kept outside doubled
   pushed = subst (λ (t : List (List ℕ)). ArePushed f [] front t) (sym kept) h;
   refusal = subst (λ (t : List (List ℕ)). IsRefusal f (t ++ lits ∷ []) fault) (sym kept) (refusal f g (mid ++ lits ∷ []) n lits fault same good outside doubled empty full);
 }
+
+-- ---- parts of a list of clauses
+
+pub take_next : (cs : List (List ℕ)) (n : ℕ) (lits : List ℕ) → slice_get cs n ≡ Some lits → take (n + 1) cs ≡ take n cs ++ lits ∷ []
+take_next [] n lits at = absurd cc
+take_next (c ∷ cs) zero lits at = (let same : c ≡ lits = cc in ap (λ (x : List ℕ). x ∷ []) same)
+take_next (c ∷ cs) (suc n) lits at =
+    let e : suc n + 1 ≡ suc (n + 1) = omega arith in
+    ap (λ (k : ℕ). take k (c ∷ cs)) e ∙ ap (λ (xs : List (List ℕ)). c ∷ xs) (take_next cs n lits at)
+
+pub around : (cs : List (List ℕ)) (n : ℕ) (lits : List ℕ) → slice_get cs n ≡ Some lits → take n cs ++ lits ∷ drop (n + 1) cs ≡ cs
+around [] n lits at = absurd cc
+around (c ∷ cs) zero lits at = (let same : lits ≡ c = cc in ap (λ (x : List ℕ). x ∷ cs) same)
+around (c ∷ cs) (suc n) lits at =
+    let e : suc n + 1 ≡ suc (n + 1) = omega arith in
+    ap (λ (k : ℕ). c ∷ (take n cs ++ lits ∷ drop k (c ∷ cs))) e ∙ ap (λ (xs : List (List ℕ)). c ∷ xs) (around cs n lits at)
