@@ -80,7 +80,7 @@ held : (s : Setting) (q : Query) → is_met s.machine.start s.machine.most q ≡
 held s q is refuted =
     let none : clauses_of s q ≡ [] =
     ap (λ (b : Bool). cond b [] (cond (nat_lt (number_in q) s.hard_from) s.easy.clauses s.hard.clauses)) is in
-    refuted (λ v. true) (subst (λ (c : List (List ℕ)). Holds (λ v. true) c) (sym none) tt)
+    refuted (λ v. true) (subst (λ (c : List (List ℕ)). Holds (λ v. true) c) (sym none) refl)
 
 pub sound_of : (s : Setting) (chain : Chain) (ready : Query → Type 0) → s.machine.start ≤ s.machine.most
     → IsSound (counting s.machine.start s.machine.most) (encoding_of s) chain ready

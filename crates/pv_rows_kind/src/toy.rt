@@ -52,7 +52,6 @@ impl Toy {
 }
 
 impl Oracle for Toy {
-    ghost use Rattle.std.specs.Prelude.{Unit};
     ghost use Rattle.pv_kind.specs.Refinements.{Stage};
     ghost use Rattle.pv_rows_kind.specs.Toys.{Setting, setting_of, encoding_of, stage_of};
     ghost use Rattle.pv_rows_kind.specs.Sound.{sound_of};
