@@ -1,12 +1,12 @@
 -- What a solver's answers give for a reply.
-use Rattle.std.proofs.Common.{◌≡◌, ℕ, ◌+◌, ◌*◌, ◌^◌, ◌<◌, ◌≤◌, Bool, List, [], ◌∷◌, ◌++◌, Option, Some, None, refl, sym, ap, subst, ◌∙◌, arith}
+use Rattle.std.proofs.Common.{◌≡◌, ℕ, ◌*◌, ◌≤◌, Bool, List, [], ◌∷◌, ◌++◌, Option, Some, None, refl, sym, ap, subst, ◌∙◌, arith}
 use Rattle.std.specs.Prelude.{IsSome}
 use Rattle.pv_cnf.specs.Clause.{Holds}
 use Rattle.pv_machine.specs.Machines.{Machine}
 use Rattle.pv_log.specs.declared.line.Line.{Line}
 use Rattle.pv_log.specs.Follows.{Follows, IsAccepted}
 use Rattle.pv_solver.specs.declared.answer.Answer.{Answer}
-use Rattle.pv_solver.specs.declared.answer.Answer.TheVariants.{Sat, Unsat, SpentLemmas, SpentRegion}
+use Rattle.pv_solver.specs.declared.answer.Answer.TheVariants.{Sat, SpentRegion}
 use Rattle.pv_solver.specs.declared.outcome.Outcome.{Outcome}
 use Rattle.pv_solver.specs.Answers.{Problem, Solving, HasSpentLemmas, HasSpentRegion, answer_of, next_as, next_of, assigned_as, assigned_in, assigned_of}
 use Rattle.pv_solver.specs.Costs.{words_of, past}

@@ -1,5 +1,5 @@
 -- That a decision whose limits aren't spent shows what can be shown up to its depth.
-use Rattle.std.proofs.Common.{◌≡◌, ℕ, ◌-◌, ◌<◌, ◌≤◌, inl, inr, List, [], ◌∷◌, length, sym, subst, arith}
+use Rattle.std.proofs.Common.{◌≡◌, ℕ, ◌≤◌, inl, inr, List, subst, arith}
 use Rattle.std.proofs.lemmas.Bool.{cases_lt}
 use Rattle.pv_machine.specs.Machines.{Machine}
 use Rattle.pv_machine.specs.Queries.{MeetsBase, MeetsStep}

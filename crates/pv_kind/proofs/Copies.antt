@@ -1,5 +1,5 @@
 -- Lines of a log copied one after another.
-use Rattle.std.proofs.Common.{◌≡◌, ℕ, zero, suc, ◌+◌, List, [], ◌∷◌, ◌++◌, take, map, refl, ap, subst, arith, Some, ◌∙◌}
+use Rattle.std.proofs.Common.{◌≡◌, ℕ, zero, suc, ◌+◌, List, [], ◌∷◌, ◌++◌, take, ap, arith, Some, ◌∙◌}
 use Rattle.std.specs.Prelude.{slice_get}
 use Rattle.pv_log.specs.declared.line.Line.{Line}
 

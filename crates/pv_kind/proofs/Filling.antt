@@ -1,5 +1,5 @@
 -- Room in a solver: what its store says of pushed clauses is what its words say.
-use Rattle.std.proofs.Common.{◌≡◌, ℕ, zero, suc, ◌+◌, ◌-◌, ◌*◌, ◌<◌, ◌≤◌, ◌⊎◌, true, false, Bool, inl, inr, List, [], ◌∷◌, ◌++◌, length, refl, sym, ap, subst, ◌∙◌, arith, Option, Some, None, append_assoc, append-nil}
+use Rattle.std.proofs.Common.{◌≡◌, ℕ, zero, suc, ◌+◌, ◌-◌, ◌*◌, ◌<◌, ◌≤◌, ◌⊎◌, true, Bool, inl, inr, List, [], ◌∷◌, ◌++◌, length, refl, sym, ap, subst, ◌∙◌, arith, Option, Some, None, append_assoc, append-nil}
 use Rattle.std.specs.Prelude.{if◌then◌else◌, is_none}
 use Rattle.std.proofs.lemmas.Bool.{cases_lt, lt-ltb, le-ltb}
 use Rattle.std.proofs.lemmas.List.Sums.{sum_by-cons}
@@ -9,7 +9,7 @@ use Rattle.pv_log.specs.declared.line.Line.{Line}
 use Rattle.pv_solver.specs.Answers.{Problem, Solving, HasSpentLemmas, HasSpentRegion}
 use Rattle.pv_solver.specs.declared.outcome.Outcome.{Outcome}
 use Rattle.pv_solver.specs.Costs.{words_of, words_with, clause_cost, line_cost, past}
-use Rattle.pv_kind.specs.Decisions.{IsFull, IsFullAt}
+use Rattle.pv_kind.specs.Decisions.{IsFull}
 use Rattle.pv_kind.specs.Asking.{IsFilled}
 
 past_is : (words used : ℕ) → words < used → past words used ≡ Some used

@@ -1,5 +1,5 @@
 -- The calls of a decision one after another. What no call changes is `F`; each call says what it does over what it was before it.
-use Rattle.std.proofs.Common.{◌≡◌, ℕ, ◌+◌, List, Option, Some, None, sym, subst}
+use Rattle.std.proofs.Common.{◌≡◌, ℕ, ◌+◌, List, None, sym, subst}
 use Rattle.pv_machine.specs.Machines.{Machine}
 use Rattle.pv_cert.specs.declared.proof.Query.{Query}
 use Rattle.pv_cert.specs.declared.proof.Query.TheVariants.{Base, Step}

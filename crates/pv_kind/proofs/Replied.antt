@@ -1,7 +1,6 @@
 -- What comes after a reply, whose query may have been asked several times.
 use Rattle.std.proofs.Common.{◌≡◌, ℕ, ◌+◌, ◌≤◌, List, Option, sym, subst}
 use Rattle.pv_machine.specs.Machines.{Machine}
-use Rattle.pv_machine.specs.Queries.{MeetsBase}
 use Rattle.pv_log.specs.declared.line.Line.{Line}
 use Rattle.pv_solver.specs.Answers.{HasSpentLemmas}
 use Rattle.pv_cert.specs.declared.proof.Query.{Query}

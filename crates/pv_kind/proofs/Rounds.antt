@@ -5,7 +5,7 @@ use Rattle.std.specs.List.{AllByRecursion}
 use Rattle.std.proofs.lemmas.Bool.{cases_eq, ne_eqb, eq-eqb}
 use Rattle.pv_cert.specs.declared.proof.Query.{Query}
 use Rattle.pv_cert.specs.declared.proof.Proof.{Proof}
-use Rattle.pv_kind.specs.Refinements.{Stage, Round, Tells, IsRound, Refines, IsRefined, IsRefinedBy, AreOnWay, IsRefinedInFew, is_among, without, put_back}
+use Rattle.pv_kind.specs.Refinements.{Stage, Round, Tells, Refines, IsRefined, IsRefinedBy, AreOnWay, IsRefinedInFew, is_among, without, put_back}
 use Rattle.pv_kind.specs.Oracles.{Encoding}
 use Rattle.pv_kind.specs.Asking.{IsRefinedOnce}
 

@@ -1,5 +1,5 @@
 -- What a reply makes of a decision: whose turn it is next, or how it ends.
-use Rattle.std.proofs.Common.{◌≡◌, ℕ, zero, suc, ◌+◌, ◌-◌, ◌<◌, ◌≤◌, inl, inr, List, [], ◌∷◌, ◌++◌, map, refl, sym, ap, subst, ◌∙◌, arith}
+use Rattle.std.proofs.Common.{◌≡◌, ℕ, zero, suc, ◌+◌, ◌-◌, ◌≤◌, inl, inr, List, [], ◌∷◌, ◌++◌, map, refl, sym, ap, subst, ◌∙◌, arith}
 use Rattle.std.specs.List.{AllByRecursion}
 use Rattle.std.proofs.lemmas.Bool.{cases_lt}
 use Rattle.std.proofs.lemmas.List.{map-append}
@@ -7,7 +7,6 @@ use Rattle.pv_machine.specs.Machines.{Machine}
 use Rattle.pv_machine.specs.Queries.{MeetsBase, MeetsStep, MeetsReachableStep}
 use Rattle.pv_machine.proofs.ForCallers.{no_base}
 use Rattle.pv_log.specs.declared.line.Line.{Line}
-use Rattle.pv_log.specs.Follows.{Follows, IsAccepted}
 use Rattle.pv_solver.specs.Answers.{Problem}
 use Rattle.pv_cert.specs.declared.proof.Query.{Query}
 use Rattle.pv_cert.specs.declared.proof.Query.TheVariants.{Base, Step}

@@ -1,5 +1,5 @@
 -- What k-induction decides of a machine by an oracle's queries: step(0), base(1), step(1), base(2), and so on up to step of the depth.
-use Rattle.std.specs.Prelude.{◌≡◌, ℕ, zero, suc, ◌+◌, ◌-◌, ◌*◌, ◌<◌, ◌≤◌, ◌⊎◌, List, [], ◌∷◌, ◌++◌, map, Option, Some, None}
+use Rattle.std.specs.Prelude.{◌≡◌, ℕ, zero, suc, ◌-◌, ◌*◌, ◌<◌, ◌≤◌, ◌⊎◌, List, [], ◌∷◌, ◌++◌, map, Option, Some, None}
 use Rattle.std.specs.List.{AllByRecursion}
 use Rattle.pv_machine.specs.Machines.{Machine}
 use Rattle.pv_machine.specs.Queries.{MeetsBase, MeetsStep}

@@ -1,6 +1,6 @@
 -- What an oracle is asked, and what its answers mean: the queries of k-induction on one machine, each put as clauses (Sheeran, Singh
 -- and Stålmarck, "Checking Safety Properties Using Induction and a SAT-Solver", 2000).
-use Rattle.std.specs.Prelude.{◌≡◌, ℕ, ◌≤◌, Bool, List, IsTrue}
+use Rattle.std.specs.Prelude.{ℕ, ◌≤◌, Bool, List}
 use Rattle.pv_cnf.specs.Clause.{Holds}
 use Rattle.pv_machine.specs.Machines.{Machine}
 use Rattle.pv_machine.specs.Queries.{MeetsBase, MeetsStep, MeetsReachableStep}

@@ -86,6 +86,7 @@ impl Oracle for Toy {
         &self.chain
     }
 
+    #[tactic(auto, using(crate::proofs::Told::first_differs))]
     fn told<V: Values>(&mut self, q: Query, values: &V) -> Result<Told, AllocError> {
         let _ = values;
         let cells = self.chain.havoc.as_slice();

@@ -1,4 +1,4 @@
-use Rattle.std.proofs.Common.{◌≡◌, ◌∙◌, subst, Option, None}
+use Rattle.std.proofs.Common.{◌∙◌, subst, Option}
 use Rattle.pv_kind.specs.declared.ask.Reply.{Reply}
 use Rattle.pv_kind.specs.Asking.{GoesOn}
 use Rattle.pv_kind.proofs.Rounds.{fewer}

@@ -1,6 +1,5 @@
-use Rattle.std.proofs.Common.{◌≡◌, List, ap, sym, refl, ◌∙◌, Ok, Some}
+use Rattle.std.proofs.Common.{List, ap, sym, refl, ◌∙◌, Ok, Some}
 use Rattle.pv_log.specs.declared.line.Line.{Line}
-use Rattle.pv_solver.specs.declared.answer.Answer.TheVariants.{SpentRegion}
 use Rattle.pv_solver.specs.Answers.{Problem, lines_of}
 use Rattle.pv_kind.specs.Decisions.{problem_of, SpendsWords}
 use Rattle.pv_kind.proofs.Answered.{is_posed, posed_region, adds}

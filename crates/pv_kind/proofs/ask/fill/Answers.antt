@@ -1,4 +1,4 @@
-use Rattle.std.proofs.Common.{◌≡◌, subst}
+use Rattle.std.proofs.Common.{subst}
 use Rattle.pv_cnf.specs.declared.clauses.PushFault.{PushFault}
 use Rattle.pv_frames.specs.Pushing.{StopsAt}
 use Rattle.pv_kind.specs.Decisions.{problem_of}

@@ -1,5 +1,5 @@
-use Rattle.std.proofs.Common.{◌≡◌, subst, arith}
-use Rattle.pv_cert.specs.declared.proof.Query.TheVariants.{Base, Step}
+use Rattle.std.proofs.Common.{subst, arith}
+use Rattle.pv_cert.specs.declared.proof.Query.TheVariants.{Step}
 use Rattle.pv_kind.specs.declared.ask.Reply.{Reply}
 use Rattle.pv_kind.specs.Asking.{Replies}
 use Rattle.pv_kind.proofs.Replied.{step_is_met, step_is_refuted, lemmas_are_spent, words_are_spent}

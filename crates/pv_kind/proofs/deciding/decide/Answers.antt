@@ -1,5 +1,5 @@
 use Rattle.pv_kind.proofs.Rounds.{in_few}
-use Rattle.pv_kind.proofs.Complete.{proves, finds}
+use Rattle.pv_kind.proofs.Complete.{finds}
 use Rattle.pv_kind.proofs.deciding.decide.Goals as goal
 
 pub returns-in-Ok-clause-finds : goal.returns-in-Ok-clause-finds

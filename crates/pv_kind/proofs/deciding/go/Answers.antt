@@ -1,5 +1,4 @@
-use Rattle.std.proofs.Common.{◌≡◌, ◌+◌, ◌∙◌, subst, Option, None}
-use Rattle.pv_cert.specs.declared.proof.Query.TheVariants.{Base, Step}
+use Rattle.std.proofs.Common.{◌+◌, ◌∙◌, subst, Option}
 use Rattle.pv_kind.specs.declared.decision.End.{End}
 use Rattle.pv_machine.specs.Machines.{Machine}
 use Rattle.pv_kind.specs.Oracles.{Encoding}
