@@ -81,6 +81,7 @@ pub spent-region : (p : Problem) (s : Search) (line : Line) (need : ℕ) → IsS
 spent-region p s line need is lt left lemma need-is past = record {
   spent = spent p s is lt;
   left = (let ne : length s.log ≡ p.lemmas → ⊥ = λ e. left (e ∙ sym is.budget) in let le = is.few in omega arith);
+  fits = omega (arith, is.used_is, is.fits);
   next_is = subst (λ (v : ℕ). IsLemma v (with_lines p.clauses s.log) line) is.known
       (subst (λ (cs : List (List ℕ)). IsLemma s.known.variables cs line) is.clauses lemma);
   sum = need-is ∙ ap (λ (n : ℕ). n + line_cost line) is.used_is;

@@ -1,5 +1,5 @@
 -- What a solver is, and what its answers say.
-use Rattle.std.specs.Prelude.{◌≡◌, ℕ, Bool, false, ◌+◌, ◌<◌, List, [], length, Option, None, Some, slice_index_or}
+use Rattle.std.specs.Prelude.{◌≡◌, ℕ, Bool, false, ◌+◌, ◌<◌, ◌≤◌, List, [], length, Option, None, Some, slice_index_or}
 use Rattle.pv_cnf.specs.Clause.{Holds}
 use Rattle.pv_log.specs.declared.line.Line.{Line}
 use Rattle.pv_log.specs.Follows.{Follows, IsAccepted}
@@ -38,10 +38,11 @@ pub record HasSpentLemmas (p : Problem) (lines : List Line) : Type 0 where
   pub all : length lines ≡ p.lemmas
 
 -- the region is spent: there is one more lemma, for which a line is left, and with it `need` words, more than
--- there are, would be in use
+-- there are, would be in use, while those without it fit
 pub record HasSpentRegion (p : Problem) (lines : List Line) (next : Line) (need : ℕ) : Type 0 where
   pub spent : IsSpent p lines
   pub left : length lines < p.lemmas
+  pub fits : words_with p.variables p.clauses lines ≤ p.words
   pub next_is : IsLemma p.variables (with_lines p.clauses lines) next
   pub sum : need ≡ words_with p.variables p.clauses lines + line_cost next
   pub past : p.words < need

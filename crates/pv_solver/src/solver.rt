@@ -88,6 +88,16 @@ impl Solver {
         })
     }
 
+    /// Sets how many lemmas may be learned, at least 1, as long as there is no answer. A push through `Clauses` says nothing of this
+    /// limit.
+    pub fn set_lemmas(&mut self, lemmas: u32)
+        requires unanswered { self.old.outcome ≡ None }
+        requires some { 1 ≤ lemmas }
+        ensures { self.new ≡ record { problem = record self.old.problem { lemmas = lemmas }; outcome = None } }
+    {
+        self.lemmas = lemmas;
+    }
+
     /// Decides whether some values make the clauses hold. After an answer each further call gives the same. After
     /// want of memory the solver is as before.
     pub fn solve(&mut self) -> Result<Answer, AllocError>

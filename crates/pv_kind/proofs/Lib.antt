@@ -1,0 +1,9 @@
+pub mod Early
+pub mod Rounds
+pub mod Turns
+pub mod Replied
+pub mod Going
+pub mod Filling
+pub mod Answered
+pub mod Copies
+pub mod Complete

@@ -1,0 +1,4 @@
+pub mod Refinements
+pub mod Oracles
+pub mod Decisions
+pub mod Asking

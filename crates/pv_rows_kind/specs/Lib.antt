@@ -1,0 +1,3 @@
+pub mod Countdowns
+pub mod Toys
+pub mod Sound
