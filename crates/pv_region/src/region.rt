@@ -1,0 +1,257 @@
+//! The region.
+ghost use Rattle.std.specs.Prelude.{◌≡◌, ◌↔◌, ℕ, ◌+◌, ◌-◌, ◌*◌, ◌<◌, ◌≤◌, false, List, [], ◌∷◌, ◌++◌, length, Some, None, slice_get, replicate, IfOk, OnOk, OnErr};
+ghost use Rattle.pv_cnf.specs.Literal.{is_outside};
+ghost use Rattle.pv_region.specs.declared.watch.Watch.{Watch};
+ghost use Rattle.pv_region.specs.Stored.{Stored, clause_cost, lemma_cost, used_of, Passes, count_of, all_lits, all_hints, with_clause, with_lemma, list_of, with_list, IsLinked, Without};
+
+use crate::fault::{Full, MakeFault};
+use crate::watch::{Watch, watch_at};
+use crate::words::{end_of, link_at, link_in, start_of, take_out, write_clause, write_lemma};
+use std::alloc::Global;
+use std::marker::Model;
+
+/// Clauses, lemmas with their hints and lists of watches in one block of words. Of its calls `make` alone takes
+/// memory.
+#[derive(Drop)]
+pub struct Region {
+    /// The variables are 1 to this number.
+    variables: u32,
+    clauses: u32,
+    lemmas: u32,
+    /// Where the clauses' literals end.
+    clauses_end: usize,
+    /// Where the lemmas end.
+    end: usize,
+    words: Vec<u32>,
+}
+
+impl Model for Region {
+    ghost use Rattle.pv_region.specs.Stored.{Stored};
+    ghost use Rattle.pv_region.specs.Layout.{stored_of, IsLaidOut};
+
+    ghost Value = { Stored };
+
+    ghost view = { λ r. stored_of (record {
+      variables = r.variables;
+      clauses = r.clauses;
+      lemmas = r.lemmas;
+      clauses_end = r.clauses_end;
+      end = r.end;
+      words = r.words.items;
+    }) };
+
+    ghost invariant = { λ r. IsLaidOut (record {
+      variables = r.variables;
+      clauses = r.clauses;
+      lemmas = r.lemmas;
+      clauses_end = r.clauses_end;
+      end = r.end;
+      words = r.words.items;
+    }) };
+}
+
+impl Region {
+    /// An empty region of `words` words, at most 250,000,000, for the variables 1 to `variables`, of which each
+    /// takes two words.
+    pub fn make(alloc: Global, words: u64, variables: u32) -> Result<Region, MakeFault>
+        requires { words ≤ 250000000 }
+        ensures ok { IfOk result (λ r. r ≡ record {
+          variables = variables;
+          capacity = words;
+          clauses = [];
+          lemmas = [];
+          lists = replicate (2 * variables) [];
+        }) }
+        ensures full { (need : ℕ) → (result ≡ Err (MakeFault.Full need))
+            ↔ ((need ≡ 2 * variables) × (words < need)) }
+    {
+        let need = 2 * variables as u64;
+        if need > words {
+            return Err(MakeFault::Full { need });
+        }
+        let end = need as usize;
+        let words = vec![in alloc; 0; words as usize]?;
+        Ok(Region {
+            variables,
+            clauses: 0,
+            lemmas: 0,
+            clauses_end: end,
+            end,
+            words,
+        })
+    }
+
+    /// The words in use.
+    pub fn used(&self) -> u64
+        ensures value { result ≡ used_of self.now }
+        ensures fits { result ≤ self.now.capacity }
+    {
+        self.end as u64 + 3 * (self.clauses as u64 + self.lemmas as u64)
+    }
+
+    /// The words that there are.
+    pub fn capacity(&self) -> u64
+        ensures value { result ≡ self.now.capacity }
+        ensures small { result ≤ 250000000 }
+    {
+        self.words.len() as u64
+    }
+
+    /// How many clauses there are.
+    pub fn clauses(&self) -> u32
+        ensures { result ≡ length self.now.clauses }
+    {
+        self.clauses
+    }
+
+    /// How many lemmas there are.
+    pub fn lemmas(&self) -> u32
+        ensures { result ≡ length self.now.lemmas }
+    {
+        self.lemmas
+    }
+
+    /// Adds a clause, as long as there is no lemma, and answers its number. It takes three words beside its
+    /// literals.
+    pub fn put_clause(&mut self, lits: &[u32]) -> Result<u32, Full>
+        requires { self.old.lemmas ≡ [] }
+        ensures id { IfOk result (λ id. id ≡ count_of self.old + 1) }
+        ensures ok { OnOk result (self.new ≡ with_clause self.old lits.now) }
+        ensures err { OnErr result (self.new ≡ self.old) }
+        ensures full { (need : ℕ) → (result ≡ Err (record { need = need }))
+            ↔ Passes self.old (clause_cost lits.now) need }
+    {
+        let need = self.used() + 3 + lits.len() as u64;
+        if need > self.capacity() {
+            return Err(Full { need });
+        }
+        let id = self.clauses + 1;
+        write_clause(&mut self.words, self.end, id, lits);
+        self.clauses = id;
+        self.end += lits.len();
+        self.clauses_end = self.end;
+        Ok(id)
+    }
+
+    /// Adds a lemma, and answers its number. It takes four words beside its literals and hints.
+    pub fn put_lemma(&mut self, lits: &[u32], hints: &[u32]) -> Result<u32, Full>
+        ensures id { IfOk result (λ id. id ≡ count_of self.old + 1) }
+        ensures ok { OnOk result (self.new
+            ≡ with_lemma self.old (record { lits = lits.now; hints = hints.now })) }
+        ensures err { OnErr result (self.new ≡ self.old) }
+        ensures full { (need : ℕ) → (result ≡ Err (record { need = need }))
+            ↔ Passes self.old (lemma_cost (record { lits = lits.now; hints = hints.now })) need }
+    {
+        let need = self.used() + 4 + lits.len() as u64 + hints.len() as u64;
+        if need > self.capacity() {
+            return Err(Full { need });
+        }
+        let id = self.clauses + self.lemmas + 1;
+        write_lemma(&mut self.words, self.end, id, lits, hints);
+        self.lemmas += 1;
+        self.end += 1 + lits.len() + hints.len();
+        Ok(id)
+    }
+
+    /// The literals of the clause or lemma with this number.
+    pub fn lits(&self, id: u32) -> &[u32]
+        requires from_one { 0 < id }
+        requires to_last { id ≤ count_of self.now }
+        ensures { slice_get (all_lits self.now) (id - 1) ≡ Some result.now }
+    {
+        let start = start_of(&self.words, id);
+        if id <= self.clauses {
+            let end = end_of(&self.words, id, self.clauses, self.clauses_end);
+            return &self.words[start..end];
+        }
+        &self.words[start + 1..start + 1 + self.words[start] as usize]
+    }
+
+    /// The hints of the clause or lemma with this number. A clause has none.
+    pub fn hints(&self, id: u32) -> &[u32]
+        requires from_one { 0 < id }
+        requires to_last { id ≤ count_of self.now }
+        ensures { slice_get (all_hints self.now) (id - 1) ≡ Some result.now }
+    {
+        if id <= self.clauses {
+            return &self.words[..0];
+        }
+        let start = start_of(&self.words, id);
+        let end = end_of(&self.words, id, self.clauses + self.lemmas, self.end);
+        &self.words[start + 1 + self.words[start] as usize..end]
+    }
+
+    /// Puts a slot of a clause or lemma, which is in no list, in front of the list of a literal.
+    pub fn watch(&mut self, lit: u32, id: u32, slot: u8)
+        requires literal { is_outside self.old.variables lit ≡ false }
+        requires from_one { 0 < id }
+        requires to_last { id ≤ count_of self.old }
+        requires slot { slot < 2 }
+        requires free { IsLinked self.old (record { id = id; slot = slot }) → ⊥ }
+        ensures { self.new ≡ with_list self.old lit (record { id = id; slot = slot } ∷ list_of self.old lit) }
+    {
+        link_in(&mut self.words, lit as usize - 2, Watch { id, slot });
+    }
+
+    /// The first entry of the list of a literal.
+    pub fn first_watch(&self, lit: u32) -> Option<Watch>
+        requires { is_outside self.now.variables lit ≡ false }
+        ensures { result ≡ slice_get (list_of self.now lit) 0 }
+    {
+        watch_at(self.words[lit as usize - 2])
+    }
+
+    /// The entry that follows this one, which is in some list.
+    pub fn next_watch(&self, watch: Watch) -> Option<Watch>
+        requires { IsLinked self.now watch }
+        ensures { (lit : ℕ) (front rest : List Watch)
+            → list_of self.now lit ≡ front ++ watch ∷ rest → result ≡ slice_get rest 0 }
+    {
+        watch_at(self.words[link_at(&self.words, watch)])
+    }
+
+    /// Takes the entry that follows this one, or the first one, out of the list of a literal.
+    pub fn unwatch(&mut self, lit: u32, before: Option<Watch>)
+        requires literal { is_outside self.old.variables lit ≡ false }
+        requires follows { (left : List Watch) × Without before (list_of self.old lit) left }
+        ensures { (left : List Watch) → Without before (list_of self.old lit) left
+            → self.new ≡ with_list self.old lit left }
+    {
+        let at = match before {
+            None => lit as usize - 2,
+            Some(watch) => link_at(&self.words, watch),
+        };
+        take_out(&mut self.words, at);
+    }
+}
+
+#[cfg(test)]
+mod tests {
+    use super::*;
+    use std::test::Fail;
+
+    #[test]
+    fn rows(rt: HostRuntime) -> Result<(), Fail> {
+        assert!(rt; matches!(Region::make(rt.alloc(), 7, 4), Err(MakeFault::Full { need: 8 })));
+        let mut r = Region::make(rt.alloc(), 20, 4)?;
+        assert_eq!(rt; r.used(), 8);
+        assert_eq!(rt; r.put_clause(&[2, 4, 6]), Ok(1));
+        assert_eq!(rt; r.used(), 14);
+        assert_eq!(rt; r.put_clause(&[3, 5, 9]), Ok(2));
+        assert_eq!(rt; r.used(), 20);
+        assert_eq!(rt; r.put_lemma(&[2], &[1]), Err(Full { need: 26 }));
+        assert_eq!(rt; r.used(), 20);
+        assert_eq!(rt; r.lits(1), [2, 4, 6].as_slice());
+        assert_eq!(rt; r.lits(2), [3, 5, 9].as_slice());
+        assert_eq!(rt; r.hints(2).len(), 0);
+        r.watch(2, 1, 0);
+        r.watch(2, 2, 1);
+        assert_eq!(rt; r.first_watch(2), Some(Watch { id: 2, slot: 1 }));
+        assert_eq!(rt; r.next_watch(Watch { id: 2, slot: 1 }), Some(Watch { id: 1, slot: 0 }));
+        assert_eq!(rt; r.next_watch(Watch { id: 1, slot: 0 }), None);
+        r.unwatch(2, None);
+        assert_eq!(rt; r.first_watch(2), Some(Watch { id: 1, slot: 0 }));
+        assert_eq!(rt; r.next_watch(Watch { id: 1, slot: 0 }), None);
+        Ok(())
+    }
+}
