@@ -99,7 +99,7 @@ module _ (words : List ℕ) (count : ℕ) where
       (
         elim (cases_Bool (eqb (code_of w) (code_of x))) [
           | inl e ↦ absurd (none (inl (code-one count w x slot (slots x (inl refl)) (eqb-true (code_of w) (code_of x) e))))
-          | inr no ↦ no
+          | inr differ ↦ differ
         ],
         other-codes w ws slot (λ v i. slots v (inr i)) (λ i. none (inr i))
       )
@@ -122,7 +122,7 @@ module _ (words : List ℕ) (count : ℕ) where
   chain-short code ws c once =
       let slots = λ (v : Watch) (i : In v ws). chain-slot code ws v c i in
       let few = length-le_from_distinct_below (map code_of ws) (2 * count + 2) (distinct-codes ws slots once) (below-codes ws slots) in
-      omega (arith, few, length-map code_of ws)
+      omega (arith, few, length-map ws code_of)
 
 -- a list stays where the links in it do
 module _ (old new : List ℕ) (before after : ℕ) (grows : before ≤ after) where

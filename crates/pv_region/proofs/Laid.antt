@@ -108,7 +108,7 @@ module _ (b : Block) (new lits : List ℕ) (end : ℕ) (laid : IsLaidOut b) (non
 
   new-start : start_after new 0 (b.clauses + 1) ≡ b.end
   new-start =
-      let at : record_at new (b.clauses + 1) ≡ record_at b.words (b.clauses + b.lemmas + 1) = omega (arith, puts.size, none) in
+      let at : record_at new (0 + (b.clauses + 1)) ≡ record_at b.words (b.clauses + b.lemmas + 1) = omega (arith, puts.size, none) in
       ap (slice_index new) at ∙ puts.place
 
   one-more-clause : clauses_in new end (b.clauses + 1) ≡ clauses_in b.words b.clauses_end b.clauses ++ lits ∷ []

@@ -88,11 +88,11 @@ module _ (b : Block) (new : List ℕ) (laid : IsLaidOut b) (size : length new �
 -- ---- the lists
 
 -- the links lie behind the first links and the text
-record LinksBehind (b : Block) : Type 0 where
-  heads : 2 * b.variables ≤ b.end
-  room : b.end + 3 * (b.clauses + b.lemmas) ≤ length b.words
+pub record LinksBehind (b : Block) : Type 0 where
+  pub heads : 2 * b.variables ≤ b.end
+  pub room : b.end + 3 * (b.clauses + b.lemmas) ≤ length b.words
 
-links-behind : (b : Block) → IsLaidOut b → LinksBehind b
+pub links-behind : (b : Block) → IsLaidOut b → LinksBehind b
 links-behind b laid =
     let low = start-below (start_after b.words 0) (λ start end. start ≤ end) in_order (2 * b.variables) b.clauses_end b.clauses laid.clauses in
     let more = start-below (start_after b.words b.clauses) (FitsLemma b.words) (lemma_order b.words) b.clauses_end b.end b.lemmas laid.lemmas in
@@ -200,7 +200,7 @@ module _ (b : Block) (laid : IsLaidOut b) (head : ℕ) (inside : head < 2 * b.va
   alone-of ws is x i lt ne mine there = ne (laid.lists.apart i head x lt inside there (subst (In x) (sym is) mine))
 
   module _ (gone : Watch) (left : List Watch) (is : old head ≡ gone ∷ left) where
-    first-slot : IsSlot (b.clauses + b.lemmas) gone
+    pub first-slot : IsSlot (b.clauses + b.lemmas) gone
     first-slot = (chain-of (gone ∷ left) is).1
 
     pub first-code : slice_index b.words head ≡ code_of gone
@@ -237,7 +237,7 @@ module _ (b : Block) (laid : IsLaidOut b) (head : ℕ) (inside : head < 2 * b.va
           (relinked less less-size gone first-slot less-other left (λ i lt ne. alone-of (gone ∷ left) is gone i lt ne (inl refl)) less-here (once-of (gone ∷ left) is).1 (λ x i lt ne mine. alone-of (gone ∷ left) is x i lt ne (inr mine)) lit at)
 
   module _ (w gone : Watch) (front rest : List Watch) (is : old head ≡ front ++ w ∷ gone ∷ rest) where
-    before-part : IsSlot (b.clauses + b.lemmas) w × Chain b.words (b.clauses + b.lemmas) (slice_index b.words (link_at b.words w)) (gone ∷ rest)
+    pub before-part : IsSlot (b.clauses + b.lemmas) w × Chain b.words (b.clauses + b.lemmas) (slice_index b.words (link_at b.words w)) (gone ∷ rest)
     before-part =
         chain-behind b.words (b.clauses + b.lemmas) (slice_index b.words head) front w (gone ∷ rest) (chain-of (front ++ w ∷ gone ∷ rest) is)
 

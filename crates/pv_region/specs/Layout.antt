@@ -17,13 +17,17 @@ abbrev pub AreParts : (ℕ → ℕ) → (ℕ → ℕ → Type 0) → ℕ → ℕ
 AreParts place Fits start end zero = start ≡ end
 AreParts place Fits start end (suc k) = Fits (place (suc k)) end × AreParts place Fits start (place (suc k)) k
 
--- where the part with a number ends, if the last one ends at `end`
-abbrev pub end_at : List ℕ → ℕ → ℕ → ℕ → ℕ
-end_at words end last id = if id == last then end else slice_index words (record_at words (id + 1))
+-- where a clause or lemma begins
+abbrev pub start_in : List ℕ → ℕ → ℕ
+start_in words id = slice_index words (record_at words id)
 
--- where the clause or lemma so many after the first ones begins
+-- where one ends, of which the last ends at `end`
+abbrev pub end_at : List ℕ → ℕ → ℕ → ℕ → ℕ
+end_at words end last id = if id == last then end else start_in words (id + 1)
+
+-- where the one so many after the first ones begins
 abbrev pub start_after : List ℕ → ℕ → ℕ → ℕ
-start_after words first k = slice_index words (record_at words (first + k))
+start_after words first k = start_in words (first + k)
 
 -- the lemma in this part
 abbrev pub lemma_in : List ℕ → ℕ → ℕ → Hinted

@@ -22,6 +22,11 @@ record_at words id = length words - 3 * id
 abbrev pub link_at : List ℕ → Watch → ℕ
 link_at words watch = record_at words watch.id + 1 + watch.slot
 
+-- where the link stands that leads to the watch behind this one, or to the first one, in the list of a literal
+abbrev pub link_before : List ℕ → ℕ → Option Watch → ℕ
+link_before words lit None = lit - 2
+link_before words lit (Some watch) = link_at words watch
+
 -- the list that begins with the watch of this code, up to a length
 abbrev pub walk : List ℕ → ℕ → ℕ → List Watch
 walk words zero code = []

@@ -6,7 +6,9 @@ ghost use Rattle.pv_region.specs.Stored.{Stored, clause_cost, lemma_cost, used_o
 
 use crate::fault::{Full, MakeFault};
 use crate::watch::{Watch, watch_at};
-use crate::words::{end_of, link_at, link_in, start_of, take_out, write_clause, write_lemma};
+use crate::words::{
+    clause_at, hints_at, link_at, link_before, link_in, lits_at, take_out, write_clause, write_lemma,
+};
 use std::alloc::Global;
 use std::marker::Model;
 
@@ -159,12 +161,10 @@ impl Region {
         requires to_last { id ≤ count_of self.now }
         ensures { slice_get (all_lits self.now) (id - 1) ≡ Some result.now }
     {
-        let start = start_of(&self.words, id);
         if id <= self.clauses {
-            let end = end_of(&self.words, id, self.clauses, self.clauses_end);
-            return &self.words[start..end];
+            return clause_at(&self.words, id, self.clauses, self.clauses_end);
         }
-        &self.words[start + 1..start + 1 + self.words[start] as usize]
+        lits_at(&self.words, id)
     }
 
     /// The hints of the clause or lemma with this number. A clause has none.
@@ -176,9 +176,7 @@ impl Region {
         if id <= self.clauses {
             return &self.words[..0];
         }
-        let start = start_of(&self.words, id);
-        let end = end_of(&self.words, id, self.clauses + self.lemmas, self.end);
-        &self.words[start + 1 + self.words[start] as usize..end]
+        hints_at(&self.words, id, self.clauses + self.lemmas, self.end)
     }
 
     /// Puts a slot of a clause or lemma, which is in no list, in front of the list of a literal.
@@ -217,41 +215,7 @@ impl Region {
         ensures { (left : List Watch) → Without before (list_of self.old lit) left
             → self.new ≡ with_list self.old lit left }
     {
-        let at = match before {
-            None => lit as usize - 2,
-            Some(watch) => link_at(&self.words, watch),
-        };
+        let at = link_before(&self.words, lit, before);
         take_out(&mut self.words, at);
-    }
-}
-
-#[cfg(test)]
-mod tests {
-    use super::*;
-    use std::test::Fail;
-
-    #[test]
-    fn rows(rt: HostRuntime) -> Result<(), Fail> {
-        assert!(rt; matches!(Region::make(rt.alloc(), 7, 4), Err(MakeFault::Full { need: 8 })));
-        let mut r = Region::make(rt.alloc(), 20, 4)?;
-        assert_eq!(rt; r.used(), 8);
-        assert_eq!(rt; r.put_clause(&[2, 4, 6]), Ok(1));
-        assert_eq!(rt; r.used(), 14);
-        assert_eq!(rt; r.put_clause(&[3, 5, 9]), Ok(2));
-        assert_eq!(rt; r.used(), 20);
-        assert_eq!(rt; r.put_lemma(&[2], &[1]), Err(Full { need: 26 }));
-        assert_eq!(rt; r.used(), 20);
-        assert_eq!(rt; r.lits(1), [2, 4, 6].as_slice());
-        assert_eq!(rt; r.lits(2), [3, 5, 9].as_slice());
-        assert_eq!(rt; r.hints(2).len(), 0);
-        r.watch(2, 1, 0);
-        r.watch(2, 2, 1);
-        assert_eq!(rt; r.first_watch(2), Some(Watch { id: 2, slot: 1 }));
-        assert_eq!(rt; r.next_watch(Watch { id: 2, slot: 1 }), Some(Watch { id: 1, slot: 0 }));
-        assert_eq!(rt; r.next_watch(Watch { id: 1, slot: 0 }), None);
-        r.unwatch(2, None);
-        assert_eq!(rt; r.first_watch(2), Some(Watch { id: 1, slot: 0 }));
-        assert_eq!(rt; r.next_watch(Watch { id: 1, slot: 0 }), None);
-        Ok(())
     }
 }

@@ -14,6 +14,7 @@ pub struct Watch {
 /// The code of a watch: no watch has 0.
 pub(crate) fn code_of(watch: Watch) -> u32
     requires id { watch.id < 2 ^ 31 - 1 }
+    requires slot { watch.slot < 2 }
     ensures { result ≡ code_of watch }
 {
     2 * watch.id + watch.slot as u32

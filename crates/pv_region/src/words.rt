@@ -1,10 +1,10 @@
 //! How a region lies in its words: the first links of the literals' lists; the literals of the clauses; for each
 //! lemma the number of its literals, these and its hints; words that aren't in use; and from the back three words
 //! for each clause and lemma, the place at which it begins and the links of its two slots.
-ghost use Rattle.std.specs.Prelude.{◌≡◌, ℕ, ◌+◌, ◌-◌, ◌*◌, ◌<◌, ◌≤◌, ◌⊎◌, length, slice_index, slice_set};
+ghost use Rattle.std.specs.Prelude.{◌≡◌, ℕ, ◌+◌, ◌-◌, ◌*◌, ◌<◌, ◌≤◌, ◌⊎◌, length, slice_index, IfSome};
 ghost use Rattle.std.specs.List.{between};
-ghost use Rattle.pv_region.specs.Links.{record_at, link_at, watch_of};
-ghost use Rattle.pv_region.specs.Layout.{lemma_in, end_at};
+ghost use Rattle.pv_region.specs.Links.{record_at, link_at, link_before, watch_of};
+ghost use Rattle.pv_region.specs.Layout.{lemma_in, start_in, end_at, FitsLemma};
 ghost use Rattle.pv_region.specs.Writes.{Writes, Puts, HasLink, linked, unlinked};
 
 use crate::watch::{Watch, code_of, watch_at};
@@ -25,17 +25,29 @@ pub(crate) fn link_at(words: &[u32], watch: Watch) -> usize
     record_at(words, watch.id) + 1 + watch.slot as usize
 }
 
+/// Where the link stands that leads to the entry behind this one, or to the first one, in the list of a literal.
+pub(crate) fn link_before(words: &[u32], lit: u32, before: Option<Watch>) -> usize
+    requires lit { 2 ≤ lit }
+    requires inside { IfSome before (λ watch. 3 * watch.id ≤ length words.now) }
+    ensures { result ≡ link_before words.now lit before }
+{
+    match before {
+        None => lit as usize - 2,
+        Some(watch) => link_at(words, watch),
+    }
+}
+
 /// Where a clause or lemma begins.
-pub(crate) fn start_of(words: &[u32], id: u32) -> usize
+fn start_of(words: &[u32], id: u32) -> usize
     requires from_one { 0 < id }
     requires id { 3 * id ≤ length words.now }
-    ensures { result ≡ slice_index words.now (record_at words.now id) }
+    ensures { result ≡ start_in words.now id }
 {
     words[record_at(words, id)] as usize
 }
 
 /// Where a clause or lemma ends: where the next one begins, or at `end` where it is the last.
-pub(crate) fn end_of(words: &[u32], id: u32, last: u32, end: usize) -> usize
+fn end_of(words: &[u32], id: u32, last: u32, end: usize) -> usize
     requires id { id ≤ last }
     requires last { 3 * last ≤ length words.now }
     ensures { result ≡ end_at words.now end last id }
@@ -44,6 +56,47 @@ pub(crate) fn end_of(words: &[u32], id: u32, last: u32, end: usize) -> usize
         return end;
     }
     start_of(words, id + 1)
+}
+
+/// The literals of a clause, of which the last one has the number `last` and ends at `end`.
+pub(crate) fn clause_at(words: &[u32], id: u32, last: u32, end: usize) -> &[u32]
+    requires from_one { 0 < id }
+    requires id { id ≤ last }
+    requires last { 3 * last ≤ length words.now }
+    requires fits { start_in words.now id ≤ end_at words.now end last id }
+    requires inside { end_at words.now end last id ≤ length words.now }
+    ensures { result.now ≡ between (start_in words.now id) (end_at words.now end last id) words.now }
+{
+    let start = start_of(words, id);
+    let end = end_of(words, id, last, end);
+    &words[start..end]
+}
+
+/// The literals of a lemma.
+pub(crate) fn lits_at(words: &[u32], id: u32) -> &[u32]
+    requires from_one { 0 < id }
+    requires id { 3 * id ≤ length words.now }
+    requires fits { FitsLemma words.now (start_in words.now id) (length words.now) }
+    ensures { (end : ℕ) → result.now ≡ (lemma_in words.now (start_in words.now id) end).lits }
+{
+    let start = start_of(words, id);
+    let count = words[start] as usize;
+    &words[start + 1..start + 1 + count]
+}
+
+/// The hints of a lemma, of which the last one has the number `last` and ends at `end`.
+pub(crate) fn hints_at(words: &[u32], id: u32, last: u32, end: usize) -> &[u32]
+    requires from_one { 0 < id }
+    requires id { id ≤ last }
+    requires last { 3 * last ≤ length words.now }
+    requires fits { FitsLemma words.now (start_in words.now id) (end_at words.now end last id) }
+    requires inside { end_at words.now end last id ≤ length words.now }
+    ensures { result.now ≡ (lemma_in words.now (start_in words.now id) (end_at words.now end last id)).hints }
+{
+    let start = start_of(words, id);
+    let count = words[start] as usize;
+    let end = end_of(words, id, last, end);
+    &words[start + 1 + count..end]
 }
 
 /// Copies words to a place.
