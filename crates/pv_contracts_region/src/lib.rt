@@ -4,7 +4,7 @@
 ghost use Rattle.std.specs.Prelude.{◌≡◌, ◌↔◌, ℕ, ◌-◌, ◌*◌, ◌+◌, ◌<◌, ◌≤◌, false, List, [], ◌∷◌, ◌++◌, Some, slice_get, replicate, IfOk, OnOk, OnErr};
 ghost use Rattle.pv_cnf.specs.Literal.{is_outside};
 ghost use Rattle.pv_region.specs.declared.watch.Watch.{Watch};
-ghost use Rattle.pv_region.specs.Stored.{clause_cost, lemma_cost, Passes, count_of, all_lits, all_hints, with_clause, with_lemma, list_of, with_list, IsLinked, Without};
+ghost use Rattle.pv_region.specs.Stored.{clause_cost, lemma_cost, Passes, count_of, all_lits, all_hints, with_clause, with_lemma, list_of, with_list, IsLinked, Without, HasNext};
 
 use pv_region::{Full, MakeFault, Region, Watch};
 use std::alloc::Global;
@@ -91,9 +91,11 @@ pub fn next_watch(region: &Region, watch: Watch) -> Option<Watch>
 /// [`Region::unwatch`].
 pub fn unwatch(region: &mut Region, lit: u32, before: Option<Watch>)
     requires literal { is_outside region.old.variables lit ≡ false }
-    requires follows { (left : List Watch) × Without before (list_of region.old lit) left }
-    ensures { (left : List Watch) → Without before (list_of region.old lit) left
+    requires follows { HasNext before (list_of region.old lit) }
+    ensures out { (gone : Watch) (left : List Watch) → Without before gone (list_of region.old lit) left
         → region.new ≡ with_list region.old lit left }
+    ensures free { (gone : Watch) (left : List Watch) → Without before gone (list_of region.old lit) left
+        → IsLinked region.new gone → ⊥ }
 {
     region.unwatch(lit, before)
 }

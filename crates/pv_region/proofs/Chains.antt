@@ -1,13 +1,13 @@
 -- Lists that links make. No watch stands twice, so no list is longer than there are codes, and walking finds it whole; a link that is
 -- written changes no list in which its watch doesn't stand.
-use Rattle.std.proofs.Common.{◌≡◌, ℕ, zero, suc, ◌+◌, ◌-◌, ◌*◌, ◌/◌, ◌%◌, ◌<◌, ◌≤◌, ◌⊎◌, ◌≢◌, Bool, true, false, cond, eqb, List, [], ◌∷◌, ◌++◌, length, get_or, set, map, refl, sym, ap, subst, ◌∙◌, arith, inl, inr, Option, Some, None, slice_get, slice_index, slice_index_or, Contains}
+use Rattle.std.proofs.Common.{◌≡◌, ℕ, zero, suc, ◌+◌, ◌*◌, ◌/◌, ◌%◌, ◌<◌, ◌≤◌, ◌≢◌, Bool, true, false, cond, eqb, List, [], ◌∷◌, ◌++◌, length, get_or, set, map, refl, sym, ap, subst, ◌∙◌, arith, inl, inr, Some, slice_get, slice_index, slice_index_or, Contains}
 use Rattle.std.specs.List.{range_with_len, list_any, IsDistinct, AllByRecursion}
 use Rattle.std.proofs.lemmas.Bool.{eqb-true, eq-eqb, ne_eqb, cases_eq, cases_Bool, both_ways, or_cases}
 use Rattle.std.proofs.lemmas.List.{length-set, length-map, get_or-set_same, get_or-set_other}
 use Rattle.std.proofs.lemmas.List.FromFn.{length-map-range_with_len, get_or-map-range_with_len, fill_by_all}
 use Rattle.std.proofs.lemmas.Map.Steps.{length-le_from_distinct_below}
 use Rattle.pv_region.specs.declared.watch.Watch.{Watch}
-use Rattle.pv_region.specs.Links.{code_of, watch_of, watch_at, record_at, link_at, walk, IsSlot, Chain, In, EachOnce, AreLists}
+use Rattle.pv_region.specs.Links.{code_of, watch_of, watch_at, link_at, walk, IsSlot, Chain, In, EachOnce, AreLists}
 use Rattle.pv_region.specs.Layout.{list_at}
 
 -- ---- codes
@@ -46,6 +46,13 @@ in-more w v gone (x ∷ front) rest (inr i) = inr (in-more w v gone front rest i
 pub once-less : (w gone : Watch) (front rest : List Watch) → EachOnce (front ++ w ∷ gone ∷ rest) → EachOnce (front ++ w ∷ rest)
 once-less w gone [] rest (none, (no_gone, once)) = (λ i. none (inr i), once)
 once-less w gone (x ∷ front) rest (none, once) = (λ i. none (in-more w x gone front rest i), once-less w gone front rest once)
+
+-- the entry that is taken out isn't among the others
+pub once-gone : (w gone : Watch) (front rest : List Watch) → EachOnce (front ++ w ∷ gone ∷ rest) → In gone (front ++ w ∷ rest) → ⊥
+once-gone w gone [] rest (none, (no_gone, once)) (inl e) = none (inl (sym e))
+once-gone w gone [] rest (none, (no_gone, once)) (inr i) = no_gone i
+once-gone w gone (x ∷ front) rest (none, once) (inl e) = none (in-right x front (w ∷ gone ∷ rest) (inr (inl (sym e))))
+once-gone w gone (x ∷ front) rest (none, once) (inr i) = once-gone w gone front rest once i
 
 pub once-front : (w : Watch) (front rest : List Watch) → EachOnce (front ++ w ∷ rest) → In w front → ⊥
 once-front w [] rest once i = i
@@ -95,14 +102,13 @@ module _ (words : List ℕ) (count : ℕ) where
 
   other-codes : (w : Watch) (ws : List Watch) → IsSlot count w → ((v : Watch) → In v ws → IsSlot count v) → (In w ws → ⊥) → AllByRecursion (λ y. eqb (code_of w) y ≡ false) (map code_of ws)
   other-codes w [] slot slots none = tt
-  other-codes w (x ∷ ws) slot slots none =
-      (
-        elim (cases_Bool (eqb (code_of w) (code_of x))) [
-          | inl e ↦ absurd (none (inl (code-one count w x slot (slots x (inl refl)) (eqb-true (code_of w) (code_of x) e))))
-          | inr differ ↦ differ
-        ],
-        other-codes w ws slot (λ v i. slots v (inr i)) (λ i. none (inr i))
-      )
+  other-codes w (x ∷ ws) slot slots none = (
+    elim (cases_Bool (eqb (code_of w) (code_of x))) [
+      | inl e ↦ absurd (none (inl (code-one count w x slot (slots x (inl refl)) (eqb-true (code_of w) (code_of x) e))))
+      | inr differ ↦ differ
+    ],
+    other-codes w ws slot (λ v i. slots v (inr i)) (λ i. none (inr i)),
+  )
 
   distinct-codes : (ws : List Watch) → ((v : Watch) → In v ws → IsSlot count v) → EachOnce ws → IsDistinct eqb (map code_of ws)
   unfolding IsDistinct
@@ -131,7 +137,7 @@ module _ (old new : List ℕ) (before after : ℕ) (grows : before ≤ after) wh
   chain-kept code (x ∷ ws) same (e, slot, rest) = (
     e,
     record { from_one = slot.from_one; to_last = omega (arith, slot.to_last); slot = slot.slot },
-    subst (λ (n : ℕ). Chain new after n ws) (sym (same x (inl refl))) (chain-kept (slice_index old (link_at old x)) ws (λ w i. same w (inr i)) rest)
+    subst (λ (n : ℕ). Chain new after n ws) (sym (same x (inl refl))) (chain-kept (slice_index old (link_at old x)) ws (λ w i. same w (inr i)) rest),
   )
 
 -- ---- all lists
@@ -208,11 +214,11 @@ pub lists-set : (f g : ℕ → List Watch) (n head : ℕ) (mine : List Watch) �
 lists-set f g n head mine lt here others =
     let size : length (set (map f (range_with_len 0 n)) head mine) ≡ n = length-set (map f (range_with_len 0 n)) head mine ∙ length-map-range_with_len f 0 n in
     sym (fill_by_all g (set (map f (range_with_len 0 n)) head mine) n [] size (λ k below.
-        elim (cases_eq k head) [
-          | inl e ↦ ap (λ (i : ℕ). get_or (set (map f (range_with_len 0 n)) head mine) i []) e
-            ∙ get_or-set_same (map f (range_with_len 0 n)) head mine [] (omega (arith, length-map-range_with_len f 0 n)) ∙ sym here ∙ ap g (sym e)
-          | inr ne ↦ get_or-set_other (map f (range_with_len 0 n)) head k mine [] ne ∙ get_or-map-range_with_len f 0 n k k [] below (omega arith) ∙ sym (others k below ne)
-        ]))
+    elim (cases_eq k head) [
+      | inl e ↦ ap (λ (i : ℕ). get_or (set (map f (range_with_len 0 n)) head mine) i []) e
+          ∙ get_or-set_same (map f (range_with_len 0 n)) head mine [] (omega (arith, length-map-range_with_len f 0 n)) ∙ sym here ∙ ap g (sym e)
+      | inr ne ↦ get_or-set_other (map f (range_with_len 0 n)) head k mine [] ne ∙ get_or-map-range_with_len f 0 n k k [] below (omega arith) ∙ sym (others k below ne)
+    ]))
 
 pub lists-all-same : (f g : ℕ → List Watch) (n : ℕ) → ((i : ℕ) → i < n → g i ≡ f i) → map g (range_with_len 0 n) ≡ map f (range_with_len 0 n)
 lists-all-same f g n same =

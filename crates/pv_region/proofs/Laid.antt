@@ -1,11 +1,11 @@
 -- What a region keeps where something is put into it: the parts and lists that were there stay, and the new part is the last one.
-use Rattle.std.proofs.Common.{◌≡◌, ℕ, zero, suc, ◌+◌, ◌-◌, ◌*◌, ◌<◌, ◌≤◌, ◌⊎◌, ◌≢◌, List, [], ◌∷◌, ◌++◌, length, map, refl, sym, ap, subst, ◌∙◌, arith, inl, inr, slice_index, sum_by}
+use Rattle.std.proofs.Common.{◌≡◌, ℕ, suc, ◌+◌, ◌*◌, ◌<◌, ◌≤◌, List, [], ◌∷◌, ◌++◌, length, refl, sym, ap, subst, ◌∙◌, arith, slice_index}
 use Rattle.std.specs.List.{between}
 use Rattle.std.proofs.lemmas.List.Sums.{sum_by-append}
 use Rattle.pv_region.specs.declared.watch.Watch.{Watch}
-use Rattle.pv_region.specs.Stored.{Stored, Hinted, clause_cost, lemma_cost, used_of, with_clause, with_lemma}
+use Rattle.pv_region.specs.Stored.{Hinted, clause_cost, lemma_cost, used_of, with_clause, with_lemma}
 use Rattle.pv_region.specs.Links.{record_at, link_at, IsSlot, Chain, AreLists}
-use Rattle.pv_region.specs.Layout.{parts_to, AreParts, start_after, lemma_in, FitsLemma, clauses_in, lemmas_in, list_at, lists_in, Block, stored_of, IsLaidOut}
+use Rattle.pv_region.specs.Layout.{AreParts, start_after, lemma_in, FitsLemma, clauses_in, lemmas_in, list_at, lists_in, Block, stored_of, IsLaidOut}
 use Rattle.pv_region.specs.Writes.{Puts}
 use Rattle.pv_region.proofs.Parts.{between-same, start-below, parts-same}
 use Rattle.pv_region.proofs.Chains.{chain-slot, chain-kept, lists-same, list-found, lists-all-same}
@@ -36,26 +36,25 @@ module _ (b : Block) (new : List ℕ) (laid : IsLaidOut b) (puts : Puts b.end (b
   pub clauses-kept : (clauses_in new b.clauses_end b.clauses ≡ clauses_in b.words b.clauses_end b.clauses) × AreParts (start_after new 0) (λ start end. start ≤ end) (2 * b.variables) b.clauses_end b.clauses
   clauses-kept =
       parts-same (start_after b.words 0) (start_after new 0) (λ x y. between x y b.words) (λ x y. between x y new) (λ start end. start ≤ end) (λ start end. start ≤ end) in_order (2 * b.variables) b.clauses_end b.clauses
-        (λ j some le. starts-kept 0 j (omega (arith, le)))
-        (λ x y low high fits. (part-kept x y (omega (arith, high, split-below)), fits))
-        laid.clauses
+      (λ j some le. starts-kept 0 j (omega (arith, le)))
+      (λ x y low high fits. (part-kept x y (omega (arith, high, split-below)), fits))
+      laid.clauses
 
   lemma-kept : (x y : ℕ) → y ≤ b.end → FitsLemma b.words x y → (lemma_in new x y ≡ lemma_in b.words x y) × FitsLemma new x y
   lemma-kept x y le fits =
-      let count : slice_index new x ≡ slice_index b.words x = puts.front x (omega (arith, fits, le)) in
-      (
+      let count : slice_index new x ≡ slice_index b.words x = puts.front x (omega (arith, fits, le)) in (
         ap (λ (n : ℕ). record { lits = between (x + 1) (x + 1 + n) new; hints = between (x + 1 + n) y new }) count
-        ∙ ap (λ (ls : List ℕ). record { lits = ls; hints = between (x + 1 + slice_index b.words x) y new }) (part-kept (x + 1) (x + 1 + slice_index b.words x) (omega (arith, fits, le)))
-        ∙ ap (λ (hs : List ℕ). record { lits = between (x + 1) (x + 1 + slice_index b.words x) b.words; hints = hs }) (part-kept (x + 1 + slice_index b.words x) y le),
-        omega (arith, count, fits)
+            ∙ ap (λ (ls : List ℕ). record { lits = ls; hints = between (x + 1 + slice_index b.words x) y new }) (part-kept (x + 1) (x + 1 + slice_index b.words x) (omega (arith, fits, le)))
+            ∙ ap (λ (hs : List ℕ). record { lits = between (x + 1) (x + 1 + slice_index b.words x) b.words; hints = hs }) (part-kept (x + 1 + slice_index b.words x) y le),
+        omega (arith, count, fits),
       )
 
   pub lemmas-kept : (lemmas_in new b.clauses b.end b.lemmas ≡ lemmas_in b.words b.clauses b.end b.lemmas) × AreParts (start_after new b.clauses) (FitsLemma new) b.clauses_end b.end b.lemmas
   lemmas-kept =
       parts-same (start_after b.words b.clauses) (start_after new b.clauses) (lemma_in b.words) (lemma_in new) (FitsLemma b.words) (FitsLemma new) (lemma_order b.words) b.clauses_end b.end b.lemmas
-        (λ j some le. starts-kept b.clauses j (omega (arith, le)))
-        (λ x y low high fits. lemma-kept x y high fits)
-        laid.lemmas
+      (λ j some le. starts-kept b.clauses j (omega (arith, le)))
+      (λ x y low high fits. lemma-kept x y high fits)
+      laid.lemmas
 
   link-kept : (w : Watch) → IsSlot (b.clauses + b.lemmas) w → slice_index new (link_at new w) ≡ slice_index b.words (link_at b.words w)
   link-kept w slot =
@@ -71,8 +70,8 @@ module _ (b : Block) (new : List ℕ) (laid : IsLaidOut b) (puts : Puts b.end (b
         let old = laid.lists.chain i lt in
         let head : slice_index new i ≡ slice_index b.words i = puts.front i (omega (arith, lt, heads-below)) in
         subst (λ (n : ℕ). Chain new (b.clauses + b.lemmas + 1) n (list_at b.words (b.clauses + b.lemmas) i)) (sym head)
-          (chain-kept b.words new (b.clauses + b.lemmas) (b.clauses + b.lemmas + 1) (omega arith) (slice_index b.words i) (list_at b.words (b.clauses + b.lemmas) i)
-            (λ w there. link-kept w (chain-slot b.words (b.clauses + b.lemmas) (slice_index b.words i) (list_at b.words (b.clauses + b.lemmas) i) w old there)) old);
+        (chain-kept b.words new (b.clauses + b.lemmas) (b.clauses + b.lemmas + 1) (omega arith) (slice_index b.words i) (list_at b.words (b.clauses + b.lemmas) i)
+        (λ w there. link-kept w (chain-slot b.words (b.clauses + b.lemmas) (slice_index b.words i) (list_at b.words (b.clauses + b.lemmas) i) w old there)) old);
     once = laid.lists.once;
     apart = laid.lists.apart;
   }
@@ -132,7 +131,7 @@ module _ (b : Block) (new lits : List ℕ) (end : ℕ) (laid : IsLaidOut b) (non
       ∙ ap (λ (cs : List (List ℕ)). record { variables = b.variables; capacity = length b.words; clauses = cs; lemmas = lemmas_in new (b.clauses + 1) end b.lemmas; lists = lists_in new (2 * b.variables) (b.clauses + 1 + b.lemmas) }) one-more-clause
       ∙ ap (λ (ls : List Hinted). record { variables = b.variables; capacity = length b.words; clauses = clauses_in b.words b.clauses_end b.clauses ++ lits ∷ []; lemmas = ls; lists = lists_in new (2 * b.variables) (b.clauses + 1 + b.lemmas) }) still-none
       ∙ ap (λ (ws : List (List Watch)). record { variables = b.variables; capacity = length b.words; clauses = clauses_in b.words b.clauses_end b.clauses ++ lits ∷ []; lemmas = lemmas_in b.words b.clauses b.end b.lemmas; lists = ws })
-        (ap (lists_in new (2 * b.variables)) count ∙ lists-as-before b new laid puts less)
+      (ap (lists_in new (2 * b.variables)) count ∙ lists-as-before b new laid puts less)
 
   pub used-clause : used_of (with_clause (stored_of b) lits) ≡ used_of (stored_of b) + clause_cost lits
   used-clause =
@@ -146,8 +145,8 @@ module _ (b : Block) (new lits : List ℕ) (end : ℕ) (laid : IsLaidOut b) (non
         let next : b.clauses + 1 ≡ suc b.clauses = omega arith in
         let start : start_after new 0 (suc b.clauses) ≡ b.clauses_end = ap (start_after new 0) (sym next) ∙ new-start ∙ sym joined in
         subst (AreParts (start_after new 0) (λ start end. start ≤ end) (2 * b.variables) end) (sym next)
-          (subst (λ (n : ℕ). (n ≤ end) × AreParts (start_after new 0) (λ start end. start ≤ end) (2 * b.variables) n b.clauses) (sym start)
-            (omega (arith, joined, end-is), (clauses-kept b new laid puts less).1));
+        (subst (λ (n : ℕ). (n ≤ end) × AreParts (start_after new 0) (λ start end. start ≤ end) (2 * b.variables) n b.clauses) (sym start)
+        (omega (arith, joined, end-is), (clauses-kept b new laid puts less).1));
     lemmas = subst (λ (n : ℕ). AreParts (start_after new (b.clauses + 1)) (FitsLemma new) end end n) (sym none) refl;
     used =
         let cost = used-clause in
@@ -194,7 +193,7 @@ module _ (b : Block) (new lits hints : List ℕ) (end : ℕ) (laid : IsLaidOut b
       ∙ ap (λ (cs : List (List ℕ)). record { variables = b.variables; capacity = length b.words; clauses = cs; lemmas = lemmas_in new b.clauses end (b.lemmas + 1); lists = lists_in new (2 * b.variables) (b.clauses + (b.lemmas + 1)) }) (clauses-kept b new laid puts less-2).0
       ∙ ap (λ (ls : List Hinted). record { variables = b.variables; capacity = length b.words; clauses = clauses_in b.words b.clauses_end b.clauses; lemmas = ls; lists = lists_in new (2 * b.variables) (b.clauses + (b.lemmas + 1)) }) one-more-lemma
       ∙ ap (λ (ws : List (List Watch)). record { variables = b.variables; capacity = length b.words; clauses = clauses_in b.words b.clauses_end b.clauses; lemmas = lemmas_in b.words b.clauses b.end b.lemmas ++ record { lits = lits; hints = hints } ∷ []; lists = ws })
-        (ap (lists_in new (2 * b.variables)) count ∙ lists-as-before b new laid puts less-2)
+      (ap (lists_in new (2 * b.variables)) count ∙ lists-as-before b new laid puts less-2)
 
   pub used-lemma : used_of (with_lemma (stored_of b) (record { lits = lits; hints = hints })) ≡ used_of (stored_of b) + lemma_cost (record { lits = lits; hints = hints })
   used-lemma =
@@ -208,8 +207,8 @@ module _ (b : Block) (new lits hints : List ℕ) (end : ℕ) (laid : IsLaidOut b
     lemmas =
         let next : b.lemmas + 1 ≡ suc b.lemmas = omega arith in
         subst (AreParts (start_after new b.clauses) (FitsLemma new) b.clauses_end end) (sym next)
-          (subst (λ (n : ℕ). FitsLemma new n end × AreParts (start_after new b.clauses) (FitsLemma new) b.clauses_end n b.lemmas) (sym new-start-2)
-            (omega (arith, count, end-is), (lemmas-kept b new laid puts less-2).1));
+        (subst (λ (n : ℕ). FitsLemma new n end × AreParts (start_after new b.clauses) (FitsLemma new) b.clauses_end n b.lemmas) (sym new-start-2)
+        (omega (arith, count, end-is), (lemmas-kept b new laid puts less-2).1));
     used =
         let cost = used-lemma in
         let sum : end + 3 * (b.clauses + (b.lemmas + 1)) ≡ used_of (with_lemma (stored_of b) (record { lits = lits; hints = hints })) = omega (arith, end-is, laid.used, cost) in

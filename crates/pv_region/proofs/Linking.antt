@@ -1,11 +1,10 @@
 -- What a region keeps where a watch is put into a list or taken out of one: one or two links change, and one list.
-use Rattle.std.proofs.Common.{◌≡◌, ℕ, zero, suc, ◌+◌, ◌-◌, ◌*◌, ◌<◌, ◌≤◌, ◌⊎◌, ◌≢◌, List, [], ◌∷◌, ◌++◌, length, get_or, set, map, refl, sym, ap, subst, ◌∙◌, arith, inl, inr, Option, Some, None, slice_index, slice_index_or, slice_set}
-use Rattle.std.specs.List.{between, range_with_len}
-use Rattle.std.proofs.lemmas.Bool.{cases_eq}
+use Rattle.std.proofs.Common.{◌≡◌, ℕ, ◌+◌, ◌-◌, ◌*◌, ◌<◌, ◌≤◌, ◌≢◌, List, [], ◌∷◌, ◌++◌, length, set, refl, sym, ap, subst, ◌∙◌, arith, inl, inr, slice_index}
+use Rattle.std.specs.List.{between}
 use Rattle.std.proofs.lemmas.List.{length-set, get_or-set_same, get_or-set_other}
 use Rattle.pv_region.specs.declared.watch.Watch.{Watch}
-use Rattle.pv_region.specs.Stored.{Stored, Hinted, used_of, with_list, WithoutFirst, WithoutNext}
-use Rattle.pv_region.specs.Links.{code_of, watch_of, record_at, link_at, IsSlot, Chain, In, EachOnce, AreLists}
+use Rattle.pv_region.specs.Stored.{Hinted, used_of, with_list}
+use Rattle.pv_region.specs.Links.{code_of, record_at, link_at, IsSlot, Chain, In, EachOnce, AreLists}
 use Rattle.pv_region.specs.Layout.{AreParts, start_after, lemma_in, FitsLemma, clauses_in, lemmas_in, list_at, lists_in, Block, stored_of, IsLaidOut}
 use Rattle.pv_region.specs.Writes.{linked, unlinked}
 use Rattle.pv_region.proofs.Parts.{between-same, start-below, parts-same}
@@ -42,26 +41,25 @@ module _ (b : Block) (new : List ℕ) (laid : IsLaidOut b) (size : length new �
   clauses-stay : (clauses_in new b.clauses_end b.clauses ≡ clauses_in b.words b.clauses_end b.clauses) × AreParts (start_after new 0) (λ start end. start ≤ end) (2 * b.variables) b.clauses_end b.clauses
   clauses-stay =
       parts-same (start_after b.words 0) (start_after new 0) (λ x y. between x y b.words) (λ x y. between x y new) (λ start end. start ≤ end) (λ start end. start ≤ end) in_order (2 * b.variables) b.clauses_end b.clauses
-        (λ j some le. start-stays 0 j some (omega (arith, le)))
-        (λ x y low high fits. (part-stays x y low (omega (arith, high, split-end)), fits))
-        laid.clauses
+      (λ j some le. start-stays 0 j some (omega (arith, le)))
+      (λ x y low high fits. (part-stays x y low (omega (arith, high, split-end)), fits))
+      laid.clauses
 
   lemma-stays : (x y : ℕ) → b.clauses_end ≤ x → y ≤ b.end → FitsLemma b.words x y → (lemma_in new x y ≡ lemma_in b.words x y) × FitsLemma new x y
   lemma-stays x y low le fits =
-      let count : slice_index new x ≡ slice_index b.words x = text x (omega (arith, low, low-split)) (omega (arith, fits, le)) in
-      (
+      let count : slice_index new x ≡ slice_index b.words x = text x (omega (arith, low, low-split)) (omega (arith, fits, le)) in (
         ap (λ (n : ℕ). record { lits = between (x + 1) (x + 1 + n) new; hints = between (x + 1 + n) y new }) count
-        ∙ ap (λ (ls : List ℕ). record { lits = ls; hints = between (x + 1 + slice_index b.words x) y new }) (part-stays (x + 1) (x + 1 + slice_index b.words x) (omega (arith, low, low-split)) (omega (arith, fits, le)))
-        ∙ ap (λ (hs : List ℕ). record { lits = between (x + 1) (x + 1 + slice_index b.words x) b.words; hints = hs }) (part-stays (x + 1 + slice_index b.words x) y (omega (arith, low, low-split)) le),
-        omega (arith, count, fits)
+            ∙ ap (λ (ls : List ℕ). record { lits = ls; hints = between (x + 1 + slice_index b.words x) y new }) (part-stays (x + 1) (x + 1 + slice_index b.words x) (omega (arith, low, low-split)) (omega (arith, fits, le)))
+            ∙ ap (λ (hs : List ℕ). record { lits = between (x + 1) (x + 1 + slice_index b.words x) b.words; hints = hs }) (part-stays (x + 1 + slice_index b.words x) y (omega (arith, low, low-split)) le),
+        omega (arith, count, fits),
       )
 
   lemmas-stay : (lemmas_in new b.clauses b.end b.lemmas ≡ lemmas_in b.words b.clauses b.end b.lemmas) × AreParts (start_after new b.clauses) (FitsLemma new) b.clauses_end b.end b.lemmas
   lemmas-stay =
       parts-same (start_after b.words b.clauses) (start_after new b.clauses) (lemma_in b.words) (lemma_in new) (FitsLemma b.words) (FitsLemma new) (lemma_order b.words) b.clauses_end b.end b.lemmas
-        (λ j some le. start-stays b.clauses j some (omega (arith, le)))
-        (λ x y low high fits. lemma-stays x y low high fits)
-        laid.lemmas
+      (λ j some le. start-stays b.clauses j some (omega (arith, le)))
+      (λ x y low high fits. lemma-stays x y low high fits)
+      laid.lemmas
 
   module _ (head : ℕ) (mine : List Watch) (lists : AreLists new (2 * b.variables) (b.clauses + b.lemmas) (list_at new (b.clauses + b.lemmas))) (is : lists_in new (2 * b.variables) (b.clauses + b.lemmas) ≡ set (lists_in b.words (2 * b.variables) (b.clauses + b.lemmas)) head mine) where
     pub stored-with : (lit : ℕ) → lit - 2 ≡ head → stored_of (block_with b new) ≡ with_list (stored_of b) lit mine
@@ -70,7 +68,7 @@ module _ (b : Block) (new : List ℕ) (laid : IsLaidOut b) (size : length new �
         ∙ ap (λ (cs : List (List ℕ)). record { variables = b.variables; capacity = length b.words; clauses = cs; lemmas = lemmas_in new b.clauses b.end b.lemmas; lists = lists_in new (2 * b.variables) (b.clauses + b.lemmas) }) clauses-stay.0
         ∙ ap (λ (ls : List Hinted). record { variables = b.variables; capacity = length b.words; clauses = clauses_in b.words b.clauses_end b.clauses; lemmas = ls; lists = lists_in new (2 * b.variables) (b.clauses + b.lemmas) }) lemmas-stay.0
         ∙ ap (λ (ws : List (List Watch)). record { variables = b.variables; capacity = length b.words; clauses = clauses_in b.words b.clauses_end b.clauses; lemmas = lemmas_in b.words b.clauses b.end b.lemmas; lists = ws })
-          (is ∙ ap (λ (i : ℕ). set (lists_in b.words (2 * b.variables) (b.clauses + b.lemmas)) i mine) (sym at))
+        (is ∙ ap (λ (i : ℕ). set (lists_in b.words (2 * b.variables) (b.clauses + b.lemmas)) i mine) (sym at))
 
     pub laid-with : IsLaidOut (block_with b new)
     laid-with = record {
@@ -115,7 +113,7 @@ module _ (b : Block) (laid : IsLaidOut b) (head : ℕ) (inside : head < 2 * b.va
     pub chain-other : (code : ℕ) (ws : List Watch) → Chain b.words (b.clauses + b.lemmas) code ws → (In w ws → ⊥) → Chain new (b.clauses + b.lemmas) code ws
     chain-other code ws c none =
         chain-kept b.words new (b.clauses + b.lemmas) (b.clauses + b.lemmas) (omega arith) code ws
-          (λ x there. link-other x (chain-slot b.words (b.clauses + b.lemmas) code ws x c there) (λ e. none (subst (λ (v : Watch). In v ws) (sym e) there))) c
+        (λ x there. link-other x (chain-slot b.words (b.clauses + b.lemmas) code ws x c there) (λ e. none (subst (λ (v : Watch). In v ws) (sym e) there))) c
 
     pub others-stay : ((i : ℕ) → i < 2 * b.variables → i ≢ head → In w (old i) → ⊥) → (i : ℕ) → i < 2 * b.variables → i ≢ head → Chain new (b.clauses + b.lemmas) (slice_index new i) (old i)
     others-stay none i lt ne =
@@ -137,15 +135,14 @@ module _ (b : Block) (laid : IsLaidOut b) (head : ℕ) (inside : head < 2 * b.va
       now-set : lists_in new (2 * b.variables) (b.clauses + b.lemmas) ≡ set (lists_in b.words (2 * b.variables) (b.clauses + b.lemmas)) head mine
       now-set =
           lists-set (list_at b.words (b.clauses + b.lemmas)) (list_at new (b.clauses + b.lemmas)) (2 * b.variables) head mine inside
-            (list-mine b.words new (2 * b.variables) (b.clauses + b.lemmas) old laid.lists head mine (others-stay none) here once alone inside)
-            (list-other b.words new (2 * b.variables) (b.clauses + b.lemmas) old laid.lists head mine (others-stay none) here once alone)
+          (list-mine b.words new (2 * b.variables) (b.clauses + b.lemmas) old laid.lists head mine (others-stay none) here once alone inside)
+          (list-other b.words new (2 * b.variables) (b.clauses + b.lemmas) old laid.lists head mine (others-stay none) here once alone)
 
       pub relinked : (lit : ℕ) → lit - 2 ≡ head → (stored_of (block_with b new) ≡ with_list (stored_of b) lit mine) × IsLaidOut (block_with b new)
-      relinked lit at =
-          (
-            stored-with b new laid size text-stays starts-stay head mine now-lists now-set lit at,
-            laid-with b new laid size text-stays starts-stay head mine now-lists now-set
-          )
+      relinked lit at = (
+        stored-with b new laid size text-stays starts-stay head mine now-lists now-set lit at,
+        laid-with b new laid size text-stays starts-stay head mine now-lists now-set,
+      )
 
   -- ---- into the list
 
@@ -228,13 +225,13 @@ module _ (b : Block) (laid : IsLaidOut b) (head : ℕ) (inside : head < 2 * b.va
     less-here =
         let rest = (chain-of (gone ∷ left) is).2 in
         subst (λ (n : ℕ). Chain less (b.clauses + b.lemmas) n left) (sym less-head)
-          (chain-other less less-size gone first-slot less-other (slice_index b.words (link_at b.words gone)) left rest (once-of (gone ∷ left) is).0)
+        (chain-other less less-size gone first-slot less-other (slice_index b.words (link_at b.words gone)) left rest (once-of (gone ∷ left) is).0)
 
     -- the first watch of a list, out of it
     pub unwatched-first : (lit : ℕ) → lit - 2 ≡ head → (stored_of (block_with b (unlinked b.words head)) ≡ with_list (stored_of b) lit left) × IsLaidOut (block_with b (unlinked b.words head))
     unwatched-first lit at =
         subst (λ (ws : List ℕ). (stored_of (block_with b ws) ≡ with_list (stored_of b) lit left) × IsLaidOut (block_with b ws)) (sym unlinked-first)
-          (relinked less less-size gone first-slot less-other left (λ i lt ne. alone-of (gone ∷ left) is gone i lt ne (inl refl)) less-here (once-of (gone ∷ left) is).1 (λ x i lt ne mine. alone-of (gone ∷ left) is x i lt ne (inr mine)) lit at)
+        (relinked less less-size gone first-slot less-other left (λ i lt ne. alone-of (gone ∷ left) is gone i lt ne (inl refl)) less-here (once-of (gone ∷ left) is).1 (λ x i lt ne mine. alone-of (gone ∷ left) is x i lt ne (inr mine)) lit at)
 
   module _ (w gone : Watch) (front rest : List Watch) (is : old head ≡ front ++ w ∷ gone ∷ rest) where
     pub before-part : IsSlot (b.clauses + b.lemmas) w × Chain b.words (b.clauses + b.lemmas) (slice_index b.words (link_at b.words w)) (gone ∷ rest)
@@ -267,8 +264,8 @@ module _ (b : Block) (laid : IsLaidOut b) (head : ℕ) (inside : head < 2 * b.va
     cut-rest : Chain cut (b.clauses + b.lemmas) (slice_index cut (link_at cut w)) rest
     cut-rest =
         subst (λ (n : ℕ). Chain cut (b.clauses + b.lemmas) n rest) (sym cut-link)
-          (chain-other cut cut-size w before-part.0 cut-other (slice_index b.words (link_at b.words gone)) rest before-part.1.2
-            (λ i. once-rest w front (gone ∷ rest) (once-of (front ++ w ∷ gone ∷ rest) is) (inr i)))
+        (chain-other cut cut-size w before-part.0 cut-other (slice_index b.words (link_at b.words gone)) rest before-part.1.2
+        (λ i. once-rest w front (gone ∷ rest) (once-of (front ++ w ∷ gone ∷ rest) is) (inr i)))
 
     chain-cut : (code : ℕ) (done : List Watch) → (In w done → ⊥) → Chain b.words (b.clauses + b.lemmas) code (done ++ w ∷ gone ∷ rest) → Chain cut (b.clauses + b.lemmas) code (done ++ w ∷ rest)
     chain-cut code [] none (e, slot, more) = (e, slot, cut-rest)
@@ -276,8 +273,8 @@ module _ (b : Block) (laid : IsLaidOut b) (head : ℕ) (inside : head < 2 * b.va
       e,
       slot,
       subst (λ (n : ℕ). Chain cut (b.clauses + b.lemmas) n (done ++ w ∷ rest))
-        (sym (link-other cut cut-size w before-part.0 cut-other x slot (λ same. none (inl same))))
-        (chain-cut (slice_index b.words (link_at b.words x)) done (λ i. none (inr i)) more)
+          (sym (link-other cut cut-size w before-part.0 cut-other x slot (λ same. none (inl same))))
+          (chain-cut (slice_index b.words (link_at b.words x)) done (λ i. none (inr i)) more),
     )
 
     cut-here : Chain cut (b.clauses + b.lemmas) (slice_index cut head) (front ++ w ∷ rest)
@@ -285,14 +282,14 @@ module _ (b : Block) (laid : IsLaidOut b) (head : ℕ) (inside : head < 2 * b.va
         let f = links-behind b laid in
         let first : slice_index cut head ≡ slice_index b.words head = get_or-set_other b.words (link_at b.words w) head (slice_index b.words (link_at b.words gone)) 0 (omega (arith, f.heads, f.room, before-part.0.to_last, inside)) in
         subst (λ (n : ℕ). Chain cut (b.clauses + b.lemmas) n (front ++ w ∷ rest)) (sym first)
-          (chain-cut (slice_index b.words head) front (once-front w front (gone ∷ rest) (once-of (front ++ w ∷ gone ∷ rest) is)) (chain-of (front ++ w ∷ gone ∷ rest) is))
+        (chain-cut (slice_index b.words head) front (once-front w front (gone ∷ rest) (once-of (front ++ w ∷ gone ∷ rest) is)) (chain-of (front ++ w ∷ gone ∷ rest) is))
 
     -- the watch that follows another, out of the list
     pub unwatched-next : (lit : ℕ) → lit - 2 ≡ head → (stored_of (block_with b (unlinked b.words (link_at b.words w))) ≡ with_list (stored_of b) lit (front ++ w ∷ rest)) × IsLaidOut (block_with b (unlinked b.words (link_at b.words w)))
     unwatched-next lit at =
         subst (λ (ws : List ℕ). (stored_of (block_with b ws) ≡ with_list (stored_of b) lit (front ++ w ∷ rest)) × IsLaidOut (block_with b ws)) (sym unlinked-next)
-          (relinked cut cut-size w before-part.0 cut-other (front ++ w ∷ rest)
-            (λ i lt ne. alone-of (front ++ w ∷ gone ∷ rest) is w i lt ne (in-right w front (w ∷ gone ∷ rest) (inl refl)))
-            cut-here
-            (once-less w gone front rest (once-of (front ++ w ∷ gone ∷ rest) is))
-            (λ x i lt ne mine. alone-of (front ++ w ∷ gone ∷ rest) is x i lt ne (in-more w x gone front rest mine)) lit at)
+        (relinked cut cut-size w before-part.0 cut-other (front ++ w ∷ rest)
+        (λ i lt ne. alone-of (front ++ w ∷ gone ∷ rest) is w i lt ne (in-right w front (w ∷ gone ∷ rest) (inl refl)))
+        cut-here
+        (once-less w gone front rest (once-of (front ++ w ∷ gone ∷ rest) is))
+        (λ x i lt ne mine. alone-of (front ++ w ∷ gone ∷ rest) is x i lt ne (in-more w x gone front rest mine)) lit at)

@@ -1,6 +1,6 @@
 -- Parts of a block, each of which begins at a place: how many there are, which one has a number, and that they stay where the
 -- words in which they lie stay.
-use Rattle.std.proofs.Common.{◌≡◌, ℕ, zero, suc, ◌+◌, ◌-◌, ◌*◌, ◌<◌, ◌≤◌, ◌⊎◌, List, [], ◌∷◌, ◌++◌, length, get_or, map, refl, sym, ap, subst, ◌∙◌, arith, inl, inr, Option, Some, None}
+use Rattle.std.proofs.Common.{◌≡◌, ℕ, zero, suc, ◌+◌, ◌-◌, ◌<◌, ◌≤◌, List, [], ◌∷◌, ◌++◌, length, get_or, refl, sym, ap, subst, ◌∙◌, arith, inl, inr, Some}
 use Rattle.std.specs.Prelude.{slice_get, slice_index, ◌≢◌}
 use Rattle.std.specs.List.{between}
 use Rattle.std.proofs.lemmas.Bool.{cases_eq}
@@ -53,9 +53,9 @@ module _ {A : Type 0} (place : ℕ → ℕ) (read : ℕ → ℕ → A) where
       let long = length-parts (place (suc k)) k in
       elim (cases_eq j (suc k)) [
         | inl is ↦ get-right (parts_to place read (place (suc k)) k) (read (place (suc k)) end ∷ []) (j - 1) 0 (omega (arith, long))
-          ∙ ap (λ (i : ℕ). Some (read (place i) end)) (sym is) ∙ ap (λ (i : ℕ). Some (read (place j) i)) (sym (last is))
+            ∙ ap (λ (i : ℕ). Some (read (place i) end)) (sym is) ∙ ap (λ (i : ℕ). Some (read (place j) i)) (sym (last is))
         | inr ne ↦ get-left (parts_to place read (place (suc k)) k) (read (place (suc k)) end ∷ []) (j - 1) (omega (arith, long, ne))
-          ∙ parts-get (place (suc k)) k j e some (omega (arith, ne)) (λ is. next ne ∙ ap place (omega (arith, is))) (λ _. next ne)
+            ∙ parts-get (place (suc k)) k j e some (omega (arith, ne)) (λ is. next ne ∙ ap place (omega (arith, is))) (λ _. next ne)
       ]
 
 module _ (place : ℕ → ℕ) (Fits : ℕ → ℕ → Type 0) (order : (a b : ℕ) → Fits a b → a ≤ b) (start : ℕ) where
@@ -76,10 +76,10 @@ module _ (place : ℕ → ℕ) (Fits : ℕ → ℕ → Type 0) (order : (a b : �
         | inl is ↦ (
           subst (λ (i : ℕ). Fits (place i) e) (sym is) (subst (Fits (place (suc k))) (sym (last is)) p.0),
           subst (λ (i : ℕ). start ≤ place i) (sym is) less,
-          omega (arith, last is)
+          omega (arith, last is),
         )
         | inr ne ↦ (let inner = part-inside (place (suc k)) k j e p.1 some (omega (arith, ne)) (λ is. next ne ∙ ap place (omega (arith, is))) (λ _. next ne) in
-          (inner.0, inner.1, omega (arith, inner.2, here)))
+            (inner.0, inner.1, omega (arith, inner.2, here)))
       ]
 
 -- where the places and what lies between them stay, the parts do
@@ -91,10 +91,9 @@ module _ {A : Type 0} (old new : ℕ → ℕ) (before after : ℕ → ℕ → A)
       let less : start ≤ old (suc k) = start-below old Fits order start (old (suc k)) k p.1 in
       let more : old (suc k) ≤ end = order (old (suc k)) end p.0 in
       let last = reads (old (suc k)) end less (omega arith) p.0 in
-      let inner = parts-same (old (suc k)) k (λ j some le. places j some (omega arith)) (λ a b low high fits. reads a b low (omega (arith, high, more)) fits) p.1 in
-      (
+      let inner = parts-same (old (suc k)) k (λ j some le. places j some (omega arith)) (λ a b low high fits. reads a b low (omega (arith, high, more)) fits) p.1 in (
         ap (λ (i : ℕ). parts_to new after i k ++ after i end ∷ []) e
-        ∙ ap (λ (xs : List A). xs ++ after (old (suc k)) end ∷ []) inner.0
-        ∙ ap (λ (x : A). parts_to old before (old (suc k)) k ++ x ∷ []) last.0,
-        subst (λ (i : ℕ). FitsNow i end × AreParts new FitsNow start i k) (sym e) (last.1, inner.1)
+            ∙ ap (λ (xs : List A). xs ++ after (old (suc k)) end ∷ []) inner.0
+            ∙ ap (λ (x : A). parts_to old before (old (suc k)) k ++ x ∷ []) last.0,
+        subst (λ (i : ℕ). FitsNow i end × AreParts new FitsNow start i k) (sym e) (last.1, inner.1),
       )

@@ -1,11 +1,10 @@
 -- A clause or lemma of a region by its number.
-use Rattle.std.proofs.Common.{◌≡◌, ℕ, zero, suc, ◌+◌, ◌-◌, ◌*◌, ◌<◌, ◌≤◌, ◌≢◌, ◌==◌, if◌then◌else◌, Bool, List, [], ◌∷◌, ◌++◌, length, map, refl, sym, ap, subst, ◌∙◌, arith, Option, Some, None, slice_get, slice_index, option_map}
+use Rattle.std.proofs.Common.{◌≡◌, ℕ, zero, suc, ◌+◌, ◌-◌, ◌*◌, ◌<◌, ◌≤◌, ◌≢◌, if◌then◌else◌, Bool, List, [], ◌∷◌, length, map, refl, sym, ap, subst, ◌∙◌, arith, Some, slice_get, option_map}
 use Rattle.std.specs.List.{between}
 use Rattle.std.proofs.lemmas.Bool.{eq-eqb, ne_eqb}
 use Rattle.std.proofs.lemmas.List.{length-map}
 use Rattle.std.proofs.lemmas.Option.{slice_get-map}
 use Rattle.pv_region.specs.Stored.{Hinted, count_of, all_lits, all_hints}
-use Rattle.pv_region.specs.Links.{record_at}
 use Rattle.pv_region.specs.Layout.{start_in, end_at, start_after, lemma_in, FitsLemma, clauses_in, lemmas_in, Block, stored_of, IsLaidOut}
 use Rattle.pv_region.proofs.Parts.{get-left, get-right, length-parts, parts-get, start-below, part-inside}
 use Rattle.pv_region.proofs.Laid.{in_order, lemma_order}

@@ -1,19 +1,18 @@
 -- What the calls of a region need, of a block and of what contracts see of it.
-use Rattle.std.proofs.Common.{◌≡◌, ℕ, zero, suc, ◌+◌, ◌-◌, ◌*◌, ◌/◌, ◌<◌, ◌≤◌, ◌⊎◌, ◌||◌, ◌==◌, Bool, true, false, List, [], ◌∷◌, ◌++◌, length, get_or, map, replicate, refl, sym, ap, subst, ◌∙◌, arith, inl, inr, Option, Some, None, IfSome, slice_get, slice_index, slice_index_or, Contains, nat_lt, slice_set}
-use Rattle.std.specs.List.{between, range_with_len}
+use Rattle.std.proofs.Common.{◌≡◌, ℕ, ◌+◌, ◌-◌, ◌*◌, ◌/◌, ◌<◌, ◌≤◌, ◌==◌, false, List, [], ◌∷◌, ◌++◌, length, replicate, refl, sym, ap, subst, ◌∙◌, arith, inl, inr, Option, Some, None, IfSome, slice_get, slice_index, slice_index_or, nat_lt, slice_set}
+use Rattle.std.specs.List.{between}
 use Rattle.std.proofs.lemmas.Bool.{cases_eq, cases_lt, both_ways, or_left, or_right, eq-eqb, lt-ltb}
-use Rattle.std.proofs.lemmas.Grind.{get_or_default_zero}
 use Rattle.std.proofs.lemmas.List.{length-set, length-replicate, get_or-replicate, get_or_past, get_or-set_same, get_or-set_other}
 use Rattle.std.proofs.lemmas.List.FromFn.{length-map-range_with_len, fill_by_all}
 use Rattle.pv_cnf.specs.Literal.{is_outside}
 use Rattle.pv_region.specs.declared.watch.Watch.{Watch}
-use Rattle.pv_region.specs.Stored.{Stored, used_of, count_of, list_of, with_list, IsLinked, WithoutFirst, WithoutNext, Without}
-use Rattle.pv_region.specs.Links.{code_of, watch_of, watch_at, link_at, link_before, walk, IsSlot, Chain, In}
+use Rattle.pv_region.specs.Stored.{Stored, used_of, count_of, list_of, with_list, IsLinked, Without}
+use Rattle.pv_region.specs.Links.{code_of, watch_of, watch_at, link_at, link_before, walk, IsSlot, Chain, In, EachOnce}
 use Rattle.pv_region.specs.Layout.{lemma_in, list_at, lists_in, Block, stored_of, IsLaidOut}
 use Rattle.pv_region.specs.Writes.{Writes, HasLink, linked, unlinked}
 use Rattle.pv_region.proofs.Parts.{between-same}
-use Rattle.pv_region.proofs.Chains.{watch-code, contains-in, in-contains, in-right, chain-slot, chain-first, chain-behind, list-there}
-use Rattle.pv_region.proofs.Reading.{clause-count, lemma-count, count-is}
+use Rattle.pv_region.proofs.Chains.{watch-code, contains-in, in-contains, in-right, once-gone, chain-slot, chain-first, chain-behind, chain-short, list-there}
+use Rattle.pv_region.proofs.Reading.{clause-count, lemma-count}
 use Rattle.pv_region.proofs.Linking.{block_with, links-behind, watched, first-slot, first-code, unwatched-first, before-part, next-code, unwatched-next}
 
 -- ---- literals
@@ -36,9 +35,9 @@ pub empty-stored : (variables words : ℕ) (ws : List ℕ) → 2 * variables ≤
 empty-stored variables words ws fits zeros =
     let size : length ws ≡ words = ap length zeros ∙ length-replicate words 0 in
     let lists : lists_in ws (2 * variables) 0 ≡ replicate (2 * variables) [] =
-        sym (fill_by_all (list_at ws 0) (replicate (2 * variables) []) (2 * variables) [] (length-replicate (2 * variables) []) (λ k lt.
-            let zero_there : slice_index ws k ≡ 0 = ap (λ (xs : List ℕ). slice_index xs k) zeros ∙ get_or-replicate words k 0 0 (omega (arith, lt, fits)) in
-            get_or-replicate (2 * variables) k [] [] lt ∙ sym (ap (walk ws 2) zero_there))) in
+    sym (fill_by_all (list_at ws 0) (replicate (2 * variables) []) (2 * variables) [] (length-replicate (2 * variables) []) (λ k lt.
+    let zero_there : slice_index ws k ≡ 0 = ap (λ (xs : List ℕ). slice_index xs k) zeros ∙ get_or-replicate words k 0 0 (omega (arith, lt, fits)) in
+    get_or-replicate (2 * variables) k [] [] lt ∙ sym (ap (walk ws 2) zero_there))) in
     ap (λ (n : ℕ). record { variables = variables; capacity = n; clauses = []; lemmas = []; lists = lists_in ws (2 * variables) 0 }) size
     ∙ ap (λ (ls : List (List Watch)). record { variables = variables; capacity = words; clauses = []; lemmas = []; lists = ls }) lists
 
@@ -52,15 +51,15 @@ written-lemma old second third end at lits hints w2 w3 before inside =
     let size-3 : length third ≡ length old = w3.size ∙ size-2 in
     let size : length (slice_set third at end) ≡ length third = length-set third at end in
     let count : slice_index (slice_set third at end) end ≡ length lits =
-        get_or-set_other third at end end 0 (omega (arith, before)) ∙ w3.others end (inl (omega arith)) ∙ w2.others end (inl (omega arith))
-        ∙ get_or-set_same old end (length lits) 0 (omega (arith, before, inside)) in
+    get_or-set_other third at end end 0 (omega (arith, before)) ∙ w3.others end (inl (omega arith)) ∙ w2.others end (inl (omega arith))
+    ∙ get_or-set_same old end (length lits) 0 (omega (arith, before, inside)) in
     let mine : between (end + 1) (end + 1 + length lits) (slice_set third at end) ≡ lits =
-        between-same third (slice_set third at end) size (end + 1) (end + 1 + length lits) (omega (arith, size-3, before, inside)) (λ i low high. get_or-set_other third at i end 0 (omega (arith, before, high)))
-        ∙ between-same second third (w3.size) (end + 1) (end + 1 + length lits) (omega (arith, size-2, before, inside)) (λ i low high. w3.others i (inl high))
-        ∙ w2.there in
+    between-same third (slice_set third at end) size (end + 1) (end + 1 + length lits) (omega (arith, size-3, before, inside)) (λ i low high. get_or-set_other third at i end 0 (omega (arith, before, high)))
+    ∙ between-same second third (w3.size) (end + 1) (end + 1 + length lits) (omega (arith, size-2, before, inside)) (λ i low high. w3.others i (inl high))
+    ∙ w2.there in
     let theirs : between (end + 1 + length lits) last (slice_set third at end) ≡ hints =
-        between-same third (slice_set third at end) size (end + 1 + length lits) last (omega (arith, size-3, before, inside)) (λ i low high. get_or-set_other third at i end 0 (omega (arith, before, high)))
-        ∙ w3.there in
+    between-same third (slice_set third at end) size (end + 1 + length lits) last (omega (arith, size-3, before, inside)) (λ i low high. get_or-set_other third at i end 0 (omega (arith, before, high)))
+    ∙ w3.there in
     ap (λ (n : ℕ). record { lits = between (end + 1) (end + 1 + n) (slice_set third at end); hints = between (end + 1 + n) last (slice_set third at end) }) count
     ∙ ap (λ (ls : List ℕ). record { lits = ls; hints = between (end + 1 + length lits) last (slice_set third at end) }) mine
     ∙ ap (λ (hs : List ℕ). record { lits = lits; hints = hs }) theirs
@@ -159,12 +158,11 @@ module _ (b : Block) (laid : IsLaidOut b) (now : Stored) (seen : stored_of b ≡
   watched-seen lit w lt some last slot free =
       let is : IsSlot (b.clauses + b.lemmas) w = record { from_one = some; to_last = omega (arith, last, count-seen); slot = slot } in
       let nowhere : (i : ℕ) → i < 2 * b.variables → In w (here i) → ⊥ = λ i below there.
-          let same : i + 2 - 2 ≡ i = omega arith in
-          free (record { lit = i + 2; there = in-contains w (list_of now (i + 2)) (subst (In w) (ap here (sym same) ∙ list-seen (i + 2) (omega arith)) there) }) in
-      let both = watched b laid (lit - 2) lt w is nowhere lit refl in
-      (
+      let same : i + 2 - 2 ≡ i = omega arith in
+      free (record { lit = i + 2; there = in-contains w (list_of now (i + 2)) (subst (In w) (ap here (sym same) ∙ list-seen (i + 2) (omega arith)) there) }) in
+      let both = watched b laid (lit - 2) lt w is nowhere lit refl in (
         both.0 ∙ ap (λ (s : Stored). with_list s lit (w ∷ here (lit - 2))) seen ∙ ap (λ (ws : List Watch). with_list now lit (w ∷ ws)) (list-seen lit lt),
-        both.1
+        both.1,
       )
 
   -- ---- out of a list
@@ -173,30 +171,59 @@ module _ (b : Block) (laid : IsLaidOut b) (now : Stored) (seen : stored_of b ≡
   gone-slot code gone slot e =
       (omega (arith, e, slot.from_one), subst (HasLink b.words) (sym (watch-code code gone slot.slot e)) (slot-link gone slot))
 
-  pub unwatched-seen : (lit : ℕ) (before : Option Watch) (left : List Watch) → lit - 2 < 2 * b.variables → Without before (list_of now lit) left → TakesOut b now lit before left
-  unwatched-seen lit None left lt w =
-      let is : here (lit - 2) ≡ w.gone ∷ left = list-seen lit lt ∙ w.was in
-      let both = unwatched-first b laid (lit - 2) lt w.gone left is lit refl in
-      let gone = gone-slot (slice_index b.words (lit - 2)) w.gone (first-slot b laid (lit - 2) lt w.gone left is) (first-code b laid (lit - 2) lt w.gone left is) in
+  pub unwatched-seen : (lit : ℕ) (before : Option Watch) (gone : Watch) (left : List Watch) → lit - 2 < 2 * b.variables → Without before gone (list_of now lit) left → TakesOut b now lit before left
+  unwatched-seen lit None gone left lt w =
+      let is : here (lit - 2) ≡ gone ∷ left = list-seen lit lt ∙ w.was in
+      let both = unwatched-first b laid (lit - 2) lt gone left is lit refl in
+      let out = gone-slot (slice_index b.words (lit - 2)) gone (first-slot b laid (lit - 2) lt gone left is) (first-code b laid (lit - 2) lt gone left is) in
       let f = links-behind b laid in
       record {
         inside = tt;
         at = omega (arith, f.heads, f.room, lt);
-        some = gone.0;
-        slot = gone.1;
+        some = out.0;
+        slot = out.1;
         stored = both.0 ∙ ap (λ (s : Stored). with_list s lit left) seen;
         laid_out = both.1;
       }
-  unwatched-seen lit (Some v) left lt w =
-      let is : here (lit - 2) ≡ w.front ++ v ∷ w.gone ∷ w.rest = list-seen lit lt ∙ w.was in
-      let both = unwatched-next b laid (lit - 2) lt v w.gone w.front w.rest is lit refl in
-      let before = before-part b laid (lit - 2) lt v w.gone w.front w.rest is in
-      let gone = gone-slot (slice_index b.words (link_at b.words v)) w.gone before.1.1 (next-code b laid (lit - 2) lt v w.gone w.front w.rest is) in
+  unwatched-seen lit (Some v) gone left lt w =
+      let is : here (lit - 2) ≡ w.front ++ v ∷ gone ∷ w.rest = list-seen lit lt ∙ w.was in
+      let both = unwatched-next b laid (lit - 2) lt v gone w.front w.rest is lit refl in
+      let before = before-part b laid (lit - 2) lt v gone w.front w.rest is in
+      let out = gone-slot (slice_index b.words (link_at b.words v)) gone before.1.1 (next-code b laid (lit - 2) lt v gone w.front w.rest is) in
       record {
         inside = (slot-link v before.0).inside;
         at = link-inside v before.0;
-        some = gone.0;
-        slot = gone.1;
+        some = out.0;
+        slot = out.1;
         stored = both.0 ∙ ap (λ (s : Stored). with_list s lit (w.front ++ v ∷ w.rest)) seen ∙ ap (with_list now lit) (sym w.is);
         laid_out = both.1;
       }
+
+  lists-size : length now.lists ≡ 2 * b.variables
+  lists-size = ap (λ (s : Stored). length s.lists) (sym seen) ∙ length-map-range_with_len here 0 (2 * b.variables)
+
+  -- the entry was in the list, and isn't in what is left of it
+  gone-parts : (before : Option Watch) (gone : Watch) (watches left : List Watch) → EachOnce watches → Without before gone watches left → In gone watches × (In gone left → ⊥)
+  gone-parts None gone watches left once w =
+      (subst (In gone) (sym w.was) (inl refl), (subst EachOnce w.was once).0)
+  gone-parts (Some v) gone watches left once w = (
+    subst (In gone) (sym w.was) (in-right gone w.front (v ∷ gone ∷ w.rest) (inr (inl refl))),
+    λ i. once-gone v gone w.front w.rest (subst EachOnce w.was once) (subst (In gone) w.is i),
+  )
+
+  pub gone-free : (lit : ℕ) (before : Option Watch) (gone : Watch) (left : List Watch) → lit - 2 < 2 * b.variables → Without before gone (list_of now lit) left → IsLinked (with_list now lit left) gone → ⊥
+  gone-free lit before gone left lt w l =
+      let (k, below, e) = l.there in
+      let there : In gone (list_of (with_list now lit left) l.lit) = contains-in gone (list_of (with_list now lit left) l.lit) k below e in
+      let parts = gone-parts before gone (list_of now lit) left (subst EachOnce (list-seen lit lt) (laid.lists.once (lit - 2) lt)) w in
+      elim (cases_eq (l.lit - 2) (lit - 2)) [
+        | inl same ↦ parts.1 (subst (In gone) (ap (λ (i : ℕ). slice_index_or (slice_set now.lists (lit - 2) left) i []) same ∙ get_or-set_same now.lists (lit - 2) left [] (omega (arith, lists-size, lt))) there)
+        | inr differ ↦ (let old : In gone (list_of now l.lit) = subst (In gone) (get_or-set_other now.lists (lit - 2) (l.lit - 2) left [] differ) there in
+            let inside : l.lit - 2 < 2 * b.variables = some-list l.lit (list_of now l.lit) gone refl old in
+            differ (laid.lists.apart (l.lit - 2) (lit - 2) gone inside lt (subst (In gone) (sym (list-seen l.lit inside)) old) (subst (In gone) (sym (list-seen lit lt)) parts.0)))
+      ]
+
+  pub list-short : (lit : ℕ) → lit - 2 < 2 * b.variables → length (list_of now lit) ≤ 2 * count_of now + 2
+  list-short lit lt =
+      let short = chain-short b.words (b.clauses + b.lemmas) (slice_index b.words (lit - 2)) (list_of now lit) (chain-seen lit (list_of now lit) lt refl) (subst EachOnce (list-seen lit lt) (laid.lists.once (lit - 2) lt)) in
+      omega (arith, short, count-seen)

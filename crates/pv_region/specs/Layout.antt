@@ -1,7 +1,7 @@
 -- How a region lies in its words: the first links of the literals' lists; the literals of the clauses; for each lemma the number of
 -- its literals, these and its hints; words that aren't in use; and from the back three words for each clause and lemma, the place at
 -- which it begins and the links of its two slots.
-use Rattle.std.specs.Prelude.{◌≡◌, ℕ, zero, suc, ◌+◌, ◌-◌, ◌*◌, ◌<◌, ◌≤◌, List, [], ◌∷◌, ◌++◌, length, map, slice_index, ◌==◌, if◌then◌else◌}
+use Rattle.std.specs.Prelude.{◌≡◌, ℕ, zero, suc, ◌+◌, ◌*◌, ◌≤◌, List, [], ◌∷◌, ◌++◌, length, map, slice_index, ◌==◌, if◌then◌else◌}
 use Rattle.std.specs.List.{between, range_with_len}
 use Rattle.pv_region.specs.declared.watch.Watch.{Watch}
 use Rattle.pv_region.specs.Stored.{Stored, Hinted, used_of}

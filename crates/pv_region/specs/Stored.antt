@@ -70,19 +70,23 @@ pub record IsLinked (s : Stored) (watch : Watch) : Type 0 where
   pub there : Contains (list_of s lit) watch
 
 -- a list without its first entry
-pub record WithoutFirst (watches left : List Watch) : Type 0 where
-  pub gone : Watch
+pub record WithoutFirst (gone : Watch) (watches left : List Watch) : Type 0 where
   pub was : watches ≡ gone ∷ left
 
 -- a list without the entry that follows this one
-pub record WithoutNext (before : Watch) (watches left : List Watch) : Type 0 where
+pub record WithoutNext (before gone : Watch) (watches left : List Watch) : Type 0 where
   pub front : List Watch
-  pub gone : Watch
   pub rest : List Watch
   pub was : watches ≡ front ++ before ∷ gone ∷ rest
   pub is : left ≡ front ++ before ∷ rest
 
 -- a list without the entry that follows this one, or without its first
-abbrev pub Without : Option Watch → List Watch → List Watch → Type 0
-Without None watches left = WithoutFirst watches left
-Without (Some before) watches left = WithoutNext before watches left
+abbrev pub Without : Option Watch → Watch → List Watch → List Watch → Type 0
+Without None gone watches left = WithoutFirst gone watches left
+Without (Some before) gone watches left = WithoutNext before gone watches left
+
+-- an entry follows this one, or there is a first
+pub record HasNext (before : Option Watch) (watches : List Watch) : Type 0 where
+  pub gone : Watch
+  pub left : List Watch
+  pub without : Without before gone watches left

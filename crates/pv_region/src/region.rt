@@ -2,12 +2,13 @@
 ghost use Rattle.std.specs.Prelude.{◌≡◌, ◌↔◌, ℕ, ◌+◌, ◌-◌, ◌*◌, ◌<◌, ◌≤◌, false, List, [], ◌∷◌, ◌++◌, length, Some, None, slice_get, replicate, IfOk, OnOk, OnErr};
 ghost use Rattle.pv_cnf.specs.Literal.{is_outside};
 ghost use Rattle.pv_region.specs.declared.watch.Watch.{Watch};
-ghost use Rattle.pv_region.specs.Stored.{Stored, clause_cost, lemma_cost, used_of, Passes, count_of, all_lits, all_hints, with_clause, with_lemma, list_of, with_list, IsLinked, Without};
+ghost use Rattle.pv_region.specs.Stored.{Stored, clause_cost, lemma_cost, used_of, Passes, count_of, all_lits, all_hints, with_clause, with_lemma, list_of, with_list, IsLinked, Without, HasNext};
 
 use crate::fault::{Full, MakeFault};
 use crate::watch::{Watch, watch_at};
 use crate::words::{
-    clause_at, hints_at, link_at, link_before, link_in, lits_at, take_out, write_clause, write_lemma,
+    clause_at, hints_at, link_at, link_before, link_in, lits_at, take_out, write_clause,
+    write_lemma,
 };
 use std::alloc::Global;
 use std::marker::Model;
@@ -191,10 +192,11 @@ impl Region {
         link_in(&mut self.words, lit as usize - 2, Watch { id, slot });
     }
 
-    /// The first entry of the list of a literal.
+    /// The first entry of the list of a literal. No list is longer than there are slots.
     pub fn first_watch(&self, lit: u32) -> Option<Watch>
         requires { is_outside self.now.variables lit ≡ false }
-        ensures { result ≡ slice_get (list_of self.now lit) 0 }
+        ensures first { result ≡ slice_get (list_of self.now lit) 0 }
+        ensures few { length (list_of self.now lit) ≤ 2 * count_of self.now + 2 }
     {
         watch_at(self.words[lit as usize - 2])
     }
@@ -208,12 +210,14 @@ impl Region {
         watch_at(self.words[link_at(&self.words, watch)])
     }
 
-    /// Takes the entry that follows this one, or the first one, out of the list of a literal.
+    /// Takes the entry that follows this one, or the first one, out of the list of a literal. It is in no list then.
     pub fn unwatch(&mut self, lit: u32, before: Option<Watch>)
         requires literal { is_outside self.old.variables lit ≡ false }
-        requires follows { (left : List Watch) × Without before (list_of self.old lit) left }
-        ensures { (left : List Watch) → Without before (list_of self.old lit) left
+        requires follows { HasNext before (list_of self.old lit) }
+        ensures out { (gone : Watch) (left : List Watch) → Without before gone (list_of self.old lit) left
             → self.new ≡ with_list self.old lit left }
+        ensures free { (gone : Watch) (left : List Watch) → Without before gone (list_of self.old lit) left
+            → IsLinked self.new gone → ⊥ }
     {
         let at = link_before(&self.words, lit, before);
         take_out(&mut self.words, at);

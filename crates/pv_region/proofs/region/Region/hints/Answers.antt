@@ -1,4 +1,4 @@
-use Rattle.std.proofs.Common.{◌≡◌, ℕ, ◌+◌, ◌-◌, ◌≤◌, ◌∙◌, List, length, sym, ap, subst, arith, Some, slice_get}
+use Rattle.std.proofs.Common.{ℕ, ◌+◌, ◌-◌, ◌≤◌, ◌∙◌, List, length, sym, ap, subst, arith, Some, slice_get}
 use Rattle.pv_region.specs.Stored.{Stored, all_hints}
 use Rattle.pv_region.specs.Layout.{start_in, end_at, lemma_in, FitsLemma}
 use Rattle.pv_region.proofs.Reading.{clause-hints, lemma-fits, lemma-hints}

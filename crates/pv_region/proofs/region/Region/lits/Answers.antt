@@ -11,7 +11,7 @@ pub clause_at-requires-clause-fits : goal.clause_at-requires-clause-fits
 clause_at-requires-clause-fits c =
     let b = block_of c.self.inside in
     subst (λ (ws : List ℕ). start_in ws c.args.id ≤ end_at ws b.clauses_end b.clauses c.args.id) (sym c.deref.ensures.value)
-      (clause-fits b c.self.invariant c.args.id c.requires.from_one c.if-id-self.true).0
+    (clause-fits b c.self.invariant c.args.id c.requires.from_one c.if-id-self.true).0
 
 pub clause_at-requires-clause-inside : goal.clause_at-requires-clause-inside
 clause_at-requires-clause-inside c =

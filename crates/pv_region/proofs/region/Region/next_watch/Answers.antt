@@ -26,8 +26,19 @@ inside c =
 pub index-requires : goal.index-requires
 index-requires c = omega (arith, inside c)
 
+at-now : (c : goal.After-watch_at) → c.link_at.result ≡ link_at c.self.inside.words.items c.args.watch
+at-now c = c.link_at.ensures ∙ ap (λ (ws : List ℕ). link_at ws c.args.watch) c.deref.ensures.value
+
+read : (c : goal.After-watch_at) → c.index.result.now ≡ slice_index c.self.inside.words.items (link_at c.self.inside.words.items c.args.watch)
+read c =
+    let b = block_of c.self.inside in
+    let slot = linked-slot b c.self.invariant c.args.self.now c.self.view_is c.args.watch c.requires in
+    let within = link-inside b c.self.invariant c.args.self.now c.self.view_is c.args.watch slot in
+    c.index.ensures
+    ∙ get_or_default_zero c.self.inside.words.items c.link_at.result c.index.result.now (omega (arith, within, at-now c))
+    ∙ ap (slice_index c.self.inside.words.items) (at-now c)
+
 pub returns : goal.returns
 returns c = λ lit front rest e.
-    c.watch_at.ensures
-    ∙ ap watch_at (c.index.ensures ∙ get_or_default_zero c.self.inside.words.items c.link_at.result c.index.result.now (inside c) ∙ ap (slice_index c.self.inside.words.items) (at-link c))
+    c.watch_at.ensures ∙ ap watch_at (read c)
     ∙ next-seen (block_of c.self.inside) c.self.invariant c.args.self.now c.self.view_is c.args.watch lit front rest e

@@ -25,7 +25,7 @@ puts : (c : goal.After-self-4-1) → Puts c.self.inside.end (c.self.inside.claus
 puts c =
     let id : c.self.inside.clauses + 1 ≡ c.self.inside.clauses + c.self.inside.lemmas + 1 = omega (arith, none c) in
     subst (λ (ws : List ℕ). Puts c.self.inside.end (c.self.inside.clauses + c.self.inside.lemmas + 1) ws c.write_clause.new.words) c.deref_mut.ensures.value
-      (subst (λ (i : ℕ). Puts c.self.inside.end i c.deref_mut.result.now c.write_clause.new.words) id c.write_clause.ensures.put)
+    (subst (λ (i : ℕ). Puts c.self.inside.end i c.deref_mut.result.now c.write_clause.new.words) id c.write_clause.ensures.put)
 
 abbrev after : goal.After-self-4-1 → List ℕ → Block
 after c words = record {
@@ -41,7 +41,7 @@ pub invariant_of-self : goal.invariant_of-self
 invariant_of-self c =
     let b = block_of c.self.inside in
     subst (λ (ws : List ℕ). IsLaidOut (after c ws)) (sym (new-words c))
-      (laid-clause b c.write_clause.new.words c.args.lits.now (c.self.inside.end + length c.args.lits.now) c.self.invariant (none c) (puts c) c.write_clause.ensures.lits refl (room c))
+    (laid-clause b c.write_clause.new.words c.args.lits.now (c.self.inside.end + length c.args.lits.now) c.self.invariant (none c) (puts c) c.write_clause.ensures.lits refl (room c))
 
 pub returns-clause-id : goal.returns-clause-id
 returns-clause-id c =

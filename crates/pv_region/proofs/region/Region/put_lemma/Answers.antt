@@ -1,4 +1,4 @@
-use Rattle.std.proofs.Common.{◌≡◌, ℕ, ◌+◌, ◌*◌, ◌≤◌, ◌∙◌, List, length, refl, sym, ap, subst, arith}
+use Rattle.std.proofs.Common.{◌≡◌, ℕ, ◌+◌, ◌*◌, ◌≤◌, ◌∙◌, List, length, sym, ap, subst, arith}
 use Rattle.std.specs.Vec.{with_items}
 use Rattle.std.proofs.lemmas.Grind.{common_steps}
 use Rattle.std.proofs.lemmas.List.{with_items_is}
@@ -45,7 +45,7 @@ pub invariant_of-self : goal.invariant_of-self
 invariant_of-self c =
     let b = block_of c.self.inside in
     subst (λ (ws : List ℕ). IsLaidOut (after c ws)) (sym (new-words c))
-      (laid-lemma b c.write_lemma.new.words c.args.lits.now c.args.hints.now (stop c) c.self.invariant (puts c) (put-there c) c.write_lemma.ensures.fits (sym (stop-is c)) (room c))
+    (laid-lemma b c.write_lemma.new.words c.args.lits.now c.args.hints.now (stop c) c.self.invariant (puts c) (put-there c) c.write_lemma.ensures.fits (sym (stop-is c)) (room c))
 
 pub returns-clause-id : goal.returns-clause-id
 returns-clause-id c =

@@ -1,21 +1,22 @@
-use Rattle.std.proofs.Common.{◌≡◌, ℕ, ◌+◌, ◌-◌, ◌*◌, ◌<◌, ◌≤◌, ◌∙◌, false, List, length, sym, ap, subst, arith, slice_index, IfSome, Option}
+use Rattle.std.proofs.Common.{◌≡◌, ℕ, ◌*◌, ◌<◌, ◌≤◌, ◌∙◌, false, List, length, sym, ap, subst, arith, slice_index, IfSome, Option}
 use Rattle.std.specs.Vec.{with_items}
 use Rattle.std.proofs.lemmas.Grind.{common_steps}
 use Rattle.std.proofs.lemmas.List.{with_items_is}
 use Rattle.pv_cnf.specs.Literal.{is_outside}
 use Rattle.pv_region.specs.declared.watch.Watch.{Watch}
-use Rattle.pv_region.specs.Stored.{Stored, list_of, Without}
+use Rattle.pv_region.specs.Stored.{Stored, list_of, with_list, IsLinked, Without, HasNext}
 use Rattle.pv_region.specs.Links.{link_before, watch_of}
 use Rattle.pv_region.specs.Layout.{Block, stored_of, IsLaidOut}
 use Rattle.pv_region.specs.Writes.{HasLink, unlinked}
 use Rattle.pv_region.proofs.Linking.{block_with}
-use Rattle.pv_region.proofs.Seen.{TakesOut, inside-seen, unwatched-seen}
+use Rattle.pv_region.proofs.Seen.{TakesOut, inside-seen, unwatched-seen, gone-free}
 use Rattle.pv_region.proofs.Blocks.{block_of}
 use Rattle.pv_region.proofs.region.Region.unwatch.Goals as goal
 
 some_out : (b : Block) (laid : IsLaidOut b) (now : Stored) → stored_of b ≡ now → (lit : ℕ) (before : Option Watch) → is_outside now.variables lit ≡ false
-    → (left : List Watch) × Without before (list_of now lit) left → (left : List Watch) × TakesOut b now lit before left
-some_out b laid now seen lit before inside (left, w) = (left, unwatched-seen b laid now seen lit before left (inside-seen b laid now seen lit inside).1 w)
+    → HasNext before (list_of now lit) → (left : List Watch) × TakesOut b now lit before left
+some_out b laid now seen lit before inside h =
+    (h.left, unwatched-seen b laid now seen lit before h.gone h.left (inside-seen b laid now seen lit inside).1 h.without)
 
 pub link_before-at-requires-clause-inside : goal.link_before-at-requires-clause-inside
 link_before-at-requires-clause-inside c =
@@ -34,13 +35,13 @@ pub take_out-requires-clause-some : goal.take_out-requires-clause-some
 take_out-requires-clause-some c =
     let (left, out) = some_out (block_of c.self.inside) c.self.invariant c.args.self.now c.self.view_is c.args.lit c.args.before c.requires.literal c.requires.follows in
     subst (λ (ws : List ℕ). 0 < slice_index ws c.link_before-at.result) (sym c.deref_mut.ensures.value)
-      (subst (λ (i : ℕ). 0 < slice_index c.self.inside.words.items i) (sym (at-is c)) out.some)
+    (subst (λ (i : ℕ). 0 < slice_index c.self.inside.words.items i) (sym (at-is c)) out.some)
 
 pub take_out-requires-clause-slot : goal.take_out-requires-clause-slot
 take_out-requires-clause-slot c =
     let (left, out) = some_out (block_of c.self.inside) c.self.invariant c.args.self.now c.self.view_is c.args.lit c.args.before c.requires.literal c.requires.follows in
     subst (λ (ws : List ℕ). HasLink ws (watch_of (slice_index ws c.link_before-at.result))) (sym c.deref_mut.ensures.value)
-      (subst (λ (i : ℕ). HasLink c.self.inside.words.items (watch_of (slice_index c.self.inside.words.items i))) (sym (at-is c)) out.slot)
+    (subst (λ (i : ℕ). HasLink c.self.inside.words.items (watch_of (slice_index c.self.inside.words.items i))) (sym (at-is c)) out.slot)
 
 at-now : (c : goal.After-self-1) → c.link_before-at.result ≡ link_before c.self.inside.words.items c.args.lit c.args.before
 at-now c = c.link_before-at.ensures ∙ ap (λ (ws : List ℕ). link_before ws c.args.lit c.args.before) c.deref.ensures.value
@@ -57,9 +58,20 @@ invariant_of-self c =
     let (left, out) = some_out (block_of c.self.inside) c.self.invariant c.args.self.now c.self.view_is c.args.lit c.args.before c.requires.literal c.requires.follows in
     subst (λ (ws : List ℕ). IsLaidOut (block_with (block_of c.self.inside) ws)) (sym (new-words c)) out.laid_out
 
-pub returns : goal.returns
-returns c = λ left w.
+seen-out : (c : goal.After-self-1) (gone : Watch) (left : List Watch) → Without c.args.before gone (list_of c.args.self.now c.args.lit) left
+    → stored_of (block_with (block_of c.self.inside) (with_items c.self.inside.words c.take_out.new.words).items) ≡ with_list c.args.self.now c.args.lit left
+seen-out c gone left w =
     let b = block_of c.self.inside in
     let inside = inside-seen b c.self.invariant c.args.self.now c.self.view_is c.args.lit c.requires.literal in
-    let out = unwatched-seen b c.self.invariant c.args.self.now c.self.view_is c.args.lit c.args.before left inside.1 w in
+    let out = unwatched-seen b c.self.invariant c.args.self.now c.self.view_is c.args.lit c.args.before gone left inside.1 w in
     ap (λ (ws : List ℕ). stored_of (block_with b ws)) (new-words c) ∙ out.stored
+
+pub returns-clause-out : goal.returns-clause-out
+returns-clause-out c = λ gone left w. seen-out c gone left w
+
+pub returns-clause-free : goal.returns-clause-free
+returns-clause-free c = λ gone left w linked.
+    let b = block_of c.self.inside in
+    let inside = inside-seen b c.self.invariant c.args.self.now c.self.view_is c.args.lit c.requires.literal in
+    gone-free b c.self.invariant c.args.self.now c.self.view_is c.args.lit c.args.before gone left inside.1 w
+    (subst (λ (s : Stored). IsLinked s gone) (seen-out c gone left w) linked)

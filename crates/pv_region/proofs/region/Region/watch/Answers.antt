@@ -34,7 +34,7 @@ both c =
     let b = block_of c.self.inside in
     let inside = inside-seen b c.self.invariant c.args.self.now c.self.view_is c.args.lit c.requires.literal in
     subst (Both c) (sym (new-words c))
-      (watched-seen b c.self.invariant c.args.self.now c.self.view_is c.args.lit (record { id = c.args.id; slot = c.args.slot }) inside.1 c.requires.from_one c.requires.to_last c.requires.slot c.requires.free)
+    (watched-seen b c.self.invariant c.args.self.now c.self.view_is c.args.lit (record { id = c.args.id; slot = c.args.slot }) inside.1 c.requires.from_one c.requires.to_last c.requires.slot c.requires.free)
 
 pub invariant_of-self : goal.invariant_of-self
 invariant_of-self c = (both c).1
