@@ -74,7 +74,8 @@ pub fn watch(region: &mut Region, lit: u32, id: u32, slot: u8)
     requires to_last { id ≤ count_of region.old }
     requires slot { slot < 2 }
     requires free { IsLinked region.old (record { id = id; slot = slot }) → ⊥ }
-    ensures { region.new ≡ with_list region.old lit (record { id = id; slot = slot } ∷ list_of region.old lit) }
+    ensures { region.new
+        ≡ with_list region.old lit (record { id = id; slot = slot } ∷ list_of region.old lit) }
 {
     region.watch(lit, id, slot)
 }

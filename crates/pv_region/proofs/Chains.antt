@@ -21,7 +21,8 @@ watch-code n w slot e =
 pub code-one : (count : ℕ) (v w : Watch) → IsSlot count v → IsSlot count w → code_of v ≡ code_of w → v ≡ w
 code-one count v w a b e = sym (watch-code (code_of v) v a.slot refl) ∙ watch-code (code_of v) w b.slot e
 
-pub link-one : (words : List ℕ) (count : ℕ) (v w : Watch) → 3 * count ≤ length words → IsSlot count v → IsSlot count w → link_at words v ≡ link_at words w → v ≡ w
+pub link-one : (words : List ℕ) (count : ℕ) (v w : Watch) → 3 * count ≤ length words → IsSlot count v → IsSlot count w
+    → link_at words v ≡ link_at words w → v ≡ w
 link-one words count v w room a b e =
     code-one count v w a b (omega (arith, a.to_last, a.from_one, a.slot, b.to_last, b.from_one, b.slot, e))
 
@@ -87,7 +88,8 @@ module _ (words : List ℕ) (count : ℕ) where
   chain-first (suc n) (x ∷ ws) (e, slot, rest) = ap (λ (w : Watch). Some w) (watch-code (suc n) x slot.slot e)
 
   -- the rest of a list, behind a watch in it
-  pub chain-behind : (code : ℕ) (front : List Watch) (w : Watch) (rest : List Watch) → Chain words count code (front ++ w ∷ rest) → IsSlot count w × Chain words count (slice_index words (link_at words w)) rest
+  pub chain-behind : (code : ℕ) (front : List Watch) (w : Watch) (rest : List Watch) → Chain words count code (front ++ w ∷ rest)
+      → IsSlot count w × Chain words count (slice_index words (link_at words w)) rest
   chain-behind code [] w rest (e, slot, more) = (slot, more)
   chain-behind code (x ∷ front) w rest (e, slot, more) = chain-behind (slice_index words (link_at words x)) front w rest more
 
@@ -100,7 +102,8 @@ module _ (words : List ℕ) (count : ℕ) where
       ap (λ (v : Watch). v ∷ walk words most (slice_index words (link_at words v))) (watch-code (suc n) w slot.slot e)
       ∙ ap (λ (vs : List Watch). w ∷ vs) (walk-chain most (slice_index words (link_at words w)) ws (omega arith) rest)
 
-  other-codes : (w : Watch) (ws : List Watch) → IsSlot count w → ((v : Watch) → In v ws → IsSlot count v) → (In w ws → ⊥) → AllByRecursion (λ y. eqb (code_of w) y ≡ false) (map code_of ws)
+  other-codes : (w : Watch) (ws : List Watch) → IsSlot count w → ((v : Watch) → In v ws → IsSlot count v) → (In w ws → ⊥)
+      → AllByRecursion (λ y. eqb (code_of w) y ≡ false) (map code_of ws)
   other-codes w [] slot slots none = tt
   other-codes w (x ∷ ws) slot slots none = (
     elim (cases_Bool (eqb (code_of w) (code_of x))) [
@@ -116,7 +119,8 @@ module _ (words : List ℕ) (count : ℕ) where
   distinct-codes (x ∷ ws) slots (none, once) =
       (other-codes x ws (slots x (inl refl)) (λ v i. slots v (inr i)) none, distinct-codes ws (λ v i. slots v (inr i)) once)
 
-  below-codes : (ws : List Watch) → ((v : Watch) → In v ws → IsSlot count v) → (q : ℕ) → list_any (eqb q) (map code_of ws) ≡ true → q < 2 * count + 2
+  below-codes : (ws : List Watch) → ((v : Watch) → In v ws → IsSlot count v) → (q : ℕ) → list_any (eqb q) (map code_of ws) ≡ true
+      → q < 2 * count + 2
   below-codes [] slots q is = absurd (both_ways false refl is)
   below-codes (x ∷ ws) slots q is =
       elim (or_cases (eqb q (code_of x)) (list_any (eqb q) (map code_of ws)) is) [
@@ -132,12 +136,14 @@ module _ (words : List ℕ) (count : ℕ) where
 
 -- a list stays where the links in it do
 module _ (old new : List ℕ) (before after : ℕ) (grows : before ≤ after) where
-  pub chain-kept : (code : ℕ) (ws : List Watch) → ((w : Watch) → In w ws → slice_index new (link_at new w) ≡ slice_index old (link_at old w)) → Chain old before code ws → Chain new after code ws
+  pub chain-kept : (code : ℕ) (ws : List Watch) → ((w : Watch) → In w ws → slice_index new (link_at new w) ≡ slice_index old
+      (link_at old w)) → Chain old before code ws → Chain new after code ws
   chain-kept code [] same c = c
   chain-kept code (x ∷ ws) same (e, slot, rest) = (
     e,
     record { from_one = slot.from_one; to_last = omega (arith, slot.to_last); slot = slot.slot },
-    subst (λ (n : ℕ). Chain new after n ws) (sym (same x (inl refl))) (chain-kept (slice_index old (link_at old x)) ws (λ w i. same w (inr i)) rest),
+    subst (λ (n : ℕ). Chain new after n ws) (sym (same x (inl refl))) (chain-kept (slice_index old (link_at old x)) ws (λ w i. same w
+        (inr i)) rest),
   )
 
 -- ---- all lists
@@ -149,7 +155,8 @@ module _ (words : List ℕ) (literals count : ℕ) (list : ℕ → List Watch) (
   -- walking finds the list
   pub list-found : (i : ℕ) → i < literals → list_at words count i ≡ list i
   list-found i lt =
-      walk-chain words count (2 * count + 2) (slice_index words i) (list i) (chain-short words count (slice_index words i) (list i) (a.chain i lt) (a.once i lt)) (a.chain i lt)
+      walk-chain words count (2 * count + 2) (slice_index words i) (list i) (chain-short words count (slice_index words i) (list i)
+      (a.chain i lt) (a.once i lt)) (a.chain i lt)
 
   pub lists-same : (other : ℕ → List Watch) → ((i : ℕ) → i < literals → other i ≡ list i) → AreLists words literals count other
   lists-same other same = record {
@@ -165,15 +172,19 @@ with-other : (list : ℕ → List Watch) (head : ℕ) (mine : List Watch) (i : �
 with-other list head mine i ne = ap (λ (b : Bool). cond b mine (list i)) (ne_eqb i head ne)
 
 -- one list was changed
-module _ (old new : List ℕ) (literals count : ℕ) (list : ℕ → List Watch) (a : AreLists old literals count list) (head : ℕ) (mine : List Watch) where
-  module _ (others : (i : ℕ) → i < literals → i ≢ head → Chain new count (slice_index new i) (list i)) (here : Chain new count (slice_index new head) mine) (once : EachOnce mine) (alone : (w : Watch) (i : ℕ) → i < literals → i ≢ head → In w mine → In w (list i) → ⊥) where
+module _ (old new : List ℕ) (literals count : ℕ) (list : ℕ → List Watch) (a : AreLists old literals count list) (head : ℕ)
+    (mine : List Watch) where
+  module _ (others : (i : ℕ) → i < literals → i ≢ head → Chain new count (slice_index new i) (list i)) (here : Chain new count
+      (slice_index new head) mine) (once : EachOnce mine) (alone : (w : Watch) (i : ℕ) → i < literals → i ≢ head → In w mine
+      → In w (list i) → ⊥) where
     abbrev now : ℕ → List Watch
     now = with_one list head mine
 
     chain-now : (i : ℕ) → i < literals → Chain new count (slice_index new i) (now i)
     chain-now i lt =
         elim (cases_eq i head) [
-          | inl e ↦ subst (Chain new count (slice_index new i)) (sym (with-same list head mine i e)) (subst (λ (h : ℕ). Chain new count (slice_index new h) mine) (sym e) here)
+          | inl e ↦ subst (Chain new count (slice_index new i)) (sym (with-same list head mine i e)) (subst (λ (h : ℕ). Chain new count
+              (slice_index new h) mine) (sym e) here)
           | inr ne ↦ subst (Chain new count (slice_index new i)) (sym (with-other list head mine i ne)) (others i lt ne)
         ]
 
@@ -189,11 +200,14 @@ module _ (old new : List ℕ) (literals count : ℕ) (list : ℕ → List Watch)
         elim (cases_eq i head) [
           | inl e ↦ elim (cases_eq j head) [
             | inl f ↦ e ∙ sym f
-            | inr nf ↦ absurd (alone w j lj nf (subst (In w) (with-same list head mine i e) wi) (subst (In w) (with-other list head mine j nf) wj))
+            | inr nf ↦ absurd (alone w j lj nf (subst (In w) (with-same list head mine i e) wi) (subst (In w)
+                (with-other list head mine j nf) wj))
           ]
           | inr ne ↦ elim (cases_eq j head) [
-            | inl f ↦ absurd (alone w i li ne (subst (In w) (with-same list head mine j f) wj) (subst (In w) (with-other list head mine i ne) wi))
-            | inr nf ↦ a.apart i j w li lj (subst (In w) (with-other list head mine i ne) wi) (subst (In w) (with-other list head mine j nf) wj)
+            | inl f ↦ absurd (alone w i li ne (subst (In w) (with-same list head mine j f) wj) (subst (In w)
+                (with-other list head mine i ne) wi))
+            | inr nf ↦ a.apart i j w li lj (subst (In w) (with-other list head mine i ne) wi) (subst (In w)
+                (with-other list head mine j nf) wj)
           ]
         ]
 
@@ -210,19 +224,25 @@ module _ (old new : List ℕ) (literals count : ℕ) (list : ℕ → List Watch)
     list-other i lt ne = list-found new literals count now lists-now i lt ∙ with-other list head mine i ne
 
 -- a list of lists, by their places
-pub lists-set : (f g : ℕ → List Watch) (n head : ℕ) (mine : List Watch) → head < n → g head ≡ mine → ((i : ℕ) → i < n → i ≢ head → g i ≡ f i) → map g (range_with_len 0 n) ≡ set (map f (range_with_len 0 n)) head mine
+pub lists-set : (f g : ℕ → List Watch) (n head : ℕ) (mine : List Watch) → head < n → g head ≡ mine → ((i : ℕ) → i < n → i ≢ head
+    → g i ≡ f i) → map g (range_with_len 0 n) ≡ set (map f (range_with_len 0 n)) head mine
 lists-set f g n head mine lt here others =
-    let size : length (set (map f (range_with_len 0 n)) head mine) ≡ n = length-set (map f (range_with_len 0 n)) head mine ∙ length-map-range_with_len f 0 n in
+    let size : length (set (map f (range_with_len 0 n)) head mine) ≡ n = length-set (map f (range_with_len 0 n)) head mine
+    ∙ length-map-range_with_len f 0 n in
     sym (fill_by_all g (set (map f (range_with_len 0 n)) head mine) n [] size (λ k below.
     elim (cases_eq k head) [
       | inl e ↦ ap (λ (i : ℕ). get_or (set (map f (range_with_len 0 n)) head mine) i []) e
-          ∙ get_or-set_same (map f (range_with_len 0 n)) head mine [] (omega (arith, length-map-range_with_len f 0 n)) ∙ sym here ∙ ap g (sym e)
-      | inr ne ↦ get_or-set_other (map f (range_with_len 0 n)) head k mine [] ne ∙ get_or-map-range_with_len f 0 n k k [] below (omega arith) ∙ sym (others k below ne)
+          ∙ get_or-set_same (map f (range_with_len 0 n)) head mine [] (omega (arith, length-map-range_with_len f 0 n)) ∙ sym here
+          ∙ ap g (sym e)
+      | inr ne ↦ get_or-set_other (map f (range_with_len 0 n)) head k mine [] ne
+          ∙ get_or-map-range_with_len f 0 n k k [] below (omega arith) ∙ sym (others k below ne)
     ]))
 
-pub lists-all-same : (f g : ℕ → List Watch) (n : ℕ) → ((i : ℕ) → i < n → g i ≡ f i) → map g (range_with_len 0 n) ≡ map f (range_with_len 0 n)
+pub lists-all-same : (f g : ℕ → List Watch) (n : ℕ) → ((i : ℕ) → i < n → g i ≡ f i)
+    → map g (range_with_len 0 n) ≡ map f (range_with_len 0 n)
 lists-all-same f g n same =
-    sym (fill_by_all g (map f (range_with_len 0 n)) n [] (length-map-range_with_len f 0 n) (λ k below. get_or-map-range_with_len f 0 n k k [] below (omega arith) ∙ sym (same k below)))
+    sym (fill_by_all g (map f (range_with_len 0 n)) n [] (length-map-range_with_len f 0 n)
+    (λ k below. get_or-map-range_with_len f 0 n k k [] below (omega arith) ∙ sym (same k below)))
 
 pub list-there : (f : ℕ → List Watch) (n i : ℕ) → i < n → slice_index_or (map f (range_with_len 0 n)) i [] ≡ f i
 list-there f n i lt = get_or-map-range_with_len f 0 n i i [] lt (omega arith)

@@ -16,13 +16,16 @@ in_order a b le = le
 pub lemma_order : (words : List ℕ) (a b : ℕ) → FitsLemma words a b → a ≤ b
 lemma_order words a b fits = omega (arith, fits)
 
-module _ (b : Block) (new : List ℕ) (laid : IsLaidOut b) (puts : Puts b.end (b.clauses + b.lemmas + 1) b.words new) (room : b.end + 3 * (b.clauses + b.lemmas + 1) ≤ length b.words) where
+module _ (b : Block) (new : List ℕ) (laid : IsLaidOut b) (puts : Puts b.end (b.clauses + b.lemmas + 1) b.words new) (room : b.end + 3 *
+    (b.clauses + b.lemmas + 1) ≤ length b.words) where
   split-below : b.clauses_end ≤ b.end
-  split-below = start-below (start_after b.words b.clauses) (FitsLemma b.words) (lemma_order b.words) b.clauses_end b.end b.lemmas laid.lemmas
+  split-below = start-below (start_after b.words b.clauses) (FitsLemma b.words)
+      (lemma_order b.words) b.clauses_end b.end b.lemmas laid.lemmas
 
   pub heads-below : 2 * b.variables ≤ b.end
   heads-below =
-      let low = start-below (start_after b.words 0) (λ start end. start ≤ end) in_order (2 * b.variables) b.clauses_end b.clauses laid.clauses in
+      let low = start-below (start_after b.words 0) (λ start end. start ≤ end) in_order
+      (2 * b.variables) b.clauses_end b.clauses laid.clauses in
       omega (arith, low, split-below)
 
   starts-kept : (first k : ℕ) → first + k ≤ b.clauses + b.lemmas → start_after new first k ≡ start_after b.words first k
@@ -33,9 +36,11 @@ module _ (b : Block) (new : List ℕ) (laid : IsLaidOut b) (puts : Puts b.end (b
   part-kept : (x y : ℕ) → y ≤ b.end → between x y new ≡ between x y b.words
   part-kept x y le = between-same b.words new puts.size x y (omega (arith, room, le)) (λ i low high. puts.front i (omega (arith, high, le)))
 
-  pub clauses-kept : (clauses_in new b.clauses_end b.clauses ≡ clauses_in b.words b.clauses_end b.clauses) × AreParts (start_after new 0) (λ start end. start ≤ end) (2 * b.variables) b.clauses_end b.clauses
+  pub clauses-kept : (clauses_in new b.clauses_end b.clauses ≡ clauses_in b.words b.clauses_end b.clauses) × AreParts
+      (start_after new 0) (λ start end. start ≤ end) (2 * b.variables) b.clauses_end b.clauses
   clauses-kept =
-      parts-same (start_after b.words 0) (start_after new 0) (λ x y. between x y b.words) (λ x y. between x y new) (λ start end. start ≤ end) (λ start end. start ≤ end) in_order (2 * b.variables) b.clauses_end b.clauses
+      parts-same (start_after b.words 0) (start_after new 0) (λ x y. between x y b.words) (λ x y. between x y new)
+      (λ start end. start ≤ end) (λ start end. start ≤ end) in_order (2 * b.variables) b.clauses_end b.clauses
       (λ j some le. starts-kept 0 j (omega (arith, le)))
       (λ x y low high fits. (part-kept x y (omega (arith, high, split-below)), fits))
       laid.clauses
@@ -44,14 +49,18 @@ module _ (b : Block) (new : List ℕ) (laid : IsLaidOut b) (puts : Puts b.end (b
   lemma-kept x y le fits =
       let count : slice_index new x ≡ slice_index b.words x = puts.front x (omega (arith, fits, le)) in (
         ap (λ (n : ℕ). record { lits = between (x + 1) (x + 1 + n) new; hints = between (x + 1 + n) y new }) count
-            ∙ ap (λ (ls : List ℕ). record { lits = ls; hints = between (x + 1 + slice_index b.words x) y new }) (part-kept (x + 1) (x + 1 + slice_index b.words x) (omega (arith, fits, le)))
-            ∙ ap (λ (hs : List ℕ). record { lits = between (x + 1) (x + 1 + slice_index b.words x) b.words; hints = hs }) (part-kept (x + 1 + slice_index b.words x) y le),
+            ∙ ap (λ (ls : List ℕ). record { lits = ls; hints = between (x + 1 + slice_index b.words x) y new }) (part-kept (x + 1)
+            (x + 1 + slice_index b.words x) (omega (arith, fits, le)))
+            ∙ ap (λ (hs : List ℕ). record { lits = between (x + 1) (x + 1 + slice_index b.words x) b.words; hints = hs }) (part-kept
+            (x + 1 + slice_index b.words x) y le),
         omega (arith, count, fits),
       )
 
-  pub lemmas-kept : (lemmas_in new b.clauses b.end b.lemmas ≡ lemmas_in b.words b.clauses b.end b.lemmas) × AreParts (start_after new b.clauses) (FitsLemma new) b.clauses_end b.end b.lemmas
+  pub lemmas-kept : (lemmas_in new b.clauses b.end b.lemmas ≡ lemmas_in b.words b.clauses b.end b.lemmas) × AreParts
+      (start_after new b.clauses) (FitsLemma new) b.clauses_end b.end b.lemmas
   lemmas-kept =
-      parts-same (start_after b.words b.clauses) (start_after new b.clauses) (lemma_in b.words) (lemma_in new) (FitsLemma b.words) (FitsLemma new) (lemma_order b.words) b.clauses_end b.end b.lemmas
+      parts-same (start_after b.words b.clauses) (start_after new b.clauses) (lemma_in b.words) (lemma_in new) (FitsLemma b.words)
+      (FitsLemma new) (lemma_order b.words) b.clauses_end b.end b.lemmas
       (λ j some le. starts-kept b.clauses j (omega (arith, le)))
       (λ x y low high fits. lemma-kept x y high fits)
       laid.lemmas
@@ -70,8 +79,10 @@ module _ (b : Block) (new : List ℕ) (laid : IsLaidOut b) (puts : Puts b.end (b
         let old = laid.lists.chain i lt in
         let head : slice_index new i ≡ slice_index b.words i = puts.front i (omega (arith, lt, heads-below)) in
         subst (λ (n : ℕ). Chain new (b.clauses + b.lemmas + 1) n (list_at b.words (b.clauses + b.lemmas) i)) (sym head)
-        (chain-kept b.words new (b.clauses + b.lemmas) (b.clauses + b.lemmas + 1) (omega arith) (slice_index b.words i) (list_at b.words (b.clauses + b.lemmas) i)
-        (λ w there. link-kept w (chain-slot b.words (b.clauses + b.lemmas) (slice_index b.words i) (list_at b.words (b.clauses + b.lemmas) i) w old there)) old);
+        (chain-kept b.words new (b.clauses + b.lemmas) (b.clauses + b.lemmas + 1) (omega arith) (slice_index b.words i) (list_at b.words
+        (b.clauses + b.lemmas) i)
+        (λ w there. link-kept w (chain-slot b.words (b.clauses + b.lemmas) (slice_index b.words i) (list_at b.words
+        (b.clauses + b.lemmas) i) w old there)) old);
     once = laid.lists.once;
     apart = laid.lists.apart;
   }
@@ -81,14 +92,18 @@ module _ (b : Block) (new : List ℕ) (laid : IsLaidOut b) (puts : Puts b.end (b
 
   pub lists-kept : AreLists new (2 * b.variables) (b.clauses + b.lemmas + 1) (list_at new (b.clauses + b.lemmas + 1))
   lists-kept =
-      lists-same new (2 * b.variables) (b.clauses + b.lemmas + 1) (list_at b.words (b.clauses + b.lemmas)) lists-more (list_at new (b.clauses + b.lemmas + 1)) list-again
+      lists-same new (2 * b.variables) (b.clauses + b.lemmas + 1) (list_at b.words (b.clauses + b.lemmas)) lists-more (list_at new
+      (b.clauses + b.lemmas + 1)) list-again
 
-  pub lists-as-before : lists_in new (2 * b.variables) (b.clauses + b.lemmas + 1) ≡ lists_in b.words (2 * b.variables) (b.clauses + b.lemmas)
+  pub lists-as-before : lists_in new (2 * b.variables) (b.clauses + b.lemmas + 1) ≡ lists_in b.words (2 * b.variables)
+      (b.clauses + b.lemmas)
   lists-as-before =
       lists-all-same (list_at b.words (b.clauses + b.lemmas)) (list_at new (b.clauses + b.lemmas + 1)) (2 * b.variables) list-again
 
 -- one more clause
-module _ (b : Block) (new lits : List ℕ) (end : ℕ) (laid : IsLaidOut b) (none : b.lemmas ≡ 0) (puts : Puts b.end (b.clauses + b.lemmas + 1) b.words new) (is : between b.end end new ≡ lits) (end-is : end ≡ b.end + length lits) (room : end + 3 * (b.clauses + b.lemmas + 1) ≤ length b.words) where
+module _ (b : Block) (new lits : List ℕ) (end : ℕ) (laid : IsLaidOut b) (none : b.lemmas ≡ 0) (puts : Puts b.end
+    (b.clauses + b.lemmas + 1) b.words new) (is : between b.end end new ≡ lits) (end-is : end ≡ b.end + length lits) (room : end + 3 *
+    (b.clauses + b.lemmas + 1) ≤ length b.words) where
   abbrev pub block_with_clause : Block
   block_with_clause = record {
     variables = b.variables;
@@ -127,10 +142,39 @@ module _ (b : Block) (new lits : List ℕ) (end : ℕ) (laid : IsLaidOut b) (non
   pub stored-clause : stored_of block_with_clause ≡ with_clause (stored_of b) lits
   stored-clause =
       let count : b.clauses + 1 + b.lemmas ≡ b.clauses + b.lemmas + 1 = omega arith in
-      ap (λ (n : ℕ). record { variables = b.variables; capacity = n; clauses = clauses_in new end (b.clauses + 1); lemmas = lemmas_in new (b.clauses + 1) end b.lemmas; lists = lists_in new (2 * b.variables) (b.clauses + 1 + b.lemmas) }) puts.size
-      ∙ ap (λ (cs : List (List ℕ)). record { variables = b.variables; capacity = length b.words; clauses = cs; lemmas = lemmas_in new (b.clauses + 1) end b.lemmas; lists = lists_in new (2 * b.variables) (b.clauses + 1 + b.lemmas) }) one-more-clause
-      ∙ ap (λ (ls : List Hinted). record { variables = b.variables; capacity = length b.words; clauses = clauses_in b.words b.clauses_end b.clauses ++ lits ∷ []; lemmas = ls; lists = lists_in new (2 * b.variables) (b.clauses + 1 + b.lemmas) }) still-none
-      ∙ ap (λ (ws : List (List Watch)). record { variables = b.variables; capacity = length b.words; clauses = clauses_in b.words b.clauses_end b.clauses ++ lits ∷ []; lemmas = lemmas_in b.words b.clauses b.end b.lemmas; lists = ws })
+      ap (λ (n : ℕ). record {
+        variables = b.variables;
+        capacity = n;
+        clauses = clauses_in new end
+            (b.clauses + 1);
+        lemmas = lemmas_in new (b.clauses + 1) end b.lemmas;
+        lists = lists_in new (2 * b.variables)
+            (b.clauses + 1 + b.lemmas);
+      }) puts.size
+      ∙ ap (λ (cs : List (List ℕ)). record {
+        variables = b.variables;
+        capacity = length b.words;
+        clauses = cs;
+        lemmas = lemmas_in new
+            (b.clauses + 1) end b.lemmas;
+        lists = lists_in new (2 * b.variables) (b.clauses + 1 + b.lemmas);
+      }) one-more-clause
+      ∙ ap (λ (ls : List Hinted). record {
+        variables = b.variables;
+        capacity = length b.words;
+        clauses = clauses_in b.words b.clauses_end
+            b.clauses ++ lits ∷ [];
+        lemmas = ls;
+        lists = lists_in new (2 * b.variables) (b.clauses + 1 + b.lemmas);
+      }) still-none
+      ∙ ap (λ (ws : List (List Watch)). record {
+        variables = b.variables;
+        capacity = length b.words;
+        clauses = clauses_in b.words
+            b.clauses_end b.clauses ++ lits ∷ [];
+        lemmas = lemmas_in b.words b.clauses b.end b.lemmas;
+        lists = ws;
+      })
       (ap (lists_in new (2 * b.variables)) count ∙ lists-as-before b new laid puts less)
 
   pub used-clause : used_of (with_clause (stored_of b) lits) ≡ used_of (stored_of b) + clause_cost lits
@@ -150,7 +194,8 @@ module _ (b : Block) (new lits : List ℕ) (end : ℕ) (laid : IsLaidOut b) (non
     lemmas = subst (λ (n : ℕ). AreParts (start_after new (b.clauses + 1)) (FitsLemma new) end end n) (sym none) refl;
     used =
         let cost = used-clause in
-        let sum : end + 3 * (b.clauses + 1 + b.lemmas) ≡ used_of (with_clause (stored_of b) lits) = omega (arith, end-is, laid.used, cost) in
+        let sum : end + 3 * (b.clauses + 1 + b.lemmas) ≡ used_of (with_clause (stored_of b) lits) = omega
+        (arith, end-is, laid.used, cost) in
         sum ∙ sym (ap used_of stored-clause);
     room = omega (arith, room, puts.size);
     lists =
@@ -159,7 +204,9 @@ module _ (b : Block) (new lits : List ℕ) (end : ℕ) (laid : IsLaidOut b) (non
   }
 
 -- one more lemma
-module _ (b : Block) (new lits hints : List ℕ) (end : ℕ) (laid : IsLaidOut b) (puts : Puts b.end (b.clauses + b.lemmas + 1) b.words new) (is : lemma_in new b.end end ≡ record { lits = lits; hints = hints }) (count : slice_index new b.end ≡ length lits) (end-is : end ≡ b.end + 1 + length lits + length hints) (room : end + 3 * (b.clauses + b.lemmas + 1) ≤ length b.words) where
+module _ (b : Block) (new lits hints : List ℕ) (end : ℕ) (laid : IsLaidOut b) (puts : Puts b.end (b.clauses + b.lemmas + 1) b.words new)
+    (is : lemma_in new b.end end ≡ record { lits = lits; hints = hints }) (count : slice_index new b.end ≡ length lits)
+    (end-is : end ≡ b.end + 1 + length lits + length hints) (room : end + 3 * (b.clauses + b.lemmas + 1) ≤ length b.words) where
   abbrev pub block_with_lemma : Block
   block_with_lemma = record {
     variables = b.variables;
@@ -178,7 +225,11 @@ module _ (b : Block) (new lits hints : List ℕ) (end : ℕ) (laid : IsLaidOut b
       let at : record_at new (b.clauses + suc b.lemmas) ≡ record_at b.words (b.clauses + b.lemmas + 1) = omega (arith, puts.size) in
       ap (slice_index new) at ∙ puts.place
 
-  one-more-lemma : lemmas_in new b.clauses end (b.lemmas + 1) ≡ lemmas_in b.words b.clauses b.end b.lemmas ++ record { lits = lits; hints = hints } ∷ []
+  one-more-lemma : lemmas_in new b.clauses end (b.lemmas + 1) ≡ lemmas_in b.words b.clauses b.end b.lemmas ++ record {
+    lits = lits;
+    hints
+        = hints;
+  } ∷ []
   one-more-lemma =
       let next : b.lemmas + 1 ≡ suc b.lemmas = omega arith in
       ap (lemmas_in new b.clauses end) next
@@ -189,10 +240,39 @@ module _ (b : Block) (new lits hints : List ℕ) (end : ℕ) (laid : IsLaidOut b
   pub stored-lemma : stored_of block_with_lemma ≡ with_lemma (stored_of b) (record { lits = lits; hints = hints })
   stored-lemma =
       let count : b.clauses + (b.lemmas + 1) ≡ b.clauses + b.lemmas + 1 = omega arith in
-      ap (λ (n : ℕ). record { variables = b.variables; capacity = n; clauses = clauses_in new b.clauses_end b.clauses; lemmas = lemmas_in new b.clauses end (b.lemmas + 1); lists = lists_in new (2 * b.variables) (b.clauses + (b.lemmas + 1)) }) puts.size
-      ∙ ap (λ (cs : List (List ℕ)). record { variables = b.variables; capacity = length b.words; clauses = cs; lemmas = lemmas_in new b.clauses end (b.lemmas + 1); lists = lists_in new (2 * b.variables) (b.clauses + (b.lemmas + 1)) }) (clauses-kept b new laid puts less-2).0
-      ∙ ap (λ (ls : List Hinted). record { variables = b.variables; capacity = length b.words; clauses = clauses_in b.words b.clauses_end b.clauses; lemmas = ls; lists = lists_in new (2 * b.variables) (b.clauses + (b.lemmas + 1)) }) one-more-lemma
-      ∙ ap (λ (ws : List (List Watch)). record { variables = b.variables; capacity = length b.words; clauses = clauses_in b.words b.clauses_end b.clauses; lemmas = lemmas_in b.words b.clauses b.end b.lemmas ++ record { lits = lits; hints = hints } ∷ []; lists = ws })
+      ap (λ (n : ℕ). record {
+        variables = b.variables;
+        capacity = n;
+        clauses = clauses_in new b.clauses_end b.clauses;
+        lemmas = lemmas_in
+            new b.clauses end (b.lemmas + 1);
+        lists = lists_in new (2 * b.variables) (b.clauses + (b.lemmas + 1));
+      }) puts.size
+      ∙ ap (λ (cs : List (List ℕ)). record {
+        variables = b.variables;
+        capacity = length b.words;
+        clauses = cs;
+        lemmas = lemmas_in new
+            b.clauses end (b.lemmas + 1);
+        lists = lists_in new (2 * b.variables) (b.clauses + (b.lemmas + 1));
+      })
+      (clauses-kept b new laid puts less-2).0
+      ∙ ap (λ (ls : List Hinted). record {
+        variables = b.variables;
+        capacity = length b.words;
+        clauses = clauses_in b.words b.clauses_end
+            b.clauses;
+        lemmas = ls;
+        lists = lists_in new (2 * b.variables) (b.clauses + (b.lemmas + 1));
+      }) one-more-lemma
+      ∙ ap (λ (ws : List (List Watch)). record {
+        variables = b.variables;
+        capacity = length b.words;
+        clauses = clauses_in b.words
+            b.clauses_end b.clauses;
+        lemmas = lemmas_in b.words b.clauses b.end b.lemmas ++ record { lits = lits; hints = hints } ∷ [];
+        lists = ws;
+      })
       (ap (lists_in new (2 * b.variables)) count ∙ lists-as-before b new laid puts less-2)
 
   pub used-lemma : used_of (with_lemma (stored_of b) (record { lits = lits; hints = hints })) ≡ used_of (stored_of b) + lemma_cost (record { lits = lits; hints = hints })
@@ -207,11 +287,13 @@ module _ (b : Block) (new lits hints : List ℕ) (end : ℕ) (laid : IsLaidOut b
     lemmas =
         let next : b.lemmas + 1 ≡ suc b.lemmas = omega arith in
         subst (AreParts (start_after new b.clauses) (FitsLemma new) b.clauses_end end) (sym next)
-        (subst (λ (n : ℕ). FitsLemma new n end × AreParts (start_after new b.clauses) (FitsLemma new) b.clauses_end n b.lemmas) (sym new-start-2)
+        (subst (λ (n : ℕ). FitsLemma new n end × AreParts (start_after new b.clauses) (FitsLemma new) b.clauses_end n b.lemmas)
+        (sym new-start-2)
         (omega (arith, count, end-is), (lemmas-kept b new laid puts less-2).1));
     used =
         let cost = used-lemma in
-        let sum : end + 3 * (b.clauses + (b.lemmas + 1)) ≡ used_of (with_lemma (stored_of b) (record { lits = lits; hints = hints })) = omega (arith, end-is, laid.used, cost) in
+        let sum : end + 3 * (b.clauses + (b.lemmas + 1)) ≡ used_of (with_lemma (stored_of b)
+        (record { lits = lits; hints = hints })) = omega (arith, end-is, laid.used, cost) in
         sum ∙ sym (ap used_of stored-lemma);
     room = omega (arith, room, puts.size);
     lists =

@@ -5,3 +5,4 @@ pub mod Reading
 pub mod Linking
 pub mod Seen
 pub mod Blocks
+pub mod ForCallers

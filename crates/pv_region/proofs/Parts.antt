@@ -23,7 +23,8 @@ get-right (x ∷ xs) ys (suc n) m e = get-right xs ys n m (omega (arith, e))
 
 -- ---- the words from one place to another
 
-module _ (old new : List ℕ) (size : length new ≡ length old) (a b : ℕ) (inside : b ≤ length old) (same : (i : ℕ) → a ≤ i → i < b → slice_index new i ≡ slice_index old i) where
+module _ (old new : List ℕ) (size : length new ≡ length old) (a b : ℕ) (inside : b ≤ length old) (same : (i : ℕ) → a ≤ i → i < b
+    → slice_index new i ≡ slice_index old i) where
   between-at : (k d : ℕ) → k < b - a → get_or (between a b new) k d ≡ get_or (between a b old) k d
   between-at k d lt =
       get_or-between new a b k d (omega arith)
@@ -47,7 +48,8 @@ module _ {A : Type 0} (place : ℕ → ℕ) (read : ℕ → ℕ → A) where
       ∙ omega (arith, length-parts (place (suc k)) k)
 
   -- the part with a number, which ends at `e`
-  pub parts-get : (end k j e : ℕ) → 0 < j → j ≤ k → (j ≡ k → e ≡ end) → (j ≢ k → e ≡ place (j + 1)) → slice_get (parts_to place read end k) (j - 1) ≡ Some (read (place j) e)
+  pub parts-get : (end k j e : ℕ) → 0 < j → j ≤ k → (j ≡ k → e ≡ end) → (j ≢ k → e ≡ place (j + 1))
+      → slice_get (parts_to place read end k) (j - 1) ≡ Some (read (place j) e)
   parts-get end zero j e some le last next = absurd (omega arith)
   parts-get end (suc k) j e some le last next =
       let long = length-parts (place (suc k)) k in
@@ -67,7 +69,8 @@ module _ (place : ℕ → ℕ) (Fits : ℕ → ℕ → Type 0) (order : (a b : �
       omega (arith, here, less)
 
   -- a part lies within all, and fits
-  pub part-inside : (end k j e : ℕ) → AreParts place Fits start end k → 0 < j → j ≤ k → (j ≡ k → e ≡ end) → (j ≢ k → e ≡ place (j + 1)) → Fits (place j) e × (start ≤ place j) × (e ≤ end)
+  pub part-inside : (end k j e : ℕ) → AreParts place Fits start end k → 0 < j → j ≤ k → (j ≡ k → e ≡ end) → (j ≢ k → e ≡ place (j + 1))
+      → Fits (place j) e × (start ≤ place j) × (e ≤ end)
   part-inside end zero j e p some le last next = absurd (omega arith)
   part-inside end (suc k) j e p some le last next =
       let less = start-below (place (suc k)) k p.1 in
@@ -78,20 +81,25 @@ module _ (place : ℕ → ℕ) (Fits : ℕ → ℕ → Type 0) (order : (a b : �
           subst (λ (i : ℕ). start ≤ place i) (sym is) less,
           omega (arith, last is),
         )
-        | inr ne ↦ (let inner = part-inside (place (suc k)) k j e p.1 some (omega (arith, ne)) (λ is. next ne ∙ ap place (omega (arith, is))) (λ _. next ne) in
+        | inr ne ↦ (let inner = part-inside (place (suc k)) k j e p.1 some (omega (arith, ne)) (λ is. next ne
+            ∙ ap place (omega (arith, is))) (λ _. next ne) in
             (inner.0, inner.1, omega (arith, inner.2, here)))
       ]
 
 -- where the places and what lies between them stay, the parts do
-module _ {A : Type 0} (old new : ℕ → ℕ) (before after : ℕ → ℕ → A) (Fits FitsNow : ℕ → ℕ → Type 0) (order : (a b : ℕ) → Fits a b → a ≤ b) (start : ℕ) where
-  pub parts-same : (end k : ℕ) → ((j : ℕ) → 0 < j → j ≤ k → new j ≡ old j) → ((a b : ℕ) → start ≤ a → b ≤ end → Fits a b → (after a b ≡ before a b) × FitsNow a b) → AreParts old Fits start end k → (parts_to new after end k ≡ parts_to old before end k) × AreParts new FitsNow start end k
+module _ {A : Type 0} (old new : ℕ → ℕ) (before after : ℕ → ℕ → A) (Fits FitsNow : ℕ → ℕ → Type 0) (order : (a b : ℕ) → Fits a b
+    → a ≤ b) (start : ℕ) where
+  pub parts-same : (end k : ℕ) → ((j : ℕ) → 0 < j → j ≤ k → new j ≡ old j) → ((a b : ℕ) → start ≤ a → b ≤ end → Fits a b
+      → (after a b ≡ before a b) × FitsNow a b) → AreParts old Fits start end k
+      → (parts_to new after end k ≡ parts_to old before end k) × AreParts new FitsNow start end k
   parts-same end zero places reads p = (refl, p)
   parts-same end (suc k) places reads p =
       let e : new (suc k) ≡ old (suc k) = places (suc k) (omega arith) (omega arith) in
       let less : start ≤ old (suc k) = start-below old Fits order start (old (suc k)) k p.1 in
       let more : old (suc k) ≤ end = order (old (suc k)) end p.0 in
       let last = reads (old (suc k)) end less (omega arith) p.0 in
-      let inner = parts-same (old (suc k)) k (λ j some le. places j some (omega arith)) (λ a b low high fits. reads a b low (omega (arith, high, more)) fits) p.1 in (
+      let inner = parts-same (old (suc k)) k (λ j some le. places j some (omega arith)) (λ a b low high fits. reads a b low (omega
+      (arith, high, more)) fits) p.1 in (
         ap (λ (i : ℕ). parts_to new after i k ++ after i end ∷ []) e
             ∙ ap (λ (xs : List A). xs ++ after (old (suc k)) end ∷ []) inner.0
             ∙ ap (λ (x : A). parts_to old before (old (suc k)) k ++ x ∷ []) last.0,

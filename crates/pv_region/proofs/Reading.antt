@@ -29,7 +29,8 @@ module _ (b : Block) (laid : IsLaidOut b) where
   count-is = omega (arith, clause-count, lemma-count)
 
   pub split-within : b.clauses_end ≤ b.end
-  split-within = start-below (start_after b.words b.clauses) (FitsLemma b.words) (lemma_order b.words) b.clauses_end b.end b.lemmas laid.lemmas
+  split-within = start-below (start_after b.words b.clauses) (FitsLemma b.words)
+      (lemma_order b.words) b.clauses_end b.end b.lemmas laid.lemmas
 
   module _ (id : ℕ) (some : 0 < id) where
     module _ (le : id ≤ b.clauses) where
@@ -46,13 +47,17 @@ module _ (b : Block) (laid : IsLaidOut b) where
 
       pub clause-fits : (start_in b.words id ≤ stop) × (stop ≤ b.clauses_end)
       clause-fits =
-          let within = part-inside (start_after b.words 0) (λ start end. start ≤ end) in_order (2 * b.variables) b.clauses_end b.clauses id stop laid.clauses some le (end-last b.words b.clauses_end b.clauses id) next-start in
+          let within = part-inside (start_after b.words 0) (λ start end. start ≤ end) in_order
+          (2 * b.variables) b.clauses_end b.clauses id stop laid.clauses some le
+          (end-last b.words b.clauses_end b.clauses id) next-start in
           (omega (arith, within.0, at-start), within.2)
 
       pub clause-lits : slice_get (all_lits (stored_of b)) (id - 1) ≡ Some (between (start_in b.words id) stop b.words)
       clause-lits =
-          get-left (clauses_in b.words b.clauses_end b.clauses) (map (λ lemma. lemma.lits) (lemmas_in b.words b.clauses b.end b.lemmas)) (id - 1) (omega (arith, clause-count))
-          ∙ parts-get (start_after b.words 0) (λ x y. between x y b.words) b.clauses_end b.clauses id stop some le (end-last b.words b.clauses_end b.clauses id) next-start
+          get-left (clauses_in b.words b.clauses_end b.clauses) (map (λ lemma. lemma.lits) (lemmas_in b.words b.clauses b.end b.lemmas))
+          (id - 1) (omega (arith, clause-count))
+          ∙ parts-get (start_after b.words 0) (λ x y. between x y b.words) b.clauses_end b.clauses id stop some le
+          (end-last b.words b.clauses_end b.clauses id) next-start
           ∙ ap (λ (n : ℕ). Some (between n stop b.words)) at-start
 
       no-hints : (cs : List (List ℕ)) (n : ℕ) → n < length cs → slice_get (map none_of cs) n ≡ Some []
@@ -63,7 +68,8 @@ module _ (b : Block) (laid : IsLaidOut b) where
       pub clause-hints : slice_get (all_hints (stored_of b)) (id - 1) ≡ Some []
       clause-hints =
           let cs = clauses_in b.words b.clauses_end b.clauses in
-          get-left (map none_of cs) (map (λ lemma. lemma.hints) (lemmas_in b.words b.clauses b.end b.lemmas)) (id - 1) (omega (arith, clause-count, length-map cs none_of))
+          get-left (map none_of cs) (map (λ lemma. lemma.hints) (lemmas_in b.words b.clauses b.end b.lemmas)) (id - 1) (omega
+          (arith, clause-count, length-map cs none_of))
           ∙ no-hints cs (id - 1) (omega (arith, clause-count))
 
     module _ (past : b.clauses < id) (le : id ≤ b.clauses + b.lemmas) where
@@ -86,18 +92,23 @@ module _ (b : Block) (laid : IsLaidOut b) where
 
       pub lemma-fits : FitsLemma b.words (start_in b.words id) last_stop × (last_stop ≤ b.end)
       lemma-fits =
-          let within = part-inside (start_after b.words b.clauses) (FitsLemma b.words) (lemma_order b.words) b.clauses_end b.end b.lemmas (id - b.clauses) last_stop laid.lemmas (omega (arith, past)) (omega (arith, le)) lemma-last lemma-next in
+          let within = part-inside (start_after b.words b.clauses) (FitsLemma b.words)
+          (lemma_order b.words) b.clauses_end b.end b.lemmas (id - b.clauses) last_stop laid.lemmas (omega (arith, past)) (omega
+          (arith, le)) lemma-last lemma-next in
           (subst (λ (n : ℕ). FitsLemma b.words n last_stop) lemma-start within.0, within.2)
 
-      the-lemma : slice_get (lemmas_in b.words b.clauses b.end b.lemmas) (id - b.clauses - 1) ≡ Some (lemma_in b.words (start_in b.words id) last_stop)
+      the-lemma : slice_get (lemmas_in b.words b.clauses b.end b.lemmas) (id - b.clauses - 1) ≡ Some (lemma_in b.words
+          (start_in b.words id) last_stop)
       the-lemma =
-          parts-get (start_after b.words b.clauses) (lemma_in b.words) b.end b.lemmas (id - b.clauses) last_stop (omega (arith, past)) (omega (arith, le)) lemma-last lemma-next
+          parts-get (start_after b.words b.clauses) (lemma_in b.words) b.end b.lemmas (id - b.clauses) last_stop (omega (arith, past))
+          (omega (arith, le)) lemma-last lemma-next
           ∙ ap (λ (n : ℕ). Some (lemma_in b.words n last_stop)) lemma-start
 
       pub lemma-lits : slice_get (all_lits (stored_of b)) (id - 1) ≡ Some (lemma_in b.words (start_in b.words id) last_stop).lits
       lemma-lits =
           let ls = lemmas_in b.words b.clauses b.end b.lemmas in
-          get-right (clauses_in b.words b.clauses_end b.clauses) (map (λ lemma. lemma.lits) ls) (id - 1) (id - b.clauses - 1) (omega (arith, clause-count, past))
+          get-right (clauses_in b.words b.clauses_end b.clauses) (map (λ lemma. lemma.lits) ls) (id - 1) (id - b.clauses - 1) (omega
+          (arith, clause-count, past))
           ∙ slice_get-map (λ (l : Hinted). l.lits) ls (id - b.clauses - 1)
           ∙ ap (option_map (λ (l : Hinted). l.lits)) the-lemma
 
@@ -105,6 +116,7 @@ module _ (b : Block) (laid : IsLaidOut b) where
       lemma-hints =
           let cs = clauses_in b.words b.clauses_end b.clauses in
           let ls = lemmas_in b.words b.clauses b.end b.lemmas in
-          get-right (map none_of cs) (map (λ lemma. lemma.hints) ls) (id - 1) (id - b.clauses - 1) (omega (arith, clause-count, length-map cs none_of, past))
+          get-right (map none_of cs) (map (λ lemma. lemma.hints) ls) (id - 1) (id - b.clauses - 1) (omega
+          (arith, clause-count, length-map cs none_of, past))
           ∙ slice_get-map (λ (l : Hinted). l.hints) ls (id - b.clauses - 1)
           ∙ ap (option_map (λ (l : Hinted). l.hints)) the-lemma

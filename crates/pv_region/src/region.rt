@@ -187,7 +187,8 @@ impl Region {
         requires to_last { id ≤ count_of self.old }
         requires slot { slot < 2 }
         requires free { IsLinked self.old (record { id = id; slot = slot }) → ⊥ }
-        ensures { self.new ≡ with_list self.old lit (record { id = id; slot = slot } ∷ list_of self.old lit) }
+        ensures { self.new
+            ≡ with_list self.old lit (record { id = id; slot = slot } ∷ list_of self.old lit) }
     {
         link_in(&mut self.words, lit as usize - 2, Watch { id, slot });
     }

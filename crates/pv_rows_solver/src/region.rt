@@ -1,4 +1,6 @@
 //! A region of 20 words for 4 variables, worked out by hand.
+ghost use Rattle.std.specs.Prelude.{◌≡◌, false};
+ghost use Rattle.pv_cnf.specs.Literal.{is_outside};
 
 use pv_region::{Full, MakeFault, Region, Watch};
 use std::test::Fail;
@@ -43,21 +45,28 @@ fn lemmas_with_hints(rt: HostRuntime) -> Result<(), Fail> {
     Ok(())
 }
 
+/// The first two entries of the list of a literal.
+fn first_two(region: &Region, lit: u32) -> (Option<Watch>, Option<Watch>)
+    requires { is_outside region.now.variables lit ≡ false }
+{
+    match region.first_watch(lit) {
+        None => (None, None),
+        Some(watch) => (Some(watch), region.next_watch(watch)),
+    }
+}
+
+// The second entry stands before the first one, and without it that is the last.
 #[test]
 fn a_list_of_two_watches(rt: HostRuntime) -> Result<(), Fail> {
     let mut region = Region::make(rt.alloc(), 20, 4)?;
-    let _first = region.put_clause(&[2, 4, 6]);
-    let _second = region.put_clause(&[3, 5, 9]);
+    assert_eq!(rt; region.put_clause(&[2, 4, 6]), Ok(1));
+    assert_eq!(rt; region.put_clause(&[3, 5, 9]), Ok(2));
     let zero = Watch { id: 1, slot: 0 };
     let one = Watch { id: 2, slot: 1 };
     region.watch(2, 1, 0);
     region.watch(2, 2, 1);
-    assert_eq!(rt; region.first_watch(2), Some(one));
-    assert_eq!(rt; region.next_watch(one), Some(zero));
-    assert_eq!(rt; region.next_watch(zero), None);
+    assert_eq!(rt; first_two(&region, 2), (Some(one), Some(zero)));
     region.unwatch(2, None);
-    assert_eq!(rt; region.first_watch(2), Some(zero));
-    assert_eq!(rt; region.next_watch(zero), None);
-    assert_eq!(rt; region.lits(2), [3, 5, 9].as_slice());
+    assert_eq!(rt; first_two(&region, 2), (Some(zero), None));
     Ok(())
 }

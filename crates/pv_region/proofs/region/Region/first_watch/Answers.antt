@@ -12,7 +12,8 @@ returns-clause-first c =
     let inside = inside-seen b c.self.invariant c.args.self.now c.self.view_is c.args.lit c.requires in
     let f = links-behind b c.self.invariant in
     c.watch_at.ensures
-    ∙ ap watch_at (c.index.ensures ∙ get_or_default_zero c.self.inside.words.items (c.args.lit - 2) c.index.result.now (omega (arith, f.heads, f.room, inside.1)))
+    ∙ ap watch_at (c.index.ensures ∙ get_or_default_zero c.self.inside.words.items (c.args.lit - 2) c.index.result.now (omega
+    (arith, f.heads, f.room, inside.1)))
     ∙ first-seen b c.self.invariant c.args.self.now c.self.view_is c.args.lit inside.1
 
 pub returns-clause-few : goal.returns-clause-few

@@ -23,19 +23,23 @@ pub hints_at-requires-clause-fits : goal.hints_at-requires-clause-fits
 hints_at-requires-clause-fits c =
     let b = block_of c.self.inside in
     let fits = lemma-fits b c.self.invariant c.args.id c.requires.from_one c.if-id-self.false (last c) in
-    subst (λ (ws : List ℕ). FitsLemma ws (start_in ws c.args.id) (end_at ws b.end (b.clauses + b.lemmas) c.args.id)) (sym c.deref-2.ensures.value) fits.0
+    subst (λ (ws : List ℕ). FitsLemma ws (start_in ws c.args.id) (end_at ws b.end (b.clauses + b.lemmas) c.args.id))
+    (sym c.deref-2.ensures.value) fits.0
 
 pub hints_at-requires-clause-inside : goal.hints_at-requires-clause-inside
 hints_at-requires-clause-inside c =
     let b = block_of c.self.inside in
     let fits = lemma-fits b c.self.invariant c.args.id c.requires.from_one c.if-id-self.false (last c) in
     let room = c.self.invariant.room in
-    subst (λ (ws : List ℕ). end_at ws b.end (b.clauses + b.lemmas) c.args.id ≤ length ws) (sym c.deref-2.ensures.value) (omega (arith, fits.1, room))
+    subst (λ (ws : List ℕ). end_at ws b.end (b.clauses + b.lemmas) c.args.id ≤ length ws) (sym c.deref-2.ensures.value) (omega
+    (arith, fits.1, room))
 
 pub returns : goal.returns
 returns c =
     let b = block_of c.self.inside in
     let count = count-seen b c.self.invariant c.args.self.now c.self.view_is in
-    let there = lemma-hints b c.self.invariant c.args.id c.requires.from_one c.if-id-self.false (omega (arith, count, c.requires.to_last)) in
-    let is = c.hints_at.ensures ∙ ap (λ (ws : List ℕ). (lemma_in ws (start_in ws c.args.id) (end_at ws b.end (b.clauses + b.lemmas) c.args.id)).hints) c.deref-2.ensures.value in
+    let there = lemma-hints b c.self.invariant c.args.id c.requires.from_one c.if-id-self.false (omega
+    (arith, count, c.requires.to_last)) in
+    let is = c.hints_at.ensures ∙ ap (λ (ws : List ℕ). (lemma_in ws (start_in ws c.args.id) (end_at ws b.end
+    (b.clauses + b.lemmas) c.args.id)).hints) c.deref-2.ensures.value in
     ap (λ (s : Stored). slice_get (all_hints s) (c.args.id - 1)) (sym c.self.view_is) ∙ there ∙ ap (λ (ls : List ℕ). Some ls) (sym is)

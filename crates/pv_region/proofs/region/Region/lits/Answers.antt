@@ -19,13 +19,15 @@ clause_at-requires-clause-inside c =
     let fits = (clause-fits b c.self.invariant c.args.id c.requires.from_one c.if-id-self.true).1 in
     let below = split-within b c.self.invariant in
     let room = c.self.invariant.room in
-    subst (λ (ws : List ℕ). end_at ws b.clauses_end b.clauses c.args.id ≤ length ws) (sym c.deref.ensures.value) (omega (arith, fits, below, room))
+    subst (λ (ws : List ℕ). end_at ws b.clauses_end b.clauses c.args.id ≤ length ws) (sym c.deref.ensures.value) (omega
+    (arith, fits, below, room))
 
 pub returns-then-id-self : goal.returns-then-id-self
 returns-then-id-self c =
     let b = block_of c.self.inside in
     let there = clause-lits b c.self.invariant c.args.id c.requires.from_one c.if-id-self.true in
-    let is = c.clause_at.ensures ∙ ap (λ (ws : List ℕ). between (start_in ws c.args.id) (end_at ws b.clauses_end b.clauses c.args.id) ws) c.deref.ensures.value in
+    let is = c.clause_at.ensures ∙ ap (λ (ws : List ℕ). between (start_in ws c.args.id)
+    (end_at ws b.clauses_end b.clauses c.args.id) ws) c.deref.ensures.value in
     ap (λ (s : Stored). slice_get (all_lits s) (c.args.id - 1)) (sym c.self.view_is) ∙ there ∙ ap (λ (ls : List ℕ). Some ls) (sym is)
 
 pub lits_at-requires-clause-id : goal.lits_at-requires-clause-id
@@ -44,7 +46,8 @@ lits_at-requires-clause-fits c =
     let b = block_of c.self.inside in
     let fits = lemma-fits b c.self.invariant c.args.id c.requires.from_one c.if-id-self.false (last c) in
     let room = c.self.invariant.room in
-    subst (λ (ws : List ℕ). FitsLemma ws (start_in ws c.args.id) (length ws)) (sym c.deref-2.ensures.value) (omega (arith, fits.0, fits.1, room))
+    subst (λ (ws : List ℕ). FitsLemma ws (start_in ws c.args.id) (length ws)) (sym c.deref-2.ensures.value) (omega
+    (arith, fits.0, fits.1, room))
 
 pub returns : goal.returns
 returns c =

@@ -29,7 +29,8 @@ index-requires c = omega (arith, inside c)
 at-now : (c : goal.After-watch_at) → c.link_at.result ≡ link_at c.self.inside.words.items c.args.watch
 at-now c = c.link_at.ensures ∙ ap (λ (ws : List ℕ). link_at ws c.args.watch) c.deref.ensures.value
 
-read : (c : goal.After-watch_at) → c.index.result.now ≡ slice_index c.self.inside.words.items (link_at c.self.inside.words.items c.args.watch)
+read : (c : goal.After-watch_at) → c.index.result.now ≡ slice_index c.self.inside.words.items
+    (link_at c.self.inside.words.items c.args.watch)
 read c =
     let b = block_of c.self.inside in
     let slot = linked-slot b c.self.invariant c.args.self.now c.self.view_is c.args.watch c.requires in
