@@ -1,0 +1,4 @@
+pub mod Stored
+pub mod Links
+pub mod Layout
+pub mod Writes
