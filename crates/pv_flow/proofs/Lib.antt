@@ -1,0 +1,5 @@
+pub mod Bools
+pub mod CallEnds
+pub mod Scratch
+pub mod Steps
+pub mod Untouched

@@ -1,0 +1,12 @@
+use Rattle.pv_flow.specs.Terms.{Term}
+use Rattle.pv_flow.specs.Automata.{Parts}
+use Rattle.pv_flow.specs.Faults.{IsFaultOf}
+use Rattle.pv_flow.specs.WellMade.{IsWellMade}
+use Rattle.pv_flow.specs.Runs.{run}
+use Rattle.pv_flow.specs.Calls.{ComesTo}
+use Rattle.pv_flow.specs.Machines.{machine_of}
+use Rattle.pv_flow.specs.View.{parts_of}
+use Rattle.pv_flow.specs.Lawful.{machine_is_lawful}
+use Rattle.pv_flow.proofs.Steps.{same_runs}
+use Rattle.pv_flow.proofs.Untouched.{untouched}
+use Rattle.pv_flow.proofs.CallEnds.{comes_to_one}
