@@ -10,3 +10,5 @@ use Rattle.pv_flow.specs.Lawful.{machine_is_lawful}
 use Rattle.pv_flow.proofs.Steps.{same_runs}
 use Rattle.pv_flow.proofs.Untouched.{untouched}
 use Rattle.pv_flow.proofs.CallEnds.{comes_to_one}
+use Rattle.pv_flow.proofs.Examples
+use Rattle.pv_flow.proofs.ForCallers.{typed_value}
