@@ -45,9 +45,9 @@ one_end c n m x w a b e f = by (cases_lt n m)
 -- ways one by one: equal guards and sets, and related targets
 abbrev pub ArePaired : {X Y : Type 0} → (X → Y → Type 0) → List (Way X) → List (Way Y) → Type 0
 ArePaired R [] [] = Unit {0}
-ArePaired R [] (b ∷ bs) = ⊥
-ArePaired R (a ∷ as) [] = ⊥
-ArePaired R (a ∷ as) (b ∷ bs) = (a.guard ≡ b.guard) × (a.sets ≡ b.sets) × R a.to b.to × ArePaired R as bs
+ArePaired R [] (b ∷ ys) = ⊥
+ArePaired R (a ∷ xs) [] = ⊥
+ArePaired R (a ∷ xs) (b ∷ ys) = (a.guard ≡ b.guard) × (a.sets ≡ b.sets) × R a.to b.to × ArePaired R xs ys
 
 pub record AreAlike {X Y : Type 0} (R : X → Y → Type 0) (c : Control X) (d : Control Y) : Type 0 where
   pub exits : (x : X) (y : Y) → R x y → c.exit x ≡ d.exit y
@@ -60,23 +60,23 @@ IsPair R None (Some b) = ⊥
 IsPair R (Some a) None = ⊥
 IsPair R (Some a) (Some b) = (a.sets ≡ b.sets) × R a.to b.to
 
-taken_paired : {X Y : Type 0} (R : X → Y → Type 0) (w : Valuation) (as : List (Way X)) (bs : List (Way Y)) → ArePaired R as bs
-    → IsPair R (taken w as) (taken w bs)
+taken_paired : {X Y : Type 0} (R : X → Y → Type 0) (w : Valuation) (xs : List (Way X)) (ys : List (Way Y)) → ArePaired R xs ys
+    → IsPair R (taken w xs) (taken w ys)
 taken_paired R w [] [] are = tt
-taken_paired R w [] (b ∷ bs) are = absurd are
-taken_paired R w (a ∷ as) [] are = absurd are
-taken_paired {X} {Y} R w (a ∷ as) (b ∷ bs) are =
-    by (holds_in w a.guard) (holds_in w b.guard) (ap (λ (t : Term). holds_in w t) are.0) (taken_paired R w as bs are.3)
+taken_paired R w [] (b ∷ ys) are = absurd are
+taken_paired R w (a ∷ xs) [] are = absurd are
+taken_paired {X} {Y} R w (a ∷ xs) (b ∷ ys) are =
+    by (holds_in w a.guard) (holds_in w b.guard) (ap (λ (t : Term). holds_in w t) are.0) (taken_paired R w xs ys are.3)
   where
-    both : (t : Truth) → IsPair R (taken w as) (taken w bs)
-        → IsPair {X = X} {Y = Y} R (elim t [ true ↦ Some a | false ↦ taken w as ]) (elim t [ true ↦ Some b | false ↦ taken w bs ])
+    both : (t : Truth) → IsPair R (taken w xs) (taken w ys)
+        → IsPair {X = X} {Y = Y} R (elim t [ true ↦ Some a | false ↦ taken w xs ]) (elim t [ true ↦ Some b | false ↦ taken w ys ])
     both true h = (are.1, are.2)
     both false h = h
 
-    by : (s t : Truth) → s ≡ t → IsPair R (taken w as) (taken w bs)
-        → IsPair {X = X} {Y = Y} R (elim s [ true ↦ Some a | false ↦ taken w as ]) (elim t [ true ↦ Some b | false ↦ taken w bs ])
-    by s t e h = subst (λ (u : Truth). IsPair {X = X} {Y = Y} R (elim s [ true ↦ Some a | false ↦ taken w as ])
-        (elim u [ true ↦ Some b | false ↦ taken w bs ])) e (both s h)
+    by : (s t : Truth) → s ≡ t → IsPair R (taken w xs) (taken w ys)
+        → IsPair {X = X} {Y = Y} R (elim s [ true ↦ Some a | false ↦ taken w xs ]) (elim t [ true ↦ Some b | false ↦ taken w ys ])
+    by s t e h = subst (λ (u : Truth). IsPair {X = X} {Y = Y} R (elim s [ true ↦ Some a | false ↦ taken w xs ])
+        (elim u [ true ↦ Some b | false ↦ taken w ys ])) e (both s h)
 
 ended_alike : (f g : Option End) (w : Valuation) → f ≡ g → ended f w ≡ ended g w
 ended_alike f g w e = ap (λ (x : Option End). ended x w) e

@@ -30,7 +30,7 @@ needed_in needed (Some p) = own_count p + needed_by_calls needed p.calls
 -- how many variables a call of the block adds: its own, and those that its calls add, down so many levels
 abbrev pub needed : Blocks → ℕ → ℕ → ℕ
 needed blocks zero b = 0
-needed blocks (suc levels) b = needed_in (needed blocks levels) (blocks b)
+needed blocks (suc levels) b = needed_in (λ c. needed blocks levels c) (blocks b)
 
 -- a block at work: its automaton, where its variables lie, the first number that neither it nor its callers use, and how many levels
 -- of calls may follow

@@ -83,12 +83,12 @@ Leaves vars = (n : ℕ) (state : List ℤ) (w : Valuation) → AreWithin (state_
     → ((k : ℕ) → InRange (type_at vars k) (w (n + k))) → AreWithin (state_ranges vars) (left_of n vars state w)
 
 here : (v : Variable) (vars : List Variable) (n : ℕ) (w : Valuation) → ((k : ℕ) → InRange (type_at (v ∷ vars) k) (w (n + k))) → InRange v.ty (w n)
-here v vars n w are = let e : n + 0 ≡ n = omega arith in subst (λ (m : ℕ). InRange v.ty (w m)) e (are 0)
+here v vars n w are = let e : n + 0 ≡ n = omega arith in subst (λ (j : ℕ). InRange v.ty (w j)) e (are 0)
 
 further : (v : Variable) (vars : List Variable) (n : ℕ) (w : Valuation) → ((k : ℕ) → InRange (type_at (v ∷ vars) k) (w (n + k)))
     → (k : ℕ) → InRange (type_at vars k) (w (suc n + k))
 further v vars n w are k =
-    let e : n + suc k ≡ suc n + k = omega arith in subst (λ (m : ℕ). InRange (type_at vars k) (w m)) e (are (suc k))
+    let e : n + suc k ≡ suc n + k = omega arith in subst (λ (j : ℕ). InRange (type_at vars k) (w j)) e (are (suc k))
 
 leave_step : (v : Variable) (vars : List Variable) (r : Role) → Leaves vars → Leaves (as_role v r ∷ vars)
 leave_step v vars Input rest n state w s are = rest (suc n) state w s (further (as_role v Input) vars n w are)
@@ -151,7 +151,7 @@ step_within p attached state begin (done_with end) t is ends s e =
     subst (λ (u : List ℤ). AreWithin (state_ranges p.vars) u) (done_same (left_of 0 p.vars state (marked attached begin end)) t e)
     (left_within p.vars 0 state (marked attached begin end) s
       (λ k. let z : k ≡ 0 + k = omega arith in
-        subst (λ (m : ℕ). InRange (type_at p.vars k) (marked attached begin end m)) z (marked_typed p attached begin end is ends k)))
+        subst (λ (j : ℕ). InRange (type_at p.vars k) (marked attached begin end j)) z (marked_typed p attached begin end is ends k)))
 step_within p attached state begin (trapped kind place) t is ends s e = absurd (trap_not_done kind place t e)
 step_within p attached state begin (gone_over place) t is ends s e = absurd (over_not_done place t e)
 

@@ -97,7 +97,7 @@ pub record Looking : Type 0 where
 -- the variable that is set once the assumption, read at a scan's beginning, was false; after it no scan fails
 pub record Guarding : Type 0 where
   pub blocked : ℕ
-  pub assumption : Term
+  pub assumed : Term
 
 pub record Attached : Type 0 where
   -- whether `holds` is a goal, which a scan reaches by failing
@@ -117,7 +117,7 @@ looked (Some l) end = put (put end l.has (pos 1)) l.was (value_of end l.now)
 
 abbrev pub is_allowed : Option Guarding → Valuation → Truth
 is_allowed None begin = true
-is_allowed (Some g) begin = not (is_true (begin g.blocked)) && holds_in begin g.assumption
+is_allowed (Some g) begin = not (is_true (begin g.blocked)) && holds_in begin g.assumed
 
 abbrev pub guarded : Option Guarding → Valuation → Valuation → Valuation
 guarded None begin end = end
@@ -224,7 +224,7 @@ pub record IsLooking (p : Parts) (l : Looking) : Type 0 where
 
 pub record IsGuarding (p : Parts) (g : Guarding) : Type 0 where
   pub blocked : IsBit p g.blocked
-  pub assumption : IsCondition (types_of p) (length p.vars) g.assumption
+  pub assumed : IsCondition (types_of p) (length p.vars) g.assumed
 
 pub record IsAttached (p : Parts) (a : Attached) : Type 0 where
   pub holds : IsCondition (both_types p) (length p.vars + length p.vars) a.holds

@@ -4,6 +4,7 @@
 #![tactic(auto)]
 
 mod fault;
+pub mod laws;
 mod op;
 mod parts;
 mod term;
@@ -12,8 +13,3 @@ pub use fault::FlowFault;
 pub use op::{BinaryOp, UnaryOp};
 pub use parts::{CallEdge, Deed, Edge, Loop, OverEnd, Parts, Set, TrapEnd, Variable};
 pub use term::Node;
-
-/// Whether parts of a table of terms are there.
-pub fn is_empty(parts: &Parts) -> bool {
-    parts.nodes.is_empty()
-}
