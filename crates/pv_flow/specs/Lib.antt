@@ -8,6 +8,7 @@ pub mod Calls
 pub mod Machines
 pub mod Correct
 pub mod View
+pub mod AutomatonView
 -- why the machines are lawful
 pub mod Typing
 pub mod TypedRuns
