@@ -1,0 +1,6 @@
+pub mod Bools
+pub mod CallEnds
+pub mod Examples
+pub mod ForCallers
+pub mod Steps
+pub mod Untouched
