@@ -1,5 +1,5 @@
 -- What a disjunction that is false says of its parts.
-use Rattle.std.proofs.Common.{◌≡◌, Bool, true, false, ◌||◌, refl, sym}
+use Rattle.std.proofs.Common.{◌≡◌, Bool, true, false, ◌||◌, refl}
 use Rattle.std.proofs.lemmas.Bool.{true≢false}
 
 pub or_left_false : (x y : Bool) → (x || y) ≡ false → x ≡ false

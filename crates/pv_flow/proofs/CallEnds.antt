@@ -1,5 +1,5 @@
 -- A run with calls comes to one outcome.
-use Rattle.std.proofs.Common.{◌≡◌, ℕ, zero, suc, Option, Some, None, refl, sym, subst, ap, ◌∙◌}
+use Rattle.std.proofs.Common.{◌≡◌, ℕ, suc, Option, Some, None, sym, subst, ap, ◌∙◌}
 use Rattle.std.proofs.lemmas.Option.{same_Some, none-some}
 use Rattle.pv_flow.specs.Terms.{Valuation}
 use Rattle.pv_flow.specs.Automata.{Parts}
@@ -45,7 +45,7 @@ comes_to_one blocks n k (running x w) a b (goes way none no_call takes after) (e
 comes_to_one blocks n k (running x w) a b (goes way none no_call takes after) (goes other none_too no_call_too takes_too after_too) =
     comes_to_one blocks n k (running way.to (assigned_in k way.sets w)) a b after
     (subst (λ (t : Way Spot). ComesTo blocks n k (running t.to (assigned_in k t.sets w)) b)
-      (same_Some other way (sym takes_too ∙ takes)) after_too)
+    (same_Some other way (sym takes_too ∙ takes)) after_too)
 comes_to_one blocks n k (running x w) a b (goes way none no_call takes after) (calls c p levels middle none_too call block level inside after_too) =
     absurd (none-some c (sym no_call ∙ call))
 comes_to_one blocks n k (running x w) a b (calls c p levels middle none call block level inside after) (ends f) =
@@ -58,7 +58,7 @@ comes_to_one blocks n k (running x w) a b (calls c p levels middle none call blo
     let f : q ≡ p = block_alike blocks c d p q e block block_too in
     let g : lower ≡ levels = pred_same lower levels (sym level_too ∙ level) in
     let m : middle ≡ between =
-        comes_to_one blocks n (callee_work blocks k c p levels) (running (first_spot p) (cleared (callee_work blocks k c p levels) w)) middle between inside
-        (inside_alike blocks n k w c d p q levels lower between e f g inside_too) in
+    comes_to_one blocks n (callee_work blocks k c p levels) (running (first_spot p) (cleared (callee_work blocks k c p levels) w)) middle between inside
+    (inside_alike blocks n k w c d p q levels lower between e f g inside_too) in
     comes_to_one blocks n k (returned k.parts.loops c.call x middle) a b after
     (after_alike blocks n k x c d middle between b e m after_too)

@@ -4,7 +4,7 @@ use Rattle.pv_word.specs.declared.types.Ty.TheVariants.{Bool, Int}
 use Rattle.pv_word.specs.Wrap.{wrap_at}
 use Rattle.pv_word.specs.Bits.{pattern_at}
 use Rattle.pv_place.specs.declared.place.Place.{Place}
-use Rattle.pv_place.specs.declared.role.Role.TheVariants.{Input, Kept, Brief}
+use Rattle.pv_place.specs.declared.role.Role.TheVariants.{Kept}
 use Rattle.pv_flow.specs.declared.op.UnaryOp.TheVariants.{Not}
 use Rattle.pv_flow.specs.declared.op.BinaryOp.TheVariants.{And, Add, Less, SumOverflow}
 use Rattle.pv_flow.specs.Terms.{Term, constant, variable, unary, binary, Valuation}

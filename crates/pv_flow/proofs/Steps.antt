@@ -1,13 +1,11 @@
 -- More steps change no outcome, and a run has one; controls whose states are paired with equal exits and ways have equal runs; and
 -- variables that nothing sets stay.
-use Rattle.std.proofs.Common.{◌≡◌, ℕ, zero, suc, ◌≤◌, ◌<◌, ◌⊎◌, inl, inr, Bool as Truth, true, false, cond, List, [], ◌∷◌, Option, Some, None, refl, sym, subst, ap, ◌∙◌, arith, ◌==◌}
-use Rattle.std.specs.List.{All, AllByRecursion, list_any}
-use Rattle.std.proofs.lemmas.List.Elements.{recursion_from_All}
-use Rattle.std.proofs.lemmas.Bool.{eqb-true, cond_both, false≢true, cases_lt}
+use Rattle.std.proofs.Common.{◌≡◌, ℕ, zero, suc, ◌≤◌, ◌<◌, ◌⊎◌, inl, inr, Bool as Truth, true, false, List, [], ◌∷◌, Option, Some, None, refl, sym, subst, ap, ◌∙◌, arith}
+use Rattle.std.proofs.lemmas.Bool.{cases_lt}
 use Rattle.std.proofs.lemmas.Option.{same_Some, none-some}
-use Rattle.pv_flow.specs.Terms.{Term, Valuation, value_of, holds_in}
-use Rattle.pv_flow.specs.Automata.{Set, Edge, Loop, Parts}
-use Rattle.pv_flow.specs.Runs.{put, set_over, assigned, End, done, trap, over, Outcome, done_with, trapped, gone_over, outcome_of, Way, Control, taken, ended, ended_or, run, Spot, at, past, Counts, ways_by, ways_of, control_of, first_spot}
+use Rattle.pv_flow.specs.Terms.{Term, Valuation, holds_in}
+use Rattle.pv_flow.specs.Automata.{Set}
+use Rattle.pv_flow.specs.Runs.{assigned, End, Outcome, Way, Control, taken, ended, ended_or, run}
 
 -- ---- more steps
 

@@ -1,9 +1,8 @@
 -- A variable that no edge sets keeps its value along a run.
-use Rattle.std.proofs.Common.{◌≡◌, ℕ, zero, suc, ℤ, Bool as Truth, true, false, cond, List, [], ◌∷◌, Option, Some, None, refl, sym, subst, ap, ◌∙◌, ◌==◌}
+use Rattle.std.proofs.Common.{◌≡◌, ℕ, zero, suc, ℤ, Bool as Truth, true, false, cond, List, [], ◌∷◌, Option, Some, None, refl, sym, subst, ◌∙◌, ◌==◌}
 use Rattle.std.specs.List.{All, AllByRecursion, list_any}
 use Rattle.std.proofs.lemmas.List.Elements.{recursion_from_All}
 use Rattle.std.proofs.lemmas.Bool.{true≢false, cond_both, eqb-true, eq-eqb}
-use Rattle.std.proofs.lemmas.Option.{same_Some}
 use Rattle.pv_flow.specs.Terms.{Valuation, value_of, holds_in}
 use Rattle.pv_flow.specs.Automata.{Set, Edge, Loop, Parts}
 use Rattle.pv_flow.specs.Runs.{put, set_over, assigned, End, done, trap, over, Outcome, done_with, trapped, gone_over, outcome_of, Way, Control, taken, ended, ended_or, run, Spot, at, past, Counts, way_of, ways_by, ways_of, control_of, first_spot}
@@ -65,7 +64,7 @@ run_leaves c x all (suc n) s w =
     ended_or_leaves (c.exit s) (taken w (c.ways s)) w (λ way. run c n way.to (assigned way.sets w)) x
     (taken_keeps x w (c.ways s) (all s))
     (λ way h. subst (λ (v : ℤ). Leaves x v (run c n way.to (assigned way.sets w))) (set_over_other w way.sets w x h)
-      (run_leaves c x all n way.to (assigned way.sets w)))
+    (run_leaves c x all n way.to (assigned way.sets w)))
 
 ways_keep : (x : ℕ) (loops : List Loop) (n l : ℕ) (counts : Counts) (e : ℕ) (edges : List Edge)
     → AllByRecursion (λ (edge : Edge). sets_variable x edge ≡ false) edges
@@ -75,8 +74,8 @@ ways_keep x loops n l counts e (edge ∷ more) all = by (edge.from == l) (ways_k
   where
     by : (b : Truth) → AllByRecursion (IsKeeping {X = Spot} x) (ways_by loops n l counts (suc e) more)
         → AllByRecursion (IsKeeping {X = Spot} x) (cond b
-          (way_of loops n l counts e edge ∷ ways_by loops n l counts (suc e) more)
-          (ways_by loops n l counts (suc e) more))
+        (way_of loops n l counts e edge ∷ ways_by loops n l counts (suc e) more)
+        (ways_by loops n l counts (suc e) more))
     by true h = (all.0, h)
     by false h = h
 

@@ -1,6 +1,6 @@
 -- Automata as plain data: locations by number, the first of which is 0, and edges between them, each with a guard and with what it
 -- assigns. A call edge runs another block's automaton. A loop is a range of locations with the edges that start its turns.
-use Rattle.std.specs.Prelude.{ℕ, ◌+◌, ℤ, List, [], ◌∷◌, ◌++◌, length, map, slice_get, Bool as Truth, true, false, ◌&&◌, ◌||◌, ◌==◌, nat_le, cond, Option, Some, None}
+use Rattle.std.specs.Prelude.{ℕ, ℤ, List, [], ◌∷◌, ◌++◌, map, slice_get, Bool as Truth, ◌&&◌, ◌==◌, nat_le, cond, Option, Some, None}
 use Rattle.std.specs.List.{list_any}
 use Rattle.pv_word.specs.declared.types.Ty.{Ty}
 use Rattle.pv_word.specs.declared.types.Ty.TheVariants.{Bool}

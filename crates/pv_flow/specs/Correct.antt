@@ -1,5 +1,5 @@
 -- What is so of all automata and their runs: the statements of the laws.
-use Rattle.std.specs.Prelude.{◌≡◌, ℕ, ◌+◌, ◌<◌, ◌≤◌, Bool as Truth, false, List, length, Option, Some, IfSome, All, ◌==◌}
+use Rattle.std.specs.Prelude.{◌≡◌, ℕ, ◌≤◌, Bool as Truth, false, Option, Some, IfSome, All, ◌==◌}
 use Rattle.std.specs.List.{list_any}
 use Rattle.pv_word.specs.Types.{InRange}
 use Rattle.pv_machine.specs.Machines.{IsLawful}

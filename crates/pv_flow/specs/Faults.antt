@@ -1,13 +1,20 @@
 -- The faults that an automaton may have, of which the first counts: a location that there isn't; a variable that there isn't; a loop
 -- whose edges there aren't, that crosses another, or that an edge enters elsewhere than at its first location.
-use Rattle.std.specs.Prelude.{◌≡◌, ℕ, ◌+◌, List, [], ◌∷◌, length, Bool, true, false, not, ◌&&◌, ◌||◌, ◌==◌, nat_lt, nat_le}
+use Rattle.std.specs.Prelude.{◌≡◌, ℕ, length, Bool, true, false, not, ◌&&◌, ◌||◌, ◌==◌, nat_lt, nat_le}
 use Rattle.std.specs.List.{list_all}
 use Rattle.pv_flow.specs.declared.fault.FlowFault.{FlowFault}
 use Rattle.pv_flow.specs.declared.fault.FlowFault.TheVariants.{BadLocation, BadVariable, BadLoop, NoMemory}
 use Rattle.pv_flow.specs.Terms.{names_below}
-use Rattle.pv_flow.specs.Automata.{Set, Edge, CallEdge, Loop, TrapEnd, OverEnd, Parts, holds, holds_loop}
+use Rattle.pv_flow.specs.Automata.{Set, Edge, Loop, Parts, holds, holds_loop}
 
 -- ---- locations
+
+-- the locations where scans end
+abbrev pub has_ends : Parts → Bool
+has_ends p =
+    nat_lt p.done p.locations
+    && list_all (λ trap. nat_lt trap.location p.locations) p.traps
+    && list_all (λ over. nat_lt over.location p.locations) p.overs
 
 -- each location that is named is one of these many; there is one at least, since `done` names it
 abbrev pub has_locations : Parts → Bool
@@ -15,9 +22,7 @@ has_locations p =
     list_all (λ edge. nat_lt edge.from p.locations && nat_lt edge.to p.locations) p.edges
     && list_all (λ call. nat_lt call.from p.locations && nat_lt call.to p.locations) p.calls
     && list_all (λ loop. nat_lt loop.first p.locations && nat_lt loop.last p.locations) p.loops
-    && nat_lt p.done p.locations
-    && list_all (λ trap. nat_lt trap.location p.locations) p.traps
-    && list_all (λ over. nat_lt over.location p.locations) p.overs
+    && has_ends p
 
 -- ---- variables
 
@@ -44,12 +49,16 @@ cross a b = nat_le a.first b.last && nat_le b.first a.last && not (holds_loop a 
 abbrev pub enters_well : Loop → ℕ → ℕ → Bool
 enters_well loop from to = holds loop from || not (holds loop to) || (to == loop.first)
 
+abbrev pub is_entered_well : Parts → Loop → Bool
+is_entered_well p loop =
+    list_all (λ edge. enters_well loop edge.from edge.to) p.edges
+    && list_all (λ call. enters_well loop call.from call.to) p.calls
+
 abbrev pub is_loop : Parts → Loop → Bool
 is_loop p loop =
     list_all (λ e. nat_lt e (length p.edges)) loop.turns
     && list_all (λ other. not (cross loop other)) p.loops
-    && list_all (λ edge. enters_well loop edge.from edge.to) p.edges
-    && list_all (λ call. enters_well loop call.from call.to) p.calls
+    && is_entered_well p loop
 
 abbrev pub has_loops : Parts → Bool
 has_loops p = list_all (is_loop p) p.loops

@@ -1,5 +1,5 @@
 -- The machine of an automaton with typed parts is lawful.
-use Rattle.std.proofs.Common.{◌≡◌, ℕ, zero, suc, ◌+◌, ◌-◌, ◌<◌, ℤ, pos, ◌≤ℤ◌, Bool as Truth, true, false, not, ◌&&◌, cond, List, [], ◌∷◌, length, slice_get, Option, Some, None, IfSome, refl, sym, subst, ap, ◌∙◌, arith, ◌==◌}
+use Rattle.std.proofs.Common.{◌≡◌, ℕ, zero, suc, ◌+◌, ℤ, pos, true, not, List, [], ◌∷◌, Option, Some, None, IfSome, sym, subst, arith}
 use Rattle.std.specs.List.{All, AllByRecursion}
 use Rattle.std.proofs.lemmas.Int.{ints}
 use Rattle.std.proofs.lemmas.List.Elements.{recursion_from_All}
@@ -10,13 +10,13 @@ use Rattle.pv_place.specs.declared.place.Place.{Place}
 use Rattle.pv_place.specs.declared.trap.TrapKind.{TrapKind}
 use Rattle.pv_place.specs.declared.role.Role.{Role}
 use Rattle.pv_place.specs.declared.role.Role.TheVariants.{Input, Param, Kept, Brief}
-use Rattle.pv_place.specs.Ranges.{Range, IsWithin, AreWithin, range_of}
+use Rattle.pv_place.specs.Ranges.{IsWithin, AreWithin, range_of}
 use Rattle.pv_machine.specs.Machines as m
-use Rattle.pv_flow.specs.Terms.{Term, Valuation, number_of, holds_in, is_true, value_of, Types, type_of, AreTyped}
-use Rattle.pv_flow.specs.Automata.{Variable, Edge, Parts, type_in, type_at, types_of}
+use Rattle.pv_flow.specs.Terms.{Valuation, number_of, value_of, Types, type_of, AreTyped}
+use Rattle.pv_flow.specs.Automata.{Variable, Parts, type_at, types_of}
 use Rattle.pv_flow.specs.WellMade.{IsVariable, IsEdge, IsWellMade}
 use Rattle.pv_flow.specs.Runs.{put, Outcome, done_with, trapped, gone_over, run, control_of, first_spot, copies}
-use Rattle.pv_flow.specs.Machines.{bound_range, state_ranges, input_ranges, param_ranges, first, others, start_of, begin_of, valuation_of, begin_at, left_of, Looking, Guarding, Attached, looked, is_allowed, guarded, marked, outcome_or_over, scan_from, step_of, machine_of, inlined_machine, acyclic_machine, IsBit, IsLooking, IsGuarding, IsAttached}
+use Rattle.pv_flow.specs.Machines.{bound_range, state_ranges, input_ranges, param_ranges, start_of, begin_of, valuation_of, begin_at, left_of, Looking, Guarding, Attached, looked, is_allowed, guarded, marked, outcome_or_over, scan_from, step_of, machine_of, inlined_machine, acyclic_machine, IsBit, IsLooking, IsGuarding, IsAttached}
 use Rattle.pv_flow.specs.Typing.{zero_fits, bit_fits, fits_in, typed_value}
 use Rattle.pv_flow.specs.TypedRuns.{put_typed, IsTypedEnd, automaton_typed}
 
@@ -150,8 +150,8 @@ step_within : (p : Parts) (attached : Option Attached) (state : List ℤ) (begin
 step_within p attached state begin (done_with end) t is ends s e =
     subst (λ (u : List ℤ). AreWithin (state_ranges p.vars) u) (done_same (left_of 0 p.vars state (marked attached begin end)) t e)
     (left_within p.vars 0 state (marked attached begin end) s
-      (λ k. let z : k ≡ 0 + k = omega arith in
-        subst (λ (j : ℕ). InRange (type_at p.vars k) (marked attached begin end j)) z (marked_typed p attached begin end is ends k)))
+    (λ k. let z : k ≡ 0 + k = omega arith in
+    subst (λ (j : ℕ). InRange (type_at p.vars k) (marked attached begin end j)) z (marked_typed p attached begin end is ends k)))
 step_within p attached state begin (trapped kind place) t is ends s e = absurd (trap_not_done kind place t e)
 step_within p attached state begin (gone_over place) t is ends s e = absurd (over_not_done place t e)
 
@@ -163,7 +163,7 @@ machine_is_lawful p n steps attached vars edges is =
       starts = λ params are. starts_within p.vars listed params are;
       steps = λ s i t is_state is_input e. step_within p attached s (begin_at p s i) (scan_from p n steps (begin_at p s i)) t is
           (ending_typed (types_of p) (run (control_of p n) steps (first_spot p) (begin_at p s i))
-            (automaton_typed p n steps (begin_at p s i) edges (begins_typed p.vars listed s i is_state is_input)))
+          (automaton_typed p n steps (begin_at p s i) edges (begins_typed p.vars listed s i is_state is_input)))
           is_state e;
     }
 

@@ -9,6 +9,8 @@ pub mod Machines
 pub mod Correct
 pub mod View
 pub mod AutomatonView
+-- what the code computes of them
+pub mod Checks
 -- why the machines are lawful
 pub mod Typing
 pub mod TypedRuns

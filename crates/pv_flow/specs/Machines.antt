@@ -1,17 +1,15 @@
 -- The machines of automata. A state has the values of parameters and kept variables, an input those of input variables, each in the
 -- order of the variables. With a pattern attached, a scan fails as the pattern says; without one where a loop's bound is gone over.
-use Rattle.std.specs.Prelude.{◌≡◌, ℕ, zero, suc, ◌+◌, ◌-◌, ◌<◌, ℤ, pos, List, [], ◌∷◌, length, slice_get, slice_index_or, Bool as Truth, true, false, not, ◌&&◌, ◌||◌, ◌==◌, nat_lt, cond, IfSome, Option, Some, None, All}
+use Rattle.std.specs.Prelude.{◌≡◌, ℕ, suc, ◌+◌, ◌-◌, ◌<◌, ℤ, pos, List, [], ◌∷◌, length, slice_get, slice_index_or, Bool as Truth, true, false, not, ◌&&◌, ◌||◌, ◌==◌, nat_lt, cond, IfSome, Option, Some, None, All}
 use Rattle.std.specs.List.{list_any}
 use Rattle.std.proofs.Props.{props}
 use Rattle.pv_word.specs.declared.types.Ty.{Ty}
 use Rattle.pv_word.specs.declared.types.Ty.TheVariants.{Bool}
-use Rattle.pv_place.specs.declared.place.Place.{Place}
-use Rattle.pv_place.specs.declared.role.Role.{Role}
 use Rattle.pv_place.specs.declared.role.Role.TheVariants.{Input, Param, Kept, Brief}
 use Rattle.pv_place.specs.Ranges.{Range, range_of, range_at}
 use Rattle.pv_machine.specs.Machines as m
 use Rattle.pv_flow.specs.Terms.{Term, Types, Valuation, number_of, is_true, value_of, holds_in, type_of, IsTyped, IsTyped-prop, names_below, reads}
-use Rattle.pv_flow.specs.Automata.{Variable, Set, Edge, Parts, type_at, types_of}
+use Rattle.pv_flow.specs.Automata.{Variable, Edge, Parts, types_of}
 use Rattle.pv_flow.specs.Runs.{Outcome, done_with, trapped, gone_over, put, run, control_of, first_spot, copies}
 
 -- ---- states and inputs
@@ -23,26 +21,29 @@ bound_range ty (Some v) = range_at v
 abbrev pub state_ranges : List Variable → List Range
 state_ranges [] = []
 state_ranges (v ∷ vars) = elim v.role [
-    Input ↦ state_ranges vars
+  | Input ↦ state_ranges vars
   | Param ↦ bound_range v.ty v.bound ∷ state_ranges vars
   | Kept ↦ range_of v.ty ∷ state_ranges vars
-  | Brief ↦ state_ranges vars ]
+  | Brief ↦ state_ranges vars
+]
 
 abbrev pub input_ranges : List Variable → List Range
 input_ranges [] = []
 input_ranges (v ∷ vars) = elim v.role [
-    Input ↦ range_of v.ty ∷ input_ranges vars
+  | Input ↦ range_of v.ty ∷ input_ranges vars
   | Param ↦ input_ranges vars
   | Kept ↦ input_ranges vars
-  | Brief ↦ input_ranges vars ]
+  | Brief ↦ input_ranges vars
+]
 
 abbrev pub param_ranges : List Variable → List Range
 param_ranges [] = []
 param_ranges (v ∷ vars) = elim v.role [
-    Input ↦ param_ranges vars
+  | Input ↦ param_ranges vars
   | Param ↦ bound_range v.ty v.bound ∷ param_ranges vars
   | Kept ↦ param_ranges vars
-  | Brief ↦ param_ranges vars ]
+  | Brief ↦ param_ranges vars
+]
 
 -- the first of the values, and the others
 abbrev pub first : List ℤ → ℤ
@@ -57,19 +58,21 @@ others (v ∷ vs) = vs
 abbrev pub start_of : List Variable → List ℤ → List ℤ
 start_of [] params = []
 start_of (v ∷ vars) params = elim v.role [
-    Input ↦ start_of vars params
+  | Input ↦ start_of vars params
   | Param ↦ first params ∷ start_of vars (others params)
   | Kept ↦ v.start ∷ start_of vars params
-  | Brief ↦ start_of vars params ]
+  | Brief ↦ start_of vars params
+]
 
 -- the value of each variable where a scan begins
 abbrev pub begin_of : List Variable → List ℤ → List ℤ → List ℤ
 begin_of [] state input = []
 begin_of (v ∷ vars) state input = elim v.role [
-    Input ↦ first input ∷ begin_of vars state (others input)
+  | Input ↦ first input ∷ begin_of vars state (others input)
   | Param ↦ first state ∷ begin_of vars (others state) input
   | Kept ↦ first state ∷ begin_of vars (others state) input
-  | Brief ↦ v.start ∷ begin_of vars state input ]
+  | Brief ↦ v.start ∷ begin_of vars state input
+]
 
 abbrev pub valuation_of : List ℤ → Valuation
 valuation_of values = λ n. slice_index_or values n (pos 0)
@@ -81,10 +84,11 @@ begin_at p state input = valuation_of (begin_of p.vars state input)
 abbrev pub left_of : ℕ → List Variable → List ℤ → Valuation → List ℤ
 left_of n [] state w = []
 left_of n (v ∷ vars) state w = elim v.role [
-    Input ↦ left_of (suc n) vars state w
+  | Input ↦ left_of (suc n) vars state w
   | Param ↦ first state ∷ left_of (suc n) vars (others state) w
   | Kept ↦ w n ∷ left_of (suc n) vars (others state) w
-  | Brief ↦ left_of (suc n) vars state w ]
+  | Brief ↦ left_of (suc n) vars state w
+]
 
 -- ---- attached patterns
 
@@ -131,8 +135,9 @@ marked (Some a) begin end = guarded a.guarding begin (looked a.looking end)
 -- the pattern's judgment of a scan that is done: a goal that is reached fails, and a pattern that doesn't hold
 abbrev pub judged : Attached → ℕ → Valuation → Valuation → Truth
 judged a n begin end = elim a.reach [
-    true ↦ holds_in (end_and_begin n end begin) a.holds
-  | false ↦ not (holds_in (end_and_begin n end begin) a.holds) ]
+  | true ↦ holds_in (end_and_begin n end begin) a.holds
+  | false ↦ not (holds_in (end_and_begin n end begin) a.holds)
+]
 
 -- whether a scan that ends so fails
 abbrev pub fails_by : Attached → ℕ → Valuation → Outcome → Truth

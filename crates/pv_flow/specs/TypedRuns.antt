@@ -1,10 +1,10 @@
 -- Runs keep the types of variables.
-use Rattle.std.proofs.Common.{◌≡◌, ℕ, zero, suc, ℤ, pos, Bool as Truth, true, false, cond, List, [], ◌∷◌, Option, Some, None, refl, sym, subst, ◌==◌}
+use Rattle.std.proofs.Common.{ℕ, zero, suc, ℤ, Bool as Truth, true, false, cond, List, [], ◌∷◌, Option, Some, None, sym, subst, ◌==◌}
 use Rattle.std.specs.List.{All, AllByRecursion}
 use Rattle.std.proofs.lemmas.List.Elements.{recursion_from_All}
 use Rattle.std.proofs.lemmas.Bool.{eqb-true, cond_both}
 use Rattle.pv_word.specs.Types.{InRange}
-use Rattle.pv_flow.specs.Terms.{Term, Valuation, value_of, holds_in, Types, type_of, IsTyped, AreTyped}
+use Rattle.pv_flow.specs.Terms.{Valuation, value_of, holds_in, Types, type_of, AreTyped}
 use Rattle.pv_flow.specs.Automata.{Set, Edge, Loop, Parts, types_of}
 use Rattle.pv_flow.specs.WellMade.{IsSet, IsEdge}
 use Rattle.pv_flow.specs.Runs.{put, set_over, assigned, End, done, trap, over, Outcome, done_with, trapped, gone_over, outcome_of, Way, Control, taken, ended, ended_or, run, Spot, at, past, Counts, way_of, ways_by, ways_of, control_of, first_spot}
@@ -21,8 +21,8 @@ set_over_typed types old [] w all before are = are
 set_over_typed types old (set ∷ sets) w all before are =
     set_over_typed types old sets (put w set.variable (value_of old set.value)) all.1 before
     (put_typed types w set.variable (value_of old set.value) are
-      (fits_in (type_of types set.value) (types set.variable) (value_of old set.value) (all.0).fits
-        (typed_value types old before set.value (all.0).typed)))
+    (fits_in (type_of types set.value) (types set.variable) (value_of old set.value) (all.0).fits
+    (typed_value types old before set.value (all.0).typed)))
 
 assigned_typed : (types : Types) (sets : List Set) (w : Valuation) → AllByRecursion (IsSet types) sets → AreTyped types w
     → AreTyped types (assigned sets w)
@@ -87,8 +87,8 @@ ways_typed types loops n l counts e (edge ∷ more) all =
   where
     by : (b : Truth) → AllByRecursion (IsTypedWay {X = Spot} types) (ways_by loops n l counts (suc e) more)
         → AllByRecursion (IsTypedWay {X = Spot} types) (cond b
-          (way_of loops n l counts e edge ∷ ways_by loops n l counts (suc e) more)
-          (ways_by loops n l counts (suc e) more))
+        (way_of loops n l counts e edge ∷ ways_by loops n l counts (suc e) more)
+        (ways_by loops n l counts (suc e) more))
     by true h = (recursion_from_All (IsSet types) edge.sets (all.0).sets, h)
     by false h = h
 

@@ -1,8 +1,8 @@
 -- A typed term over variables that have values of their types has a value of its type.
-use Rattle.std.proofs.Common.{◌≡◌, ℕ, zero, suc, ℤ, pos, negsuc, Bool as Truth, true, false, cond, refl, sym, subst, arith}
+use Rattle.std.proofs.Common.{◌≡◌, zero, suc, ℤ, pos, negsuc, Bool as Truth, true, false, cond, sym, subst, arith}
 use Rattle.std.proofs.lemmas.Int.{ints}
 use Rattle.pv_word.specs.declared.types.Ty.{Ty}
-use Rattle.pv_word.specs.declared.types.Ty.TheVariants.{Bool, Int}
+use Rattle.pv_word.specs.declared.types.Ty.TheVariants.{Bool}
 use Rattle.pv_word.specs.Types.{width_of, is_signed_of, InRange, wrap_of}
 use Rattle.pv_word.specs.Quotients.{quotient_of, remainder_of}
 use Rattle.pv_word.proofs.ForCallers.{wide, wrap-in_range, zero-in_range}
@@ -10,7 +10,7 @@ use Rattle.pv_flow.specs.declared.op.UnaryOp.{UnaryOp}
 use Rattle.pv_flow.specs.declared.op.UnaryOp.TheVariants.{Not, Negate, Left, Right, Convert}
 use Rattle.pv_flow.specs.declared.op.BinaryOp.{BinaryOp}
 use Rattle.pv_flow.specs.declared.op.BinaryOp.TheVariants.{And, Or, Xor, Add, Subtract, Multiply, Divide, Remainder, Less, Equal, SumOverflow, DifferenceOverflow, ProductOverflow}
-use Rattle.pv_flow.specs.Terms.{Term, constant, variable, unary, binary, select, Valuation, number_of, is_true, unary_value, binary_value, select_value, value_of, Types, type_of, FitsUnary, FitsBinary, IsTyped, AreTyped}
+use Rattle.pv_flow.specs.Terms.{Term, constant, variable, unary, binary, select, Valuation, number_of, is_true, unary_value, binary_value, value_of, Types, type_of, FitsBinary, IsTyped, AreTyped}
 
 pub wrapped : (ty : Ty) (n : ℤ) → InRange ty (wrap_of ty n)
 wrapped ty n = wrap-in_range (width_of ty) (is_signed_of ty) n (wide ty)

@@ -1,14 +1,13 @@
 -- What an automaton keeps besides that its numbers name something. The first group is what its parts mean. The second is local
 -- and lets copies of its loops stand one after another, each edge leading forward: so each closed walk takes a turn edge of a loop
 -- whose range holds the walk.
-use Rattle.std.specs.Prelude.{◌≡◌, ℕ, ◌+◌, ◌<◌, ◌≤◌, List, [], ◌∷◌, length, slice_get, slice_index_or, Bool as Truth, true, false, not, ◌&&◌, ◌||◌, ◌==◌, nat_lt, cond, IfSome, Option, Some, None, All}
+use Rattle.std.specs.Prelude.{◌≡◌, ℕ, ◌+◌, ◌<◌, ◌≤◌, List, [], ◌∷◌, length, slice_get, Bool as Truth, true, false, not, ◌&&◌, ◌||◌, ◌==◌, nat_lt, cond, IfSome, Option, Some, None, All}
 use Rattle.std.specs.List.{list_any, list_all}
-use Rattle.std.specs.Coded.{×_prop}
 use Rattle.std.proofs.Props.{props}
 use Rattle.pv_word.specs.declared.types.Ty.TheVariants.{Bool}
 use Rattle.pv_word.specs.Types.{InRange}
-use Rattle.pv_flow.specs.Terms.{Term, Types, Valuation, type_of, IsTyped, IsTyped-prop, AreTyped, holds_in}
-use Rattle.pv_flow.specs.Automata.{Variable, Set, Edge, CallEdge, Loop, Parts, type_at, types_of, edges_from, calls_from, ends_of, holds, holds_loop, is_turn}
+use Rattle.pv_flow.specs.Terms.{Types, Valuation, type_of, IsTyped, IsTyped-prop, AreTyped, holds_in}
+use Rattle.pv_flow.specs.Automata.{Variable, Set, Edge, Loop, Parts, types_of, edges_from, calls_from, ends_of, holds, holds_loop, is_turn}
 
 -- ---- parts
 

@@ -3,13 +3,14 @@
 //! The definitions stand in `specs/`; the functions of `laws` are laws of them.
 #![tactic(auto)]
 
-mod acyclic;
+mod acyclic_machine;
+mod as_machines;
 mod attached;
 mod automaton;
-mod build;
+mod building;
 mod count;
 mod fault;
-mod inlined;
+mod inlined_machine;
 pub mod laws;
 mod locations;
 mod loops;
@@ -18,12 +19,13 @@ mod parts;
 mod term;
 mod variables;
 
-pub use acyclic::{Acyclic, acyclic};
+pub use acyclic_machine::Acyclic;
+pub use as_machines::{acyclic, inlined};
 pub use attached::{Attached, Guarding, Looking};
 pub use automaton::Automaton;
-pub use build::build;
+pub use building::build;
 pub use fault::FlowFault;
-pub use inlined::{Inlined, inlined};
+pub use inlined_machine::Inlined;
 pub use op::{BinaryOp, UnaryOp};
 pub use parts::{CallEdge, Deed, Edge, Loop, OverEnd, Parts, Set, TrapEnd, Variable};
 pub use term::Node;

@@ -2,6 +2,7 @@
 ghost use Rattle.std.specs.Prelude.{◌≡◌, ◌&&◌, nat_lt};
 ghost use Rattle.std.specs.List.{list_all};
 ghost use Rattle.pv_flow.specs.Faults.{has_locations};
+ghost use Rattle.pv_flow.specs.Checks.{ways_lie, ends_lie, locations_lie};
 ghost use Rattle.pv_flow.specs.View.{parts_of};
 
 use crate::parts::{CallEdge, Edge, Loop, OverEnd, Parts, TrapEnd};
@@ -27,7 +28,9 @@ fn calls_lie(calls: &[CallEdge], n: u32) -> bool
 fn loops_lie(loops: &[Loop], n: u32) -> bool
     ensures { result ≡ list_all (λ range. nat_lt range.first n && nat_lt range.last n) loops.now }
 {
-    loops.iter().all(|range| lie_below(range.first, range.last, n))
+    loops
+        .iter()
+        .all(|range| lie_below(range.first, range.last, n))
 }
 
 fn traps_lie(traps: &[TrapEnd], n: u32) -> bool
@@ -42,22 +45,33 @@ fn overs_lie(overs: &[OverEnd], n: u32) -> bool
     overs.iter().all(|end| end.location < n)
 }
 
-/// Whether ends name locations below `n`.
-fn ends_lie(parts: &Parts, n: u32) -> bool
-    ensures { result ≡ (nat_lt parts.now.done n
-        && list_all (λ end. nat_lt end.location n) parts.now.traps.items
-        && list_all (λ end. nat_lt end.location n) parts.now.overs.items) }
+/// Whether edges, call edges and loops name locations of the parts.
+fn ways_lie(parts: &Parts) -> bool
+    ensures { result ≡ ways_lie parts.now }
 {
+    let n = parts.locations;
+    edges_lie(parts.edges.as_slice(), n)
+        && calls_lie(parts.calls.as_slice(), n)
+        && loops_lie(parts.loops.as_slice(), n)
+}
+
+/// Whether ends do.
+fn ends_lie(parts: &Parts) -> bool
+    ensures { result ≡ ends_lie parts.now }
+{
+    let n = parts.locations;
     parts.done < n && traps_lie(parts.traps.as_slice(), n) && overs_lie(parts.overs.as_slice(), n)
+}
+
+fn locations_lie(parts: &Parts) -> bool
+    ensures { result ≡ locations_lie parts.now }
+{
+    ways_lie(parts) && ends_lie(parts)
 }
 
 /// Whether each location that the parts name is one of theirs.
 pub(crate) fn has_locations(parts: &Parts) -> bool
     ensures { result ≡ has_locations (parts_of parts.now) }
 {
-    let n = parts.locations;
-    edges_lie(parts.edges.as_slice(), n)
-        && calls_lie(parts.calls.as_slice(), n)
-        && loops_lie(parts.loops.as_slice(), n)
-        && ends_lie(parts, n)
+    locations_lie(parts)
 }

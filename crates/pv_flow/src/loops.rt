@@ -1,8 +1,9 @@
 //! Whether loops are as they should be: their edges are there, they nest, and they are entered at their first location.
-ghost use Rattle.std.specs.Prelude.{◌≡◌, ◌&&◌, ◌||◌, not, length, nat_lt};
+ghost use Rattle.std.specs.Prelude.{◌≡◌, not, nat_lt};
 ghost use Rattle.std.specs.List.{list_all};
 ghost use Rattle.pv_flow.specs.Automata.{holds, holds_loop};
-ghost use Rattle.pv_flow.specs.Faults.{cross, enters_well, is_loop, has_loops};
+ghost use Rattle.pv_flow.specs.Faults.{cross, enters_well, has_loops};
+ghost use Rattle.pv_flow.specs.Checks.{stands_well, is_entered, loop_lies, loops_lie};
 ghost use Rattle.pv_flow.specs.View.{loop_of, parts_of};
 
 use crate::parts::{CallEdge, Edge, Loop, Parts};
@@ -46,27 +47,50 @@ fn crosses_none(range: &Loop, loops: &[Loop]) -> bool
 fn edges_enter_well(range: &Loop, edges: &[Edge]) -> bool
     ensures { result ≡ list_all (λ edge. enters_well (loop_of range.now) edge.from edge.to) edges.now }
 {
-    edges.iter().all(|edge| enters_well(range, edge.from, edge.to))
+    edges
+        .iter()
+        .all(|edge| enters_well(range, edge.from, edge.to))
 }
 
 fn calls_enter_well(range: &Loop, calls: &[CallEdge]) -> bool
     ensures { result ≡ list_all (λ call. enters_well (loop_of range.now) call.from call.to) calls.now }
 {
-    calls.iter().all(|call| enters_well(range, call.from, call.to))
+    calls
+        .iter()
+        .all(|call| enters_well(range, call.from, call.to))
 }
 
-fn is_loop(parts: &Parts, range: &Loop) -> bool
-    ensures { result ≡ is_loop (parts_of parts.now) (loop_of range.now) }
+/// Whether the loop's turn edges are there, and no loop crosses it.
+fn stands_well(parts: &Parts, range: &Loop) -> bool
+    ensures { result ≡ stands_well parts.now range.now }
 {
     turns_are_there(range.turns.as_slice(), parts.edges.len())
         && crosses_none(range, parts.loops.as_slice())
-        && edges_enter_well(range, parts.edges.as_slice())
+}
+
+/// Whether edges from outside enter it at its first location.
+fn is_entered(parts: &Parts, range: &Loop) -> bool
+    ensures { result ≡ is_entered parts.now range.now }
+{
+    edges_enter_well(range, parts.edges.as_slice())
         && calls_enter_well(range, parts.calls.as_slice())
 }
 
-/// Whether all loops are. It takes time by the product of loops and edges.
+fn loop_lies(parts: &Parts, range: &Loop) -> bool
+    ensures { result ≡ loop_lies parts.now range.now }
+{
+    stands_well(parts, range) && is_entered(parts, range)
+}
+
+fn loops_lie(parts: &Parts) -> bool
+    ensures { result ≡ loops_lie parts.now }
+{
+    parts.loops.iter().all(|range| loop_lies(parts, range))
+}
+
+/// Whether all loops are as they should be. It takes time by the product of loops and edges.
 pub(crate) fn has_loops(parts: &Parts) -> bool
     ensures { result ≡ has_loops (parts_of parts.now) }
 {
-    parts.loops.iter().all(|range| is_loop(parts, range))
+    loops_lie(parts)
 }

@@ -12,21 +12,10 @@ use pv_machine::Machine;
 /// An automaton whose edges lead forward, with what is attached to it.
 #[derive(Drop)]
 pub struct Acyclic {
-    automaton: Automaton,
-    attached: Option<Attached>,
+    pub(crate) automaton: Automaton,
+    pub(crate) attached: Option<Attached>,
     ghost acyclic: { IsAcyclic (automaton_of automaton) },
-    ghost fits: { IfSome (attached_to automaton attached) (IsAttached (automaton_of automaton)) }
-        by { Prim.hlevel (props, IsAttached-prop) },
-}
-
-/// The machine of an automaton whose edges lead forward, with what is attached to it.
-pub fn acyclic(automaton: Automaton, attached: Option<Attached>) -> Acyclic
-    requires acyclic { IsAcyclic (automaton_of automaton) }
-    requires fits { IfSome (attached_to automaton attached) (IsAttached (automaton_of automaton)) }
-    ensures automaton { result.automaton ≡ automaton }
-    ensures attached { result.attached ≡ attached }
-{
-    Acyclic { automaton, attached }
+    ghost fits: { IfSome (attached_to automaton attached) (IsAttached (automaton_of automaton)) } by { Prim.hlevel (props, IsAttached-prop) },
 }
 
 impl Acyclic {

@@ -10,18 +10,9 @@ use pv_machine::Machine;
 /// An automaton without call edges, with a loop bound.
 #[derive(Drop)]
 pub struct Inlined {
-    automaton: Automaton,
-    bound: u32,
+    pub(crate) automaton: Automaton,
+    pub(crate) bound: u32,
     ghost inlined: { IsInlined (automaton_of automaton) bound },
-}
-
-/// The machine of an automaton whose loops take so many turns at most.
-pub fn inlined(automaton: Automaton, bound: u32) -> Inlined
-    requires { IsInlined (automaton_of automaton) bound }
-    ensures automaton { result.automaton ≡ automaton }
-    ensures bound { result.bound ≡ bound }
-{
-    Inlined { automaton, bound }
 }
 
 impl Inlined {
