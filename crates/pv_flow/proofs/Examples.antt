@@ -1,5 +1,5 @@
 -- Small automata: which faults they have, and how they run.
-use Rattle.std.proofs.Common.{◌≡◌, ℕ, ℤ, pos, Bool as Truth, true, false, List, [], ◌∷◌, Option, Some, None, refl}
+use Rattle.std.proofs.Common.{◌≡◌, ℕ, zero, suc, ℤ, pos, Bool as Truth, true, false, List, [], ◌∷◌, Option, Some, None, refl}
 use Rattle.pv_word.specs.declared.types.Ty.TheVariants.{Bool, Int}
 use Rattle.pv_word.specs.Wrap.{wrap_at}
 use Rattle.pv_word.specs.Bits.{pattern_at}
@@ -8,14 +8,15 @@ use Rattle.pv_place.specs.declared.role.Role.TheVariants.{Kept}
 use Rattle.pv_flow.specs.declared.op.UnaryOp.TheVariants.{Not}
 use Rattle.pv_flow.specs.declared.op.BinaryOp.TheVariants.{And, Add, Less, SumOverflow}
 use Rattle.pv_flow.specs.Terms.{Term, constant, variable, unary, binary, Valuation}
-use Rattle.pv_flow.specs.Automata.{Variable, Set, Edge, Loop, Parts}
+use Rattle.pv_flow.specs.Automata.{Variable, Set, Edge, CallEdge, Loop, Parts}
 use Rattle.pv_flow.specs.Faults.{has_locations, has_variables, has_loops}
 use Rattle.pv_flow.specs.Runs.{Outcome, done_with, trapped, gone_over, run, control_of, first_spot, copies}
+use Rattle.pv_flow.specs.Calls.{Blocks, entry_work, base_of}
 
 abbrev here : Place
 here = record { file = 0; offset = 0 }
 
-abbrev yes_term : Term
+abbrev pub yes_term : Term
 yes_term = constant Bool (pos 1)
 
 abbrev var : Variable
@@ -27,7 +28,7 @@ int_var = record { ty = Int; role = Kept; start = pos 0; bound = None }
 abbrev edge : ℕ → ℕ → Term → List Set → Edge
 edge from to guard sets = record { from = from; to = to; guard = guard; sets = sets }
 
-abbrev set : ℕ → Term → Set
+abbrev pub set : ℕ → Term → Set
 set x t = record { variable = x; value = t }
 
 abbrev range : ℕ → ℕ → Truth → List ℕ → Loop
@@ -93,13 +94,13 @@ unfolding wrap_at pattern_at
 is_done = refl
 
 -- FOR i := 1 TO 16 DO s := s + 1; END_FOR: s, i, whether i has a value, the end, and whether i is past its type
-abbrev test : Term
+abbrev pub test : Term
 test = binary And Bool (unary Not Bool (variable 4)) (unary Not Bool (binary Less Bool (variable 3) (variable 1)))
 
-abbrev one_more : ℕ → Term
+abbrev pub one_more : ℕ → Term
 one_more x = binary Add Int (variable x) (constant Int (pos 1))
 
-abbrev counted : Parts
+abbrev pub counted : Parts
 counted = automaton (int_var ∷ int_var ∷ var ∷ int_var ∷ var ∷ []) 6
     (edge 0 1 yes_term (set 1 (constant Int (pos 1)) ∷ set 2 yes_term ∷ set 3 (constant Int (pos 16)) ∷ set 4 (constant Bool (pos 0)) ∷ [])
     ∷ edge 1 2 yes_term []
@@ -117,3 +118,40 @@ sixteen_turns = refl
 fifteen_turns : runs counted 15 (λ x. pos 0) ≡ Some (gone_over here)
 unfolding wrap_at pattern_at
 fifteen_turns = refl
+
+-- ---- calls
+
+-- a block without calls, with variables of its own
+abbrev leaf : List Variable → Parts
+leaf vars = automaton vars 1 [] [] 0
+
+abbrev call : ℕ → ℕ → ℕ → CallEdge
+call from to block = record { from = from; to = to; block = block; instance = 0; place = here }
+
+-- block 0 calls block 1 and then block 2
+abbrev caller : Parts
+caller = record {
+  vars = var ∷ [];
+  bound = 0;
+  shared = 0;
+  locations = 3;
+  edges = [];
+  calls = call 0 1 1 ∷ call 1 2 2 ∷ [];
+  loops = [];
+  done = 2;
+  traps = [];
+  overs = [];
+}
+
+abbrev blocks : Blocks
+blocks zero = Some caller
+blocks (suc zero) = Some (leaf (var ∷ var ∷ []))
+blocks (suc (suc zero)) = Some (leaf (var ∷ []))
+blocks (suc (suc (suc n))) = None
+
+-- the own variables of the first call's block lie behind the caller's one, those of the second's behind the first's two
+first_base : base_of blocks (entry_work caller 1) 0 ≡ 1
+first_base = refl
+
+second_base : base_of blocks (entry_work caller 1) 1 ≡ 3
+second_base = refl

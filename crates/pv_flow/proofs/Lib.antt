@@ -5,3 +5,4 @@ pub mod Examples
 pub mod ForCallers
 pub mod Steps
 pub mod Untouched
+pub mod WellMadeExample

@@ -60,9 +60,9 @@ abbrev pub call_of : Parts → Spot → Option Numbered
 call_of p (at l counts) = call_from l 0 p.calls
 call_of p (past place) = None
 
--- the first number that the callee's own variables take
-abbrev pub base_of : Blocks → Work → ℕ → ℕ → ℕ
-base_of blocks k levels j = k.free + needed_by_calls (needed blocks levels) (take j k.parts.calls)
+-- the first number that the own variables of the callee of call edge j take
+abbrev pub base_of : Blocks → Work → ℕ → ℕ
+base_of blocks k j = k.free + needed_by_calls (needed blocks k.levels) (take j k.parts.calls)
 
 abbrev pub place_in : Work → CallEdge → Parts → ℕ → ℕ → ℕ
 place_in k call p base x = cond (nat_lt x p.bound) (k.place (call.instance + x))
@@ -72,8 +72,8 @@ place_in k call p base x = cond (nat_lt x p.bound) (k.place (call.instance + x))
 abbrev pub callee_work : Blocks → Work → Numbered → Parts → ℕ → Work
 callee_work blocks k c p levels = record {
   parts = p;
-  place = place_in k c.call p (base_of blocks k levels c.number);
-  free = base_of blocks k levels c.number + own_count p;
+  place = place_in k c.call p (base_of blocks k c.number);
+  free = base_of blocks k c.number + own_count p;
   levels = levels;
 }
 
