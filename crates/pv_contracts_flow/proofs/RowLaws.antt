@@ -17,7 +17,7 @@ use Rattle.pv_flow.specs.WellMade.{IsVariable, IsEdge, IsLoop, is_end, IsWellMad
 use Rattle.pv_flow.specs.Machines.{IsInlined, IsAcyclic, IsAttached}
 use Rattle.pv_flow.specs.View.{terms_of, variable_of, set_of, guard_of, sets_of, edge_of, call_of, loop_of, trap_of, over_of, parts_of}
 use Rattle.pv_flow.specs.AutomatonView.{automaton_of}
-use Rattle.pv_contracts_flow.specs.Rows.{IsBare, IsLoopOf, IsDeedOf, edge, AreLoopsOf, IsEdgePast, AreDeedsOf, IsSetPast, IsCrossing, IsEnteredWithin}
+use Rattle.pv_contracts_flow.specs.Rows.{IsBare, IsLoopOf, IsDeedOf, edge, AreLoopsOf, IsEdgePast, BeginWith, IsSetPast, IsCrossing, IsEnteredWithin}
 
 clash : {b : Bool} → b ≡ false → b ≡ true → ⊥
 clash off on = true≢false (sym on ∙ off)
@@ -30,7 +30,7 @@ ends_at p n edges = list_all (λ (e : Edge). nat_lt e.from n && nat_lt e.to n) (
 pub edge_refused : (p : CodeParts) → IsEdgePast p → IsFaultless (parts_of p) → ⊥
 edge_refused p is h =
     let edges : ends_at p p.locations p.edges.items ≡ false =
-        ap (λ (n : ℕ). ends_at p n p.edges.items) is.locations ∙ ap (λ (es : List CodeEdge). ends_at p 2 es) is.edges in
+    ap (λ (n : ℕ). ends_at p n p.edges.items) is.locations ∙ ap (λ (es : List CodeEdge). ends_at p 2 es) is.edges in
     clash (and_left _ _ (and_left _ _ (and_left _ _ edges))) h.locations
 
 -- ---- a set past the last variable
@@ -42,7 +42,7 @@ sets_past : (terms : List Term) (sets : List CodeSet) → sets ≡ (record { var
     → list_all (set_below 3) (map (set_of terms) sets) ≡ false
 sets_past terms sets e = ap (λ (ss : List CodeSet). list_all (set_below 3) (map (set_of terms) ss)) e
 
-deeds_past : (terms : List Term) (deeds : List CodeDeed) → AreDeedsOf (record { variable = 3; value = 0 }) deeds
+deeds_past : (terms : List Term) (deeds : List CodeDeed) → BeginWith ((record { variable = 3; value = 0 }) ∷ []) deeds
     → below terms 3 (edge 0 1 ∷ []) deeds ≡ false
 deeds_past terms [] h = absurd h
 deeds_past terms (deed ∷ deeds) h = and_left _ _ (and_right _ _ (sets_past terms deed.sets.items h))
@@ -52,8 +52,8 @@ set_refused p is h =
     let terms = terms_of p.nodes.items in
     let k : length (map variable_of p.vars.items) ≡ 3 = length-map p.vars.items variable_of ∙ is.vars in
     let edges : below terms (length (map variable_of p.vars.items)) p.edges.items p.deeds.items ≡ false =
-        ap (λ (n : ℕ). below terms n p.edges.items p.deeds.items) k ∙ ap (λ (es : List CodeEdge). below terms 3 es p.deeds.items) is.edges
-        ∙ deeds_past terms p.deeds.items is.deeds in
+    ap (λ (n : ℕ). below terms n p.edges.items p.deeds.items) k ∙ ap (λ (es : List CodeEdge). below terms 3 es p.deeds.items) is.edges
+    ∙ deeds_past terms p.deeds.items is.deeds in
     clash (and_left _ _ edges) h.variables
 
 -- ---- loops
@@ -71,10 +71,10 @@ plainly first last loop is =
 abbrev nests : CodeParts → List CodeEdge → List Loop → Bool
 nests p edges loops = list_all
     (λ (loop : Loop).
-      list_all (λ (e : ℕ). nat_lt e (length (parts_of p).edges)) loop.turns
-      && list_all (λ (other : Loop). not (cross loop other)) loops
-      && (list_all (λ (e : Edge). enters_well loop e.from e.to) (map (edge_of (terms_of p.nodes.items) p.deeds.items) edges)
-        && list_all (λ (call : CallEdge). enters_well loop call.from call.to) (parts_of p).calls))
+    list_all (λ (e : ℕ). nat_lt e (length (parts_of p).edges)) loop.turns
+    && list_all (λ (other : Loop). not (cross loop other)) loops
+    && (list_all (λ (e : Edge). enters_well loop e.from e.to) (map (edge_of (terms_of p.nodes.items) p.deeds.items) edges)
+    && list_all (λ (call : CallEdge). enters_well loop call.from call.to) (parts_of p).calls))
     loops
 
 crossing_fails : (p : CodeParts) (edges : List CodeEdge) (loops : List CodeLoop) → AreLoopsOf ((0, 2) ∷ (1, 3) ∷ []) loops

@@ -7,4 +7,6 @@ mod parts;
 mod rows;
 
 pub use calls::{attached_to, bound_of, build};
-pub use parts::{bare, edge_past, entered_within, loops_cross, set_past};
+pub use parts::{
+    bare, deed_of, edge_past, entered_within, fault_of_crossing, loops_cross, set_past,
+};

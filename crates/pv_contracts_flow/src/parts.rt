@@ -2,7 +2,8 @@
 ghost use Rattle.std.specs.Prelude.{IfOk};
 ghost use Rattle.pv_contracts_flow.specs.Rows.{IsBare, IsEdgePast, IsSetPast, IsCrossing, IsEnteredWithin, IsLoopOf, IsDeedOf};
 
-use pv_flow::{Deed, Edge, Loop, Node, Parts, Set, Variable};
+use crate::calls::build;
+use pv_flow::{Deed, Edge, FlowFault, Loop, Node, Parts, Set, Variable};
 use pv_place::{Place, Role};
 use pv_word::Ty;
 use smallvec::SmallVec;
@@ -40,10 +41,11 @@ fn loop_of(alloc: Global, first: u32, last: u32) -> Loop
     }
 }
 
-fn deed_of(alloc: Global, set: Set) -> Result<Deed, AllocError>
-    ensures { IfOk result (λ deed. IsDeedOf set deed) }
+/// An edge's deed with these sets and the guard of number 0.
+pub fn deed_of(alloc: Global, sets: &[Set]) -> Result<Deed, AllocError>
+    ensures { IfOk result (IsDeedOf sets.now) }
 {
-    let sets = SmallVec::from_slice(alloc, &[set])?;
+    let sets = SmallVec::from_slice(alloc, sets)?;
     Ok(Deed { guard: 0, sets })
 }
 
@@ -52,7 +54,11 @@ pub fn edge_past(alloc: Global) -> Result<Parts, AllocError>
     ensures { IfOk result IsEdgePast }
 {
     let mut parts = bare(alloc, 2, 1);
-    parts.edges.push(Edge { from: 0, to: 2, deed: 0 })?;
+    parts.edges.push(Edge {
+        from: 0,
+        to: 2,
+        deed: 0,
+    })?;
     Ok(parts)
 }
 
@@ -61,13 +67,28 @@ pub fn set_past(alloc: Global) -> Result<Parts, AllocError>
     ensures { IfOk result IsSetPast }
 {
     let mut parts = bare(alloc, 2, 1);
-    let var = Variable { ty: Ty::Bool, role: Role::Kept, start: 0, bound: None };
+    let var = Variable {
+        ty: Ty::Bool,
+        role: Role::Kept,
+        start: 0,
+        bound: None,
+    };
     parts.vars.push(var)?;
     parts.vars.push(var)?;
     parts.vars.push(var)?;
     parts.nodes.push(Node::Constant(Ty::Bool, 1))?;
-    parts.deeds.push(deed_of(alloc, Set { variable: 3, value: 0 })?)?;
-    parts.edges.push(Edge { from: 0, to: 1, deed: 0 })?;
+    parts.deeds.push(deed_of(
+        alloc,
+        &[Set {
+            variable: 3,
+            value: 0,
+        }],
+    )?)?;
+    parts.edges.push(Edge {
+        from: 0,
+        to: 1,
+        deed: 0,
+    })?;
     Ok(parts)
 }
 
@@ -86,7 +107,25 @@ pub fn entered_within(alloc: Global) -> Result<Parts, AllocError>
     ensures { IfOk result IsEnteredWithin }
 {
     let mut parts = bare(alloc, 5, 4);
-    parts.edges.push(Edge { from: 3, to: 1, deed: 0 })?;
+    parts.edges.push(Edge {
+        from: 3,
+        to: 1,
+        deed: 0,
+    })?;
     parts.loops.push(loop_of(alloc, 0, 2))?;
     Ok(parts)
+}
+
+/// The fault of parts whose loops cross.
+#[tactic(auto, using(crate::proofs::RowLaws::crossing_refused))]
+pub fn fault_of_crossing(alloc: Global, parts: Parts) -> Option<FlowFault>
+    requires { IsCrossing parts }
+{
+    match build(alloc, parts) {
+        Ok(automaton) => {
+            drop(automaton);
+            None
+        }
+        Err(fault) => Some(fault),
+    }
 }

@@ -1,10 +1,9 @@
 //! Parts that are built or refused, with enough memory.
-ghost use Rattle.std.specs.Prelude.{◌≡◌};
 ghost use Rattle.pv_flow.specs.Faults.{IsFaultless};
 ghost use Rattle.pv_flow.specs.View.{parts_of};
 
 use crate::calls::{attached_to, bound_of, build};
-use crate::parts::{bare, edge_past, entered_within, loops_cross, set_past};
+use crate::parts::{bare, edge_past, entered_within, fault_of_crossing, loops_cross, set_past};
 use pv_flow::{FlowFault, Parts};
 use std::alloc::{AllocError, Global};
 use std::test::Fail;
@@ -34,10 +33,9 @@ fn of_set(alloc: Global) -> Result<Option<FlowFault>, AllocError> {
     Ok(fault_of(alloc, parts))
 }
 
-#[tactic(auto, using(crate::proofs::RowLaws::crossing_refused))]
 fn of_crossing(alloc: Global) -> Result<Option<FlowFault>, AllocError> {
     let parts = loops_cross(alloc)?;
-    Ok(fault_of(alloc, parts))
+    Ok(fault_of_crossing(alloc, parts))
 }
 
 #[tactic(auto, using(crate::proofs::RowLaws::entering_refused))]
