@@ -1,6 +1,6 @@
-pub mod Bools
 pub mod CallEnds
 pub mod Checking
+pub mod ClosedWalks
 pub mod Examples
 pub mod ForCallers
 pub mod Steps

@@ -2,12 +2,11 @@
 use Rattle.std.proofs.Common.{◌≡◌, ℕ, zero, suc, ℤ, Bool as Truth, true, false, cond, List, [], ◌∷◌, Option, Some, None, refl, sym, subst, ◌∙◌, ◌==◌}
 use Rattle.std.specs.List.{All, AllByRecursion, list_any}
 use Rattle.std.proofs.lemmas.List.Elements.{recursion_from_All}
-use Rattle.std.proofs.lemmas.Bool.{true≢false, cond_both, eqb-true, eq-eqb}
+use Rattle.std.proofs.lemmas.Bool.{or_parts, true≢false, cond_both, eqb-true, eq-eqb}
 use Rattle.pv_flow.specs.Terms.{Valuation, value_of, holds_in}
 use Rattle.pv_flow.specs.Automata.{Set, Edge, Loop, Parts}
 use Rattle.pv_flow.specs.Runs.{put, set_over, assigned, End, done, trap, over, Outcome, done_with, trapped, gone_over, outcome_of, Way, Control, taken, ended, ended_or, run, Spot, at, past, Counts, way_of, ways_by, ways_of, control_of, first_spot}
 use Rattle.pv_flow.specs.Correct.{sets_variable}
-use Rattle.pv_flow.proofs.Bools.{or_left_false, or_right_false}
 
 put_other : (w : Valuation) (n x : ℕ) (v : ℤ) → (n == x) ≡ false → put w n v x ≡ w x
 put_other w n x v e =
@@ -17,8 +16,8 @@ set_over_other : (old : Valuation) (sets : List Set) (w : Valuation) (x : ℕ) �
     → set_over old sets w x ≡ w x
 set_over_other old [] w x e = refl
 set_over_other old (set ∷ sets) w x e =
-    set_over_other old sets (put w set.variable (value_of old set.value)) x (or_right_false (set.variable == x) _ e)
-    ∙ put_other w set.variable x (value_of old set.value) (or_left_false (set.variable == x) (list_any (λ other. other.variable == x) sets) e)
+    set_over_other old sets (put w set.variable (value_of old set.value)) x (or_parts (set.variable == x) (list_any (λ (other : Set). other.variable == x) sets) e).1
+    ∙ put_other w set.variable x (value_of old set.value) (or_parts (set.variable == x) (list_any (λ (other : Set). other.variable == x) sets) e).0
 
 -- what a run that ends so leaves in variable x is v
 abbrev pub Leaves : ℕ → ℤ → Option Outcome → Type 0

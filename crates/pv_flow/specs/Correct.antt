@@ -1,13 +1,15 @@
 -- What is so of all automata and their runs: the statements of the laws.
-use Rattle.std.specs.Prelude.{◌≡◌, ℕ, ◌≤◌, Bool as Truth, false, Option, Some, IfSome, All, ◌==◌}
+use Rattle.std.specs.Prelude.{◌≡◌, ℕ, ◌≤◌, Bool as Truth, false, List, ◌∷◌, Option, Some, IfSome, All, ◌==◌}
 use Rattle.std.specs.List.{list_any}
 use Rattle.pv_word.specs.Types.{InRange}
 use Rattle.pv_machine.specs.Machines.{IsLawful}
 use Rattle.pv_flow.specs.Terms.{Term, Valuation, value_of, Types, type_of, IsTyped, AreTyped}
 use Rattle.pv_flow.specs.Automata.{Edge, Parts, types_of}
-use Rattle.pv_flow.specs.WellMade.{IsVariable, IsEdge}
+use Rattle.pv_flow.specs.Faults.{IsFaultless}
+use Rattle.pv_flow.specs.WellMade.{IsVariable, IsEdge, IsWellMade}
 use Rattle.pv_flow.specs.Runs.{Outcome, done_with, run, control_of, first_spot}
 use Rattle.pv_flow.specs.Calls.{Blocks, Work, Stage, ComesTo}
+use Rattle.pv_flow.specs.Walks.{Hop, IsClosedWalk, TakesTurn}
 use Rattle.pv_flow.specs.Machines.{Attached, IsAttached, machine_of}
 
 -- the edge sets variable x
@@ -49,3 +51,8 @@ UntouchedStay = (p : Parts) (n steps x : ℕ) (w end : Valuation) → All (λ ed
 abbrev pub MachinesAreLawful : Type 0
 MachinesAreLawful = (p : Parts) (n steps : ℕ) (attached : Option Attached) → All IsVariable p.vars → All (IsEdge (types_of p)) p.edges
     → IfSome attached (IsAttached p) → IsLawful (machine_of p n steps attached)
+
+-- a closed walk takes a turn edge of a loop whose range holds it
+abbrev pub ClosedWalksTakeTurns : Type 0
+ClosedWalksTakeTurns = (p : Parts) (l : ℕ) (hop : Hop) (hops : List Hop) → IsFaultless p → IsWellMade p → IsClosedWalk p l (hop ∷ hops)
+    → TakesTurn p (hop ∷ hops)

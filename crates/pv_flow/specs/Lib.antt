@@ -6,6 +6,7 @@ pub mod WellMade
 pub mod Runs
 pub mod Calls
 pub mod Machines
+pub mod Walks
 pub mod Correct
 pub mod View
 pub mod AutomatonView

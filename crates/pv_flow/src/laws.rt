@@ -1,5 +1,5 @@
 //! Laws of automata and their runs, each the contract of a function that does nothing. Their statements are those of `specs/Correct`.
-ghost use Rattle.pv_flow.specs.Correct.{TermsAreTyped, RunsKeepTypes, MoreStepsChangeNothing, RunsEndOnce, CallsEndOnce, UntouchedStay, MachinesAreLawful};
+ghost use Rattle.pv_flow.specs.Correct.{TermsAreTyped, RunsKeepTypes, MoreStepsChangeNothing, RunsEndOnce, CallsEndOnce, UntouchedStay, MachinesAreLawful, ClosedWalksTakeTurns};
 
 /// A typed term over variables that have values of their types has a value of its type.
 pub fn terms_are_typed()
@@ -34,4 +34,9 @@ pub fn untouched_variables_stay()
 /// The machine of an automaton with typed parts is lawful.
 pub fn machines_are_lawful()
     ensures { MachinesAreLawful }
+{}
+
+/// A closed walk along edges and call edges takes a turn edge of a loop whose range holds it.
+pub fn closed_walks_take_turns()
+    ensures { ClosedWalksTakeTurns }
 {}
