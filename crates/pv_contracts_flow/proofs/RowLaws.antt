@@ -1,5 +1,5 @@
 -- The rows have the faults that they are named for, or none.
-use Rattle.std.proofs.Common.{◌≡◌, ℕ, zero, suc, ◌+◌, ◌<◌, List, [], ◌∷◌, length, map, slice_get, Bool, true, false, not, ◌&&◌, nat_lt, Option, Some, None, IfSome, refl, sym, subst, ap, ◌∙◌, arith}
+use Rattle.std.proofs.Common.{◌≡◌, ℕ, zero, suc, ◌+◌, ◌<◌, List, [], ◌∷◌, length, map, Bool, true, false, not, ◌&&◌, nat_lt, refl, sym, subst, ap, ◌∙◌, arith}
 use Rattle.std.specs.List.{list_all}
 use Rattle.std.proofs.lemmas.Bool.{and_left, and_right, true≢false}
 use Rattle.std.proofs.lemmas.List.{length-map}
@@ -10,14 +10,14 @@ use Rattle.pv_flow.specs.declared.parts.Deed.{Deed as CodeDeed}
 use Rattle.pv_flow.specs.declared.parts.Set.{Set as CodeSet}
 use Rattle.pv_flow.specs.declared.parts.Loop.{Loop as CodeLoop}
 use Rattle.pv_flow.specs.declared.automaton.Automaton.{Automaton}
-use Rattle.pv_flow.specs.Terms.{Term, Types, names_below}
-use Rattle.pv_flow.specs.Automata.{Variable, Set, Edge, CallEdge, Loop, TrapEnd, OverEnd, Parts, types_of, edges_from, calls_from}
-use Rattle.pv_flow.specs.Faults.{has_ends, has_locations, set_below, edge_below, has_variables, cross, enters_well, is_entered_well, is_loop, has_loops, IsFaultless}
-use Rattle.pv_flow.specs.WellMade.{IsVariable, IsEdge, IsLoop, is_end, IsWellMade}
-use Rattle.pv_flow.specs.Machines.{IsInlined, IsAcyclic, IsAttached}
-use Rattle.pv_flow.specs.View.{terms_of, variable_of, set_of, guard_of, sets_of, edge_of, call_of, loop_of, trap_of, over_of, parts_of}
+use Rattle.pv_flow.specs.Terms.{Term}
+use Rattle.pv_flow.specs.Automata.{Variable, Edge, CallEdge, Loop, TrapEnd, OverEnd, Parts, edges_from, calls_from}
+use Rattle.pv_flow.specs.Faults.{set_below, edge_below, cross, enters_well, IsFaultless}
+use Rattle.pv_flow.specs.WellMade.{is_end, IsWellMade}
+use Rattle.pv_flow.specs.Machines.{IsInlined, IsAcyclic}
+use Rattle.pv_flow.specs.View.{terms_of, variable_of, set_of, edge_of, call_of, loop_of, trap_of, over_of, parts_of}
 use Rattle.pv_flow.specs.AutomatonView.{automaton_of}
-use Rattle.pv_contracts_flow.specs.Rows.{IsBare, IsLoopOf, IsDeedOf, edge, AreLoopsOf, IsEdgePast, BeginWith, IsSetPast, IsCrossing, IsEnteredWithin}
+use Rattle.pv_contracts_flow.specs.Rows.{IsBare, IsLoopOf, edge, AreLoopsOf, IsEdgePast, BeginWith, IsSetPast, IsCrossing, IsEnteredWithin}
 
 clash : {b : Bool} → b ≡ false → b ≡ true → ⊥
 clash off on = true≢false (sym on ∙ off)

@@ -2,13 +2,13 @@
 -- on leads back to the first location of a loop. No hop leaves that loop's range: the walk would have to come back into it, at its
 -- first location, from further on.
 use Rattle.std.proofs.Common.{◌≡◌, ℕ, zero, suc, ◌<◌, ◌≤◌, ◌⊎◌, inl, inr, List, [], ◌∷◌, length, slice_get, Bool, true, false, not, ◌&&◌, ◌||◌, ◌==◌, nat_lt, nat_le, cond, Option, Some, None, IfSome, refl, sym, subst, ap, ◌∙◌, arith}
-use Rattle.std.specs.List.{All, AllByRecursion, list_any, list_all}
+use Rattle.std.specs.List.{AllByRecursion, list_any, list_all}
 use Rattle.std.proofs.lemmas.Bool.{true≢false, false≢true, both_ways, ltb-true, ltb-false, leb-true, le-leb, eqb-true, eq-eqb, cases_lt, and_parts, and_from, or_left, or_right, or_parts, or_cases, not-true, cases_Bool}
 use Rattle.std.proofs.lemmas.Option.{same_Some, none-some}
 use Rattle.std.proofs.lemmas.List.Elements.{recursion_from_All}
 use Rattle.pv_flow.specs.Automata.{Edge, CallEdge, Loop, Parts, holds, is_turn}
 use Rattle.pv_flow.specs.Faults.{cross, enters_well, is_entered_well, is_loop, IsFaultless}
-use Rattle.pv_flow.specs.WellMade.{turns_by, leads_back, leads_well, turns_well, IsLoop, IsWellMade}
+use Rattle.pv_flow.specs.WellMade.{turns_by, leads_back, leads_well, IsLoop, IsWellMade}
 use Rattle.pv_flow.specs.Walks.{Hop, is_between, leads_by, Follows, IsClosedWalk, TakesTurn}
 
 -- ---- lists

@@ -8,12 +8,11 @@ use Rattle.pv_word.specs.declared.types.Ty.TheVariants.{Bool, Int}
 use Rattle.pv_word.specs.Types.{InRange, not_of}
 use Rattle.pv_word.specs.Wrap.{wrap_at}
 use Rattle.pv_word.specs.Bits.{pattern_at}
-use Rattle.pv_flow.specs.declared.op.UnaryOp.TheVariants.{Not}
 use Rattle.pv_flow.specs.declared.op.BinaryOp.TheVariants.{SumOverflow}
-use Rattle.pv_flow.specs.Terms.{Term, constant, variable, unary, binary, Valuation, Types, is_true, value_of, type_of, IsTyped, AreTyped}
-use Rattle.pv_flow.specs.Automata.{Variable, Set, Edge, CallEdge, Loop, Parts, types_of, edges_from, calls_from}
+use Rattle.pv_flow.specs.Terms.{Term, constant, variable, binary, Types, is_true, value_of, type_of, IsTyped}
+use Rattle.pv_flow.specs.Automata.{Variable, Set, Edge, Loop, types_of, edges_from, calls_from}
 use Rattle.pv_flow.specs.Faults.{IsFaultless}
-use Rattle.pv_flow.specs.WellMade.{IsVariable, IsSet, IsEdge, true_guards, OneIsTrue, is_end, leads_well, turns_well, IsLoop, AreApart, IsWellMade}
+use Rattle.pv_flow.specs.WellMade.{IsVariable, IsSet, IsEdge, OneIsTrue, is_end, leads_well, turns_well, IsLoop, AreApart, IsWellMade}
 use Rattle.pv_flow.specs.Typing.{zero_fits, bit_fits, typed_value}
 use Rattle.pv_flow.proofs.Examples.{yes_term, set, test, one_more, counted}
 

@@ -1,7 +1,7 @@
 -- Walks along edges and call edges. A closed one takes a turn of a loop that holds it, so turns are all that goes round.
 use Rattle.std.specs.Prelude.{◌≡◌, ℕ, List, [], ◌∷◌, slice_get, Bool, true, false, ◌&&◌, ◌==◌, Option, Some, None}
 use Rattle.std.specs.List.{list_any, list_all}
-use Rattle.pv_flow.specs.Automata.{Edge, CallEdge, Loop, Parts, holds}
+use Rattle.pv_flow.specs.Automata.{Edge, Loop, Parts, holds}
 use Rattle.pv_flow.specs.WellMade.{turns_by}
 
 -- from one location to the next, by the edge of this number or by a call edge
