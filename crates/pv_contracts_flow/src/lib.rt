@@ -1,0 +1,12 @@
+//! Contract tests of automata, and rows of parts that are built or refused.
+#![tactic(auto)]
+
+mod calls;
+mod parts;
+#[cfg(test)]
+mod rows;
+
+pub use calls::{attached_to, bound_of, build};
+pub use parts::{
+    bare, deed_of, edge_past, entered_within, fault_of_crossing, loops_cross, set_past,
+};

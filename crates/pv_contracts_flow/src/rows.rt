@@ -1,0 +1,77 @@
+//! Parts that are built or refused, with enough memory.
+ghost use Rattle.pv_flow.specs.Faults.{IsFaultless};
+ghost use Rattle.pv_flow.specs.View.{parts_of};
+
+use crate::calls::{attached_to, bound_of, build};
+use crate::parts::{bare, edge_past, entered_within, fault_of_crossing, loops_cross, set_past};
+use pv_flow::{FlowFault, Parts};
+use std::alloc::{AllocError, Global};
+use std::test::Fail;
+
+/// The fault of parts that have one.
+fn fault_of(alloc: Global, parts: Parts) -> Option<FlowFault>
+    requires { IsFaultless (parts_of parts) → ⊥ }
+{
+    match build(alloc, parts) {
+        Ok(automaton) => {
+            drop(automaton);
+            None
+        }
+        Err(fault) => Some(fault),
+    }
+}
+
+#[tactic(auto, using(crate::proofs::RowLaws::edge_refused))]
+fn of_edge(alloc: Global) -> Result<Option<FlowFault>, AllocError> {
+    let parts = edge_past(alloc)?;
+    Ok(fault_of(alloc, parts))
+}
+
+#[tactic(auto, using(crate::proofs::RowLaws::set_refused))]
+fn of_set(alloc: Global) -> Result<Option<FlowFault>, AllocError> {
+    let parts = set_past(alloc)?;
+    Ok(fault_of(alloc, parts))
+}
+
+fn of_crossing(alloc: Global) -> Result<Option<FlowFault>, AllocError> {
+    let parts = loops_cross(alloc)?;
+    Ok(fault_of_crossing(alloc, parts))
+}
+
+#[tactic(auto, using(crate::proofs::RowLaws::entering_refused))]
+fn of_entering(alloc: Global) -> Result<Option<FlowFault>, AllocError> {
+    let parts = entered_within(alloc)?;
+    Ok(fault_of(alloc, parts))
+}
+
+/// The bound of an automaton of one location.
+#[tactic(auto, using(crate::proofs::RowLaws::one_is_well_made, crate::proofs::RowLaws::one_is_inlined))]
+fn bound_at_once(alloc: Global) -> Result<u32, FlowFault> {
+    let automaton = build(alloc, bare(alloc, 1, 0))?;
+    Ok(bound_of(automaton, 16))
+}
+
+/// Whether an automaton of one location has something attached.
+#[tactic(auto, using(crate::proofs::RowLaws::one_is_well_made, crate::proofs::RowLaws::one_is_acyclic))]
+fn attached_at_once(alloc: Global) -> Result<bool, FlowFault> {
+    let automaton = build(alloc, bare(alloc, 1, 0))?;
+    Ok(attached_to(automaton, None).is_some())
+}
+
+#[test]
+fn parts_are_refused(rt: HostRuntime) -> Result<(), Fail> {
+    let alloc = rt.alloc();
+    assert_eq!(rt; of_edge(alloc)?, Some(FlowFault::BadLocation));
+    assert_eq!(rt; of_set(alloc)?, Some(FlowFault::BadVariable));
+    assert_eq!(rt; of_crossing(alloc)?, Some(FlowFault::BadLoop));
+    assert_eq!(rt; of_entering(alloc)?, Some(FlowFault::BadLoop));
+    Ok(())
+}
+
+#[test]
+fn one_location_is_built(rt: HostRuntime) -> Result<(), Fail> {
+    let alloc = rt.alloc();
+    assert_eq!(rt; bound_at_once(alloc), Ok(16));
+    assert_eq!(rt; attached_at_once(alloc), Ok(false));
+    Ok(())
+}

@@ -1,0 +1,54 @@
+//! Automata without call edges and loops, as machines.
+ghost use Rattle.std.specs.Prelude.{◌≡◌, IfSome};
+ghost use Rattle.std.proofs.Props.{props};
+ghost use Rattle.pv_flow.specs.Machines.{IsAcyclic, IsAttached, IsAttached-prop};
+ghost use Rattle.pv_flow.specs.AutomatonView.{automaton_of, attached_to};
+
+use crate::attached::Attached;
+use crate::automaton::Automaton;
+use crate::count::{stored, taken};
+use pv_machine::Machine;
+
+/// An automaton whose edges lead forward, with what is attached to it.
+#[derive(Drop)]
+pub struct Acyclic {
+    pub(crate) automaton: Automaton,
+    pub(crate) attached: Option<Attached>,
+    ghost acyclic: { IsAcyclic (automaton_of automaton) },
+    ghost fits: { IfSome (attached_to automaton attached) (IsAttached (automaton_of automaton)) } by { Prim.hlevel (props, IsAttached-prop) },
+}
+
+impl Acyclic {
+    ghost use Rattle.std.specs.Prelude.{Option, Some, None, MatchOption};
+
+    /// The automaton.
+    pub fn automaton(&self) -> &Automaton
+        ensures { result.now ≡ self.now.automaton }
+    {
+        &self.automaton
+    }
+
+    /// What is attached to it.
+    pub fn attached(&self) -> Option<Attached>
+        ensures { result ≡ self.now.attached }
+    {
+        self.attached
+    }
+}
+
+impl Machine for Acyclic {
+    ghost use Rattle.pv_flow.specs.Machines.{acyclic_machine};
+    ghost use Rattle.pv_flow.specs.Lawful.{acyclic_is_lawful};
+
+    ghost machine = { λ m. acyclic_machine (automaton_of m.automaton) (attached_to m.automaton m.attached) };
+
+    fn state_len(&self) -> usize {
+        stored(self.automaton.parts.vars.as_slice())
+    }
+
+    fn input_len(&self) -> usize {
+        taken(self.automaton.parts.vars.as_slice())
+    }
+
+    ghost lawful = { λ m. acyclic_is_lawful (automaton_of m.automaton) (attached_to m.automaton m.attached) m.automaton.well_made m.fits };
+}

@@ -1,0 +1,47 @@
+//! Automata from their parts.
+ghost use Rattle.std.specs.Prelude.{◌≡◌, IfOk, IfErr, OnOk};
+ghost use Rattle.pv_flow.specs.Faults.{IsFaultless, IsFaultOf};
+ghost use Rattle.pv_flow.specs.WellMade.{IsWellMade};
+ghost use Rattle.pv_flow.specs.View.{parts_of};
+ghost use Rattle.pv_flow.specs.AutomatonView.{automaton_of};
+
+use crate::automaton::Automaton;
+use crate::fault::FlowFault;
+use crate::locations::has_locations;
+use crate::loops::has_loops;
+use crate::parts::Parts;
+use crate::variables::has_variables;
+use std::alloc::Global;
+
+/// The first fault of the parts.
+fn look(alloc: Global, parts: &Parts) -> Result<(), FlowFault>
+    ensures ok { OnOk result (IsFaultless (parts_of parts.now)) }
+    ensures fault { IfErr result (IsFaultOf (parts_of parts.now)) }
+{
+    if !has_locations(parts) {
+        return Err(FlowFault::BadLocation);
+    }
+    if !has_variables(alloc, parts)? {
+        return Err(FlowFault::BadVariable);
+    }
+    if !has_loops(parts) {
+        return Err(FlowFault::BadLoop);
+    }
+    Ok(())
+}
+
+/// The automaton of these parts, which are well made if they have no fault, or their first fault.
+pub fn build(alloc: Global, parts: Parts) -> Result<Automaton, FlowFault>
+    requires { IsFaultless (parts_of parts) → IsWellMade (parts_of parts) }
+    ensures ok { IfOk result (λ automaton. automaton_of automaton ≡ parts_of parts) }
+    ensures faultless { IfOk result (λ _. IsFaultless (parts_of parts)) }
+    ensures fault { IfErr result (IsFaultOf (parts_of parts)) }
+{
+    match look(alloc, &parts) {
+        Ok(()) => Ok(Automaton { parts }),
+        Err(fault) => {
+            drop(parts);
+            Err(fault)
+        }
+    }
+}
