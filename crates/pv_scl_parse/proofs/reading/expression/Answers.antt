@@ -17,20 +17,20 @@ pub read_expression-requires-clause-tokens : goal.read_expression-requires-claus
 read_expression-requires-clause-tokens c =
     let text = c.args.text.now in
     let inner = c.split_at.result.0.now in
-    kinds_before Scl c.requires.0 text c.args.tokens.now inner c.requires.1 (ends c.requires.0 text c.args.tokens.now inner c.requires.1 c.split_at.ensures.front)
+    kinds_before Scl c.requires.0 text c.args.tokens.now inner c.requires.1 (ends Scl c.requires.0 text c.args.tokens.now inner c.requires.1 c.split_at.ensures.front)
 
 pub read_expression-requires-clause-order : goal.read_expression-requires-clause-order
 read_expression-requires-clause-order c =
     let text = c.args.text.now in
     let inner = c.split_at.result.0.now in
-    order_before Scl c.requires.0 text c.args.tokens.now inner c.requires.1 (ends c.requires.0 text c.args.tokens.now inner c.requires.1 c.split_at.ensures.front)
+    order_before Scl c.requires.0 text c.args.tokens.now inner c.requires.1 (ends Scl c.requires.0 text c.args.tokens.now inner c.requires.1 c.split_at.ensures.front)
 
 pub returns-in-Ok : goal.returns-in-Ok
 returns-in-Ok c =
     let text = c.args.text.now in
     let inner = c.split_at.result.0.now in
     only_expression text c.args.tokens.now inner (expr_tree c.in-Ok.expression)
-    (ends c.requires.0 text c.args.tokens.now inner c.requires.1 c.split_at.ensures.front) c.in_default.ensures.none
+    (ends Scl c.requires.0 text c.args.tokens.now inner c.requires.1 c.split_at.ensures.front) c.in_default.ensures.none
     (subst (λ answer. AnswersExpression (lexemes_of text inner) answer) c.in-Ok.is c.in_ok-expression.ensures)
 
 pub returns-in-Syntax : goal.returns-in-Syntax
@@ -38,7 +38,7 @@ returns-in-Syntax c =
     let text = c.args.text.now in
     let inner = c.split_at.result.0.now in
     fault_at text c.args.tokens.now inner c.in-Syntax.at _
-    (ends c.requires.0 text c.args.tokens.now inner c.requires.1 c.split_at.ensures.front) c.in_default.ensures.none
+    (ends Scl c.requires.0 text c.args.tokens.now inner c.requires.1 c.split_at.ensures.front) c.in_default.ensures.none
     (subst (λ fault. AnswersExpression (lexemes_of text inner) (Err fault)) c.in-Syntax.is
     (subst (λ answer. AnswersExpression (lexemes_of text inner) answer) c.in-Err.is c.in_ok-expression.ensures))
 
@@ -47,6 +47,6 @@ returns-in-Deep c =
     let text = c.args.text.now in
     let inner = c.split_at.result.0.now in
     too_deep text c.args.tokens.now inner c.in-Deep.place
-    (ends c.requires.0 text c.args.tokens.now inner c.requires.1 c.split_at.ensures.front) c.in_default.ensures.none
+    (ends Scl c.requires.0 text c.args.tokens.now inner c.requires.1 c.split_at.ensures.front) c.in_default.ensures.none
     (subst (λ fault. AnswersExpression (lexemes_of text inner) (Err fault)) c.in-Deep.is
     (subst (λ answer. AnswersExpression (lexemes_of text inner) answer) c.in-Err.is c.in_ok-expression.ensures))
