@@ -1,35 +1,13 @@
 //! Certificates: a claim, and what shows it.
 ghost use Rattle.std.specs.Prelude.{◌≡◌, List, [], ◌∷◌, ◌++◌, OnOk, OnErr};
 ghost use Rattle.pv_cert.specs.declared.proof.Proof.{Proof};
+ghost use Rattle.pv_cert.specs.CertificateText.{asks_next};
 
 use crate::proof::Proof;
-use crate::trace::Trace;
+use pv_claims::{Claim, Trace};
 use pv_log::Line;
 use std::alloc::{AllocError, Global};
 use std::marker::Model;
-
-/// What a certificate claims.
-#[derive(Clone, Copy, Debug, PartialEq, Eq)]
-pub enum Claim {
-    /// The pattern holds at every scan of every run, shown by k-induction with this k.
-    Satisfied(u32),
-    /// No run reaches the pattern, shown by k-induction with this k.
-    Unreachable(u32),
-    /// The pattern fails at this scan of a run, from 1.
-    Violated(u32),
-    /// A run stops with an error at this scan, from 1.
-    Trapped(u32),
-    /// A run reaches the pattern at this scan, from 1.
-    Reached(u32),
-    /// Neither was shown up to this depth.
-    Depth(u32),
-    /// A loop of this scan, from 1, passes the bound on its rounds.
-    Loop(u32),
-    /// So many lemmas were learnt, and then no more were allowed.
-    Lemmas(u32),
-    /// So many words of memory were wanted, more than were allowed.
-    Region(u64),
-}
 
 /// A list of proofs.
 #[derive(Debug, Drop)]
@@ -81,4 +59,14 @@ pub struct Certificate {
     pub proofs: Proofs,
     /// For `Region`, the lemma that found no room, where one was learnt.
     pub next: Option<Line>,
+}
+
+/// Whether a certificate with this claim says which lemma comes next: that of a region does.
+pub(crate) fn asks_next(claim: Claim) -> bool
+    ensures { result ≡ asks_next claim }
+{
+    match claim {
+        Claim::Region(_) => true,
+        _ => false,
+    }
 }
