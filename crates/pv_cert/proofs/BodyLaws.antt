@@ -1,5 +1,5 @@
 -- The proofs of a certificate and what stands behind them.
-use Rattle.std.proofs.Common.{◌≡◌, ℕ, ◌==◌, Bool, true, false, List, [], ◌∷◌, ◌++◌, length, get_or, append_assoc, append-nil, refl, ap, subst, ◌∙◌, sym, Option, Some, None}
+use Rattle.std.proofs.Common.{◌≡◌, ℕ, ◌+◌, ◌<◌, ◌==◌, Bool, true, false, List, [], ◌∷◌, ◌++◌, length, get_or, append_assoc, append-nil, length-append, arith, refl, ap, subst, ◌∙◌, sym, Option, Some, None}
 use Rattle.std.specs.Prelude.{codes}
 use Rattle.std.specs.List.{flat_map, AllByRecursion}
 use Rattle.std.proofs.lemmas.Bool.{false≢true}
@@ -14,10 +14,10 @@ use Rattle.pv_claims.proofs.ForCallers.{all-append, head, tail, plain, text-appe
 use Rattle.pv_cert.specs.declared.proof.Query.{Query}
 use Rattle.pv_cert.specs.declared.proof.Proof.{Proof}
 use Rattle.pv_cert.specs.CertificateText.{query_line, proof_lines, tail_lines, QueryFits, HasProofText, HasNext}
-use Rattle.pv_cert.specs.Reading.{IsProofOf, lines_behind_query, IsNoQuery, Body, HasBody, body_lines}
+use Rattle.pv_cert.specs.Reading.{IsProofOf, lines_behind_query, IsNoQuery, IsNoEnd, Body, HasBody, body_lines}
 use Rattle.pv_cert.proofs.Texts.{feedless-line, feedless-query, feedless-proofs}
 use Rattle.pv_cert.proofs.Parsing.{same-query, same-lemma, begins-not}
-use Rattle.pv_cert.proofs.ProofLaws.{one-proof, behind-free}
+use Rattle.pv_cert.proofs.ProofLaws.{blank_line, one-proof, behind-free}
 
 -- ---- what stands behind the proofs
 
@@ -110,17 +110,17 @@ none-end-stuck text rest e never =
 
 -- no next lemma behind `next`
 pub lemma-stuck : (text rest : List ℕ) → text ≡ codes "next\n" ++ rest → ((l : Line) (after : List ℕ) → HasText l → rest ≡ line_text l ++ 10 ∷ after → ⊥)
-    → (l : Line) → HasText l → StuckAt (Option Line) (HasNext true) (tail_lines true) text (length rest)
-lemma-stuck text rest e never l h =
+    → StuckAt (Option Line) (HasNext true) (tail_lines true) text (length rest)
+lemma-stuck text rest e never =
     record {
       before = codes "next" ∷ [];
       rest = rest;
       split = e;
       whole = (plain (codes "next") refl, tt);
       size = refl;
-      some = Some l;
-      has = h;
-      next = line_text l;
+      some = Some blank_line;
+      has = record { id = omega arith; lits = tt; hints = tt };
+      next = line_text blank_line;
       more = codes "end" ∷ [];
       goes_on = refl;
       stuck = λ line after clean f n others has is. second line after f n others has is;
@@ -155,13 +155,32 @@ lemma-end-stuck text rest behind l e h f never =
         let second = tail (codes "next") (codes "next") (line_text m ∷ codes "end" ∷ []) (line_text l ∷ line ∷ others) is in
         never after (g ∙ ap (λ k. k ++ 10 ∷ after) (sym (head (codes "end") line [] others (tail (line_text m) (line_text l) (codes "end" ∷ []) (line ∷ others) second))))
 
-pub lemma-tail-read : (whole text after : List ℕ) (l : Line) → whole ≡ codes "next\n" ++ text → text ≡ (line_text l ++ 10 ∷ codes "end\n") ++ after → whole ≡ text_of_lines (tail_lines true (Some l)) ++ after
-lemma-tail-read whole text after l e f =
-    text-more whole text (line_text l) (codes "end\n" ++ after) (codes "next" ∷ []) e (f ∙ append_assoc (line_text l) (10 ∷ codes "end\n") after)
+pub end-stops : (text : List ℕ) (stop : Stop) → IsNoEnd text stop → StopsAt (Option Line) (HasNext false) (tail_lines false) text stop
+end-stops text (Left left) h = subst (StuckAt (Option Line) (HasNext false) (tail_lines false) text) (sym h.0) (end-stuck text h.1)
+end-stops text NoMemory h = tt
+
+pub none-end-stops : (text rest : List ℕ) (stop : Stop) → text ≡ codes "next none\n" ++ rest → IsNoEnd rest stop → StopsAt (Option Line) (HasNext true) (tail_lines true) text stop
+none-end-stops text rest (Left left) e h = subst (StuckAt (Option Line) (HasNext true) (tail_lines true) text) (sym h.0) (none-end-stuck text rest e h.1)
+none-end-stops text rest NoMemory e h = tt
+
+pub lemma-end-stops : (text rest behind : List ℕ) (l : Line) (stop : Stop) → text ≡ codes "next\n" ++ rest → HasText l → rest ≡ line_text l ++ 10 ∷ behind → IsNoEnd behind stop
+    → StopsAt (Option Line) (HasNext true) (tail_lines true) text stop
+lemma-end-stops text rest behind l (Left left) e h f n = subst (StuckAt (Option Line) (HasNext true) (tail_lines true) text) (sym n.0) (lemma-end-stuck text rest behind l e h f n.1)
+lemma-end-stops text rest behind l NoMemory e h f n = tt
+
+pub lemma-tail-read : (whole text behind after : List ℕ) (l : Line) → whole ≡ codes "next\n" ++ text → text ≡ line_text l ++ 10 ∷ behind → behind ≡ codes "end\n" ++ after → whole ≡ text_of_lines (tail_lines true (Some l)) ++ after
+lemma-tail-read whole text behind after l e f g =
+    text-more whole text (line_text l) behind (codes "next" ∷ []) e f ∙ ap (λ t. text_of_lines (codes "next" ∷ line_text l ∷ []) ++ t) g
     ∙ sym (append_assoc (text_of_lines (codes "next" ∷ line_text l ∷ [])) (codes "end\n") after)
     ∙ ap (λ t. t ++ after) (sym (text-append (codes "next" ∷ line_text l ∷ []) (codes "end" ∷ [])))
 
 -- ---- stops among the proofs
+
+abbrev with-first : Proof → Body → Body
+with-first p b = (p ∷ b.0, b.1)
+
+abbrev bare : Option Line → Body
+bare next = ([], next)
 
 module _ (asked : Bool) where
   -- a body that begins with a proof
@@ -177,7 +196,7 @@ module _ (asked : Bool) where
         whole = (p ∷ [], None);
         has = ((h.has, tt), no-next asked);
         more = tail_lines asked None;
-        lines = with-proof p [] None ∙ ap (λ q. query_line q ∷ (lines_behind_query p ++ tail_lines asked None)) h.is;
+        lines_are = with-proof p [] None ∙ ap (λ q. query_line q ∷ (lines_behind_query p ++ tail_lines asked None)) h.is;
       })
       (λ x others h is. back x.0 x.1 others h is)
       (behind-free query) s
@@ -191,7 +210,7 @@ module _ (asked : Bool) where
             part = p;
             has = record { is = first; has = h.0.0 };
             more = body_lines asked (ps, next);
-            lines = sym (tail (query_line p.query) (query_line query) (lines_behind_query p ++ body_lines asked (ps, next)) others whole);
+            lines_are = sym (tail (query_line p.query) (query_line query) (lines_behind_query p ++ body_lines asked (ps, next)) others whole);
           }
 
   pub one-body : IsOne Body (HasBody asked) (body_lines asked)
@@ -199,7 +218,7 @@ module _ (asked : Bool) where
     where
       go : (ps : List Proof) (n : Option Line) (qs : List Proof) (m : Option Line) → HasBody asked (ps, n) → HasBody asked (qs, m)
           → body_lines asked (ps, n) ++ ls ≡ body_lines asked (qs, m) ++ ms → (◌≡◌ {A = Body} (ps, n) (qs, m)) × (ls ≡ ms)
-      go [] n [] m hx hy e = (let t = one-tail asked n m ls ms hx.1 hy.1 e in (ap (λ k. ([], k)) t.0, t.1))
+      go [] n [] m hx hy e = (let t = one-tail asked n m ls ms hx.1 hy.1 e in (ap (λ (k : Option Line). bare k) t.0, t.1))
       go [] n (q ∷ qs) m hx hy e =
           absurd (tail-first asked n q.query (query_line q.query) ((lines_behind_query q ++ body_lines asked (qs, m)) ++ ms) ls (e ∙ ap (λ l. l ++ ms) (with-proof q qs m)) refl)
       go (p ∷ ps) n [] m hx hy e =
@@ -210,12 +229,12 @@ module _ (asked : Bool) where
           ∙ append_assoc (proof_lines q) (body_lines asked (qs, m)) ms in
           let first = one-proof p q (body_lines asked (ps, n) ++ ls) (body_lines asked (qs, m) ++ ms) hx.0.0 hy.0.0 whole in
           let rest = go ps n qs m (hx.0.1, hx.1) (hy.0.1, hy.1) first.1 in
-          (ap (λ (b : Body). ◌,◌ {A = List Proof} (p ∷ b.0) b.1) rest.0 ∙ ap (λ x. ◌,◌ {A = List Proof} (x ∷ qs) m) first.0, rest.1)
+          (ap (λ (b : Body). with-first p b) rest.0 ∙ ap (λ (x : Proof). with-first x (qs, m)) first.0, rest.1)
 
   -- behind the first proofs there is a body
   body-back : (ps qs : List Proof) (next : Option Line) (others : List (List ℕ)) → AllByRecursion HasProofText ps → HasBody asked (qs, next) → body_lines asked (qs, next) ≡ flat_map proof_lines ps ++ others
       → IsPart Body (HasBody asked) (body_lines asked) others
-  body-back [] qs next others a h is = record { part = (qs, next); has = h; more = []; lines = sym is ∙ sym (append-nil (body_lines asked (qs, next))) }
+  body-back [] qs next others a h is = record { part = (qs, next); has = h; more = []; lines_are = sym is ∙ sym (append-nil (body_lines asked (qs, next))) }
   body-back (p ∷ ps) [] next others a h is =
       absurd (tail-first asked next p.query (query_line p.query) ((lines_behind_query p ++ flat_map proof_lines ps) ++ others) [] (append-nil (tail_lines asked next) ∙ is) refl)
   body-back (p ∷ ps) (q ∷ qs) next others a h is =
@@ -232,7 +251,7 @@ module _ (asked : Bool) where
         whole = (ps ++ b.0, b.1);
         has = (all-append HasProofText ps b.0 a h.0, h.1);
         more = [];
-        lines = ap (λ l. l ++ tail_lines asked b.1) (flat_map-append proof_lines ps b.0) ∙ append_assoc (flat_map proof_lines ps) (flat_map proof_lines b.0) (tail_lines asked b.1)
+        lines_are = ap (λ l. l ++ tail_lines asked b.1) (flat_map-append proof_lines ps b.0) ∙ append_assoc (flat_map proof_lines ps) (flat_map proof_lines b.0) (tail_lines asked b.1)
             ∙ ap (λ l. flat_map proof_lines ps ++ l) (sym (append-nil (body_lines asked b)));
       })
       (λ x others h is. body-back ps x.0 x.1 others a h is)
@@ -291,3 +310,13 @@ proofs-more query text rest behind after ps p split e is f =
     flat_map-append proof_lines ps (p ∷ []) ∙ ap (λ l. flat_map proof_lines ps ++ l) (append-nil (proof_lines p)) in
     split ∙ ap (λ t. text_of_lines (flat_map proof_lines ps) ++ t) whole ∙ sym (append_assoc (text_of_lines (flat_map proof_lines ps)) (text_of_lines (proof_lines p)) after)
     ∙ ap (λ t. t ++ after) (sym (text-append (flat_map proof_lines ps) (proof_lines p)) ∙ ap text_of_lines (sym lines))
+
+-- less is left behind a proof
+pub proof-shorter : (query : Query) (rest behind after : List ℕ) (p : Proof) → rest ≡ query_line query ++ 10 ∷ behind → behind ≡ text_of_lines (lines_behind_query p) ++ after → length after < length rest
+proof-shorter query rest behind after p e f =
+    let one = ap length e ∙ length-append (query_line query) (10 ∷ behind) in
+    let two = ap length f ∙ length-append (text_of_lines (lines_behind_query p)) after in
+    omega (arith, one, two)
+
+pub none-tail-read : (text rest after : List ℕ) → text ≡ codes "next none\n" ++ rest → rest ≡ codes "end\n" ++ after → HasNext true None × (text ≡ text_of_lines (tail_lines true None) ++ after)
+none-tail-read text rest after e f = (tt, e ∙ ap (λ t. codes "next none\n" ++ t) f)

@@ -25,7 +25,7 @@ abbrev pub Logs : ℕ → List Line → Type 0
 Logs count log = HasMany Line HasText count log
 
 -- a line that has a text
-abbrev blank_line : Line
+abbrev pub blank_line : Line
 blank_line = record { id = 0; lits = []; hints = [] }
 
 pub log-stuck : (count left : ℕ) (text rest : List ℕ) (log : List Line) → text ≡ text_of_lines (map line_text log) ++ rest → AllByRecursion HasText log → length log + left ≡ count → 0 < left
@@ -103,7 +103,7 @@ log-within query text rest behind chain count stop fits rise few e f s =
       whole = proof_by query chain log;
       has = is-proof query chain count log fits rise few h;
       more = [];
-      lines = ap (λ n. chain_line chain ∷ log_line n ∷ map line_text log) h.many ∙ ap (λ ls. front ++ ls) (sym (append-nil (map line_text log)));
+      lines_are = ap (λ n. chain_line chain ∷ log_line n ∷ map line_text log) h.many ∙ ap (λ ls. front ++ ls) (sym (append-nil (map line_text log)));
     })
     (λ p others h is.
     (let second = tail (chain_line p.chain) (chain_line chain) (log_line (length p.log) ∷ map line_text p.log) (log_line count ∷ others) is in
@@ -112,7 +112,7 @@ log-within query text rest behind chain count stop fits rise few e f s =
       part = p.log;
       has = record { many = number; each = h.has.lines };
       more = [];
-      lines = sym (tail (log_line (length p.log)) (log_line count) (map line_text p.log) others second) ∙ sym (append-nil (map line_text p.log));
+      lines_are = sym (tail (log_line (length p.log)) (log_line count) (map line_text p.log) others second) ∙ sym (append-nil (map line_text p.log));
     }))
     (many-free Line HasText line_text feedless-line count) s
 

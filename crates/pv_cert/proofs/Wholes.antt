@@ -1,6 +1,6 @@
 -- The parts of a certificate joined to the whole, and where a text fails as one.
 use Rattle.std.proofs.Common.{◌≡◌, ℕ, zero, suc, ◌+◌, ◌<◌, ◌≤◌, List, [], ◌∷◌, ◌++◌, length, append_assoc, append-nil, length-append, refl, ap, subst, ◌∙◌, sym, arith, inl, inr, Option, Some, None, Result, Ok, Err}
-use Rattle.std.specs.Prelude.{IfOk}
+use Rattle.std.specs.Prelude.{IfOk, IfErr}
 use Rattle.std.specs.List.{flat_map, AllByRecursion}
 use Rattle.std.proofs.lemmas.Bool.{cases_order}
 use Rattle.pv_log.specs.declared.line.Line.{Line}
@@ -48,8 +48,8 @@ pub trace-within : (claim : Claim) (text : List ℕ) (stop : Stop) → ClaimFits
 trace-within claim text stop fits s =
     stops-within Certificate (Option Trace) (HasClaim claim) (HasTrace (trace_form claim)) lines_behind_head trace_lines [] text text stop
     tt refl
-    (λ t h. record { whole = certificate_by claim t [] None; has = has-claim claim t [] None fits h (tt, no-next (asks_next claim)); more = body_lines (asks_next claim) ([], None); lines = refl })
-    (λ c others h is. record { part = c.trace; has = trace-of claim c h; more = body_lines (asks_next c.claim) (c.proofs, c.next); lines = sym is })
+    (λ t h. record { whole = certificate_by claim t [] None; has = has-claim claim t [] None fits h (tt, no-next (asks_next claim)); more = body_lines (asks_next claim) ([], None); lines_are = refl })
+    (λ c others h is. record { part = c.trace; has = trace-of claim c h; more = body_lines (asks_next c.claim) (c.proofs, c.next); lines_are = sym is })
     (one-free (Option Trace) (HasTrace (trace_form claim)) trace_lines (one-trace (trace_form claim))) s
 
 pub body-within : (claim : Claim) (trace : Option Trace) (text rest : List ℕ) (stop : Stop) → ClaimFits claim → HasTrace (trace_form claim) trace → text ≡ text_of_lines (trace_lines trace) ++ rest
@@ -61,11 +61,11 @@ body-within claim trace text rest stop fits t e s =
       whole = certificate_by claim trace b.0 b.1;
       has = has-claim claim trace b.0 b.1 fits t h;
       more = [];
-      lines = ap (λ l. trace_lines trace ++ l) (sym (append-nil (body_lines (asks_next claim) b)));
+      lines_are = ap (λ l. trace_lines trace ++ l) (sym (append-nil (body_lines (asks_next claim) b)));
     })
     (λ c others h is.
     (let both = one-trace (trace_form claim) c.trace trace (body_lines (asks_next claim) (c.proofs, c.next)) others (trace-of claim c h) t (sym (lines-by claim c h) ∙ is) in
-    record { part = (c.proofs, c.next); has = body-of claim c h; more = []; lines = sym both.1 ∙ sym (append-nil (body_lines (asks_next claim) (c.proofs, c.next))) }))
+    record { part = (c.proofs, c.next); has = body-of claim c h; more = []; lines_are = sym both.1 ∙ sym (append-nil (body_lines (asks_next claim) (c.proofs, c.next))) }))
     (one-free Body (HasBody (asks_next claim)) (body_lines (asks_next claim)) (one-body (asks_next claim))) s
 
 pub shown-read : (claim : Claim) (trace : Option Trace) (text rest after : List ℕ) (proofs : List Proof) (next : Option Line) → text ≡ text_of_lines (trace_lines trace) ++ rest
@@ -92,7 +92,6 @@ one-shown claim c d ls ms hc hd e =
 
 one-lines : IsOne Certificate HasCertificateText certificate_lines
 one-lines c d ls ms hc hd e =
-
     let heads = head-one c.claim d.claim (lines_behind_head c ++ ls) (lines_behind_head d ++ ms) hc.claim hd.claim
     (sym (append_assoc (head_lines c.claim) (lines_behind_head c) ls) ∙ e ∙ append_assoc (head_lines d.claim) (lines_behind_head d) ms) in
     one-shown d.claim c d ls ms (record { is = heads.0; has = hc }) (record { is = refl; has = hd }) heads.1
@@ -105,8 +104,8 @@ head-within text stop s =
     tt refl
     (λ claim h.
     (let t = some-trace (trace_form claim) in
-    record { whole = certificate_by claim t.0 [] None; has = (has-claim claim t.0 [] None h t.1 (tt, no-next (asks_next claim))).has; more = lines_behind_head (certificate_by claim t.0 [] None); lines = refl }))
-    (λ c others h is. record { part = c.claim; has = h.claim; more = lines_behind_head c; lines = sym is })
+    record { whole = certificate_by claim t.0 [] None; has = (has-claim claim t.0 [] None h t.1 (tt, no-next (asks_next claim))).has; more = lines_behind_head (certificate_by claim t.0 [] None); lines_are = refl }))
+    (λ c others h is. record { part = c.claim; has = h.claim; more = lines_behind_head c; lines_are = sym is })
     (one-free Claim ClaimFits head_lines head-one) s
 
 pub shown-within : (claim : Claim) (text rest : List ℕ) (stop : Stop) → ClaimFits claim → text ≡ text_of_lines (head_lines claim) ++ rest
@@ -118,11 +117,11 @@ shown-within claim text rest stop fits e s =
       whole = c;
       has = h.has;
       more = [];
-      lines = ap (λ k. head_lines k ++ lines_behind_head c) h.is ∙ ap (λ l. head_lines claim ++ l) (sym (append-nil (lines_behind_head c)));
+      lines_are = ap (λ k. head_lines k ++ lines_behind_head c) h.is ∙ ap (λ l. head_lines claim ++ l) (sym (append-nil (lines_behind_head c)));
     })
     (λ c others h is.
     (let both = head-one c.claim claim (lines_behind_head c) others h.claim fits is in
-    record { part = c; has = record { is = both.0; has = h }; more = []; lines = sym both.1 ∙ sym (append-nil (lines_behind_head c)) }))
+    record { part = c; has = record { is = both.0; has = h }; more = []; lines_are = sym both.1 ∙ sym (append-nil (lines_behind_head c)) }))
     (one-free Certificate (HasClaim claim) lines_behind_head (one-shown claim)) s
 
 pub whole-read : (claim : Claim) (c : Certificate) (text rest after : List ℕ) → text ≡ text_of_lines (head_lines claim) ++ rest → c.claim ≡ claim → rest ≡ text_of_lines (lines_behind_head c) ++ after
@@ -288,3 +287,9 @@ told-line bytes left line s at =
 pub made-of-proofs : (c : Certificate) → HasCertificateText c → c.claim ≡ Satisfied 0 → c ≡ satisfied_by c.proofs
 made-of-proofs c h is =
     certificate-same c (satisfied_by c.proofs) is (subst (λ (k : Claim). HasTrace (trace_form k) c.trace) is h.has_trace).has_form refl (subst (λ (k : Claim). HasNext (asks_next k) c.next) is h.has_next)
+
+-- ---- what calls answer
+
+pub stops-on : {T E : Type 0} {P Q : E → Type 0} (r : Result T E) → ((stop : E) → P stop → Q stop) → IfErr r P → IfErr r Q
+stops-on (Ok x) f h = tt
+stops-on (Err stop) f h = f stop h

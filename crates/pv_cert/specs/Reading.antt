@@ -1,5 +1,5 @@
 -- The parts of a certificate, as they are read. No clause of other crates cites these.
-use Rattle.std.specs.Prelude.{◌≡◌, ℕ, ◌<◌, Bool, List, [], ◌∷◌, ◌++◌, length, map, Option, Result, Ok, Err}
+use Rattle.std.specs.Prelude.{◌≡◌, ℕ, ◌<◌, Bool, List, [], ◌∷◌, ◌++◌, length, map, codes, Option, Result, Ok, Err}
 use Rattle.std.specs.List.{flat_map, AllByRecursion}
 use Rattle.pv_log.specs.declared.line.Line.{Line}
 use Rattle.pv_log.specs.LineText.{line_text}
@@ -27,6 +27,11 @@ lines_behind_query p = chain_line p.chain ∷ log_line (length p.log) ∷ map li
 -- the text goes on with no line of a query
 abbrev pub IsNoQuery : List ℕ → Type 0
 IsNoQuery text = (query : Query) (after : List ℕ) → QueryFits query → text ≡ query_line query ++ 10 ∷ after → ⊥
+
+-- the text goes on with no line `end`
+abbrev pub IsNoEnd : List ℕ → Stop → Type 0
+IsNoEnd text (stop.Left left) = (left ≡ length text) × ((after : List ℕ) → text ≡ codes "end\n" ++ after → ⊥)
+IsNoEnd text stop.NoMemory = ⊥
 
 -- proofs, and what stands behind them
 abbrev pub Body : Type 0

@@ -20,3 +20,6 @@ pub use proof::{Chain, Proof, Query};
 pub use pv_claims::{CellValues, CertFault, Claim, Ending, ScanInputs, Trace, cut_line};
 pub use read::read;
 pub use write::write;
+
+#[cfg(test)]
+mod tests;

@@ -29,7 +29,7 @@ pub(crate) fn lemma_line(alloc: Global, text: &[u8]) -> Result<Option<(Line, &[u
         return Ok(None);
     };
     match line_in(alloc, line)? {
-        Some(line) => Ok(Some((line, after))),
+        Some(lemma) => Ok(Some((lemma, after))),
         None => Ok(None),
     }
 }

@@ -1,12 +1,11 @@
 //! The parts of a certificate, one after the other.
-ghost use Rattle.std.specs.Prelude.{◌≡◌, ℕ, List, [], ◌∷◌, ◌++◌, length, codes, Bool, true, Option, Some, IfOk, IfErr};
+ghost use Rattle.std.specs.Prelude.{◌≡◌, ℕ, List, ◌++◌, codes, true, Option, IfOk, IfErr};
 ghost use Rattle.pv_log.specs.declared.line.Line.{Line};
-ghost use Rattle.pv_log.specs.LineText.{HasText, line_text};
 ghost use Rattle.pv_claims.specs.Lines.{StopsAt, text_of_lines};
 ghost use Rattle.pv_claims.specs.Heads.{ClaimFits};
 ghost use Rattle.pv_cert.specs.declared.certificate.Certificate.{Certificate};
 ghost use Rattle.pv_cert.specs.CertificateText.{HasNext, HasCertificateText, IsTextOf, certificate_lines, tail_lines};
-ghost use Rattle.pv_cert.specs.Reading.{Body, HasBody, HasClaim, IsNoQuery, StopsWith, body_lines, lines_behind_head};
+ghost use Rattle.pv_cert.specs.Reading.{Body, HasBody, HasClaim, IsNoEnd, StopsWith, body_lines, lines_behind_head};
 
 use crate::certificate::{Certificate, Proofs, asks_next};
 use crate::logs::lemma_line;
@@ -18,7 +17,7 @@ use std::alloc::Global;
 /// What follows the line `end`.
 fn end(text: &[u8]) -> Result<&[u8], Stop>
     ensures ok { IfOk result (λ rest. text.now ≡ codes "end\n" ++ rest.now) }
-    ensures stuck { IfErr result (λ stop. (stop ≡ Stop.Left (length text.now)) × ((rest : List ℕ) → text.now ≡ codes "end\n" ++ rest → ⊥)) }
+    ensures stuck { IfErr result (IsNoEnd text.now) }
 {
     match strip(text, b"end\n") {
         Some(rest) => Ok(rest),
@@ -28,8 +27,10 @@ fn end(text: &[u8]) -> Result<&[u8], Stop>
 
 /// The next lemma behind the line `next`, and what follows the end.
 fn lemma_tail(alloc: Global, text: &[u8]) -> Result<(Option<Line>, &[u8]), Stop>
-    ensures ok { IfOk result (λ cut. (line : Line) × (cut.0 ≡ Some line) × HasText line × (text.now ≡ (line_text line ++ 10 ∷ codes "end\n") ++ cut.1.now)) }
-    ensures stuck { (whole : List ℕ) → whole ≡ codes "next\n" ++ text.now → IfErr result (StopsAt (Option Line) (HasNext true) (tail_lines true) whole) }
+    ensures ok { (whole : List ℕ) → whole ≡ codes "next\n" ++ text.now → IfOk result (λ cut. HasNext true cut.0
+        × (whole ≡ text_of_lines (tail_lines true cut.0) ++ cut.1.now)) }
+    ensures stuck { (whole : List ℕ) → whole ≡ codes "next\n" ++ text.now
+        → IfErr result (StopsAt (Option Line) (HasNext true) (tail_lines true) whole) }
 {
     let Some((line, rest)) = lemma_line(alloc, text)? else {
         return Err(Stop::Left(text.len()));

@@ -117,7 +117,11 @@ fn push_proofs(alloc: Global, text: &mut Vec<u8>, proofs: &[Proof]) -> Result<()
 }
 
 /// Adds the next lemma, or that there is none, and the end.
-fn push_region_tail(alloc: Global, text: &mut Vec<u8>, next: &Option<Line>) -> Result<(), AllocError>
+fn push_region_tail(
+    alloc: Global,
+    text: &mut Vec<u8>,
+    next: &Option<Line>,
+) -> Result<(), AllocError>
     requires { IsWritableNext true next.now }
     ensures text { OnOk result (text.new.items ≡ text.old.items ++ text_of_lines (tail_lines true next.now)) }
     ensures valid { OnOk result (HasNext true next.now) }

@@ -3,7 +3,7 @@ use Rattle.std.proofs.Common.{◌≡◌, ℕ, ◌+◌, ◌^◌, ◌<◌, ◌==�
 use Rattle.std.specs.Prelude.{codes, IfNone}
 use Rattle.std.specs.List.{AllByRecursion}
 use Rattle.std.specs.Fmt.{decimal}
-use Rattle.std.proofs.lemmas.Fmt.{decimal_injective}
+use Rattle.std.proofs.lemmas.Fmt.{decimal_injective, decimal_digit}
 use Rattle.pv_claims.specs.declared.claim.Claim.{Claim}
 use Rattle.pv_claims.specs.declared.claim.Claim.TheVariants.{Satisfied, Unreachable, Violated, Trapped, Reached, Depth, Loop, Lemmas, Region}
 use Rattle.pv_claims.specs.Words.{NoBlank}
@@ -205,3 +205,6 @@ pub head-written : (old front words new : List ℕ) (c : Claim) → front ≡ ol
 head-written old front words new c e f g =
     g ∙ ap (λ t. t ++ 10 ∷ []) (f ∙ ap (λ t. t ++ claim_text c) e) ∙ ap (λ t. t ++ 10 ∷ []) (append_assoc old (codes "PLCVCERT 1\nverdict ") (claim_text c))
     ∙ append_assoc old (codes "PLCVCERT 1\nverdict " ++ claim_text c) (10 ∷ []) ∙ ap (λ t. old ++ (codes "PLCVCERT 1\nverdict " ++ t)) (sym (append-nil (claim_text c ++ 10 ∷ [])))
+
+pub verdict-zero : verdict_line (Satisfied 0) ≡ codes "verdict satisfied 0"
+verdict-zero = ap (λ t. codes "verdict satisfied " ++ t) (decimal_digit 0 (omega arith))

@@ -1,7 +1,7 @@
 -- Numbers in a text: `from_utf8`, `from_str_radix`, then compare with what `itoa` writes. `parse-decimal` and the law for signed ones give
 -- the refusals, so no fold over digits is proved.
-use Rattle.std.proofs.Common.{◌≡◌, ℕ, suc, ◌+◌, ◌^◌, ◌<◌, ◌≤◌, ℤ, pos, negsuc, List, [], ◌∷◌, ◌++◌, length, drop, ap, subst, ◌∙◌, sym, arith, Option, Some, None, Result, Ok, Err, Bor}
-use Rattle.std.specs.Prelude.{IfSome, IfNone, FitsSigned}
+use Rattle.std.proofs.Common.{◌≡◌, ℕ, zero, suc, ◌+◌, ◌^◌, ◌<◌, ◌≤◌, ℤ, pos, negsuc, List, [], ◌∷◌, ◌++◌, length, drop, refl, ap, subst, ◌∙◌, sym, arith, Option, Some, None, Result, Ok, Err, Bor}
+use Rattle.std.specs.Prelude.{IfSome, IfNone, FitsSigned, neg_ℤ}
 use Rattle.std.specs.Int.{w128}
 use Rattle.std.specs.Int.Signed.{mag}
 use Rattle.std.specs.List.{AllByRecursion}
@@ -13,7 +13,6 @@ use Rattle.std.proofs.lemmas.Fmt.{parse-decimal, IsAscii-decimal, IsAscii-decima
 use Rattle.std.proofs.lemmas.Result.{Ok-from_Ok_iff}
 use Rattle.std.proofs.lemmas.Str.{IsUtf8-from_ascii}
 use Rattle.std.proofs.lemmas.Str.Parse.{digit_from_value, numerals_by_value, tells_digits, parse_signed_minus, parse_signed_digits}
-use Rattle.std.proofs.Math.Facts.{neg_ℤ}
 use Rattle.pv_claims.specs.Words.{NoBlank}
 use Rattle.pv_claims.specs.Lines.{NoFeed}
 
@@ -55,21 +54,21 @@ behind bound text front rest (Some v) e h = tt
 
 -- ---- values of 128 bits
 
-pub short : (v : ℤ) → FitsSigned w128 v → mag v < 10 ^ 64
+pub short : (v : ℤ) → FitsSigned w128 v → mag v + 1 < 10 ^ 64
 short v f = omega (arith, f)
 
-ascii-signed : (v : ℤ) → mag v < 10 ^ 64 → IsAscii (signed_decimal v)
-ascii-signed (pos n) h i = IsAscii-decimal_wide n h i
-ascii-signed (negsuc n) h 0 = omega arith
-ascii-signed (negsuc n) h (suc i) = IsAscii-decimal_wide (suc n) h i
+ascii-signed : (v : ℤ) → mag v + 1 < 10 ^ 64 → IsAscii (signed_decimal v)
+ascii-signed (pos n) h i = IsAscii-decimal_wide n (omega (arith, h)) i
+ascii-signed (negsuc n) h zero = omega arith
+ascii-signed (negsuc n) h (suc i) = IsAscii-decimal_wide (suc n) (omega (arith, h)) i
 
-parse-signed : {E : Type 0} (v : ℤ) (bs : List ℕ) (r : Result ℤ E) → FitsSigned w128 v → mag v < 10 ^ 64 → bs ≡ signed_decimal v → ParsesSigned w128 10 bs r → r ≡ Ok v
+parse-signed : {E : Type 0} (v : ℤ) (bs : List ℕ) (r : Result ℤ E) → FitsSigned w128 v → mag v + 1 < 10 ^ 64 → bs ≡ signed_decimal v → ParsesSigned w128 10 bs r → r ≡ Ok v
 parse-signed (pos n) bs r fits small is h =
-    let k = decimal_is_IsNumeral_wide n small in
+    let k = decimal_is_IsNumeral_wide n (omega (arith, small)) in
     let read = parse_signed_digits (numerals_by_value _ tells_digits) w128 (decimal n) r (subst (λ l. ParsesSigned w128 10 l r) is h) k.0.1 in
     Ok-from_Ok_iff r _ _ read (k.0.0, omega (arith, k.1, fits.sfits)) ∙ ap (λ m. Ok (pos m)) k.1
 parse-signed (negsuc n) bs r fits small is h =
-    let k = decimal_is_IsNumeral_wide (suc n) small in
+    let k = decimal_is_IsNumeral_wide (suc n) (omega (arith, small)) in
     let read = parse_signed_minus (numerals_by_value _ tells_digits) w128 (45 ∷ decimal (suc n)) r (subst (λ l. ParsesSigned w128 10 l r) is h) refl in
     Ok-from_Ok_iff r _ _ read (k.0.1, k.0.0, omega (arith, k.1, fits.sfits)) ∙ ap (λ m. Ok (neg_ℤ (pos m))) k.1
 
@@ -89,9 +88,9 @@ without : (c : ℕ) → c < 45 → (ds : List ℕ) → AllDigits 10 ds → AllBy
 without c low [] are = tt
 without c low (d ∷ ds) are = let range = digit_from_value d are.0 in ((λ is. omega (arith, range, is)), without c low ds are.1)
 
-signed-without : (c : ℕ) (v : ℤ) → c < 45 → mag v < 10 ^ 64 → AllByRecursion (λ byte. byte ≡ c → ⊥) (signed_decimal v)
-signed-without c (pos n) low small = without c low (decimal n) (decimal_is_IsNumeral_wide n small).0.1
-signed-without c (negsuc n) low small = ((λ is. omega (arith, is)), without c low (decimal (suc n)) (decimal_is_IsNumeral_wide (suc n) small).0.1)
+signed-without : (c : ℕ) (v : ℤ) → c < 45 → mag v + 1 < 10 ^ 64 → AllByRecursion (λ byte. byte ≡ c → ⊥) (signed_decimal v)
+signed-without c (pos n) low small = without c low (decimal n) (decimal_is_IsNumeral_wide n (omega (arith, small))).0.1
+signed-without c (negsuc n) low small = ((λ is. omega (arith, is)), without c low (decimal (suc n)) (decimal_is_IsNumeral_wide (suc n) (omega (arith, small))).0.1)
 
 pub value-blankless : (v : ℤ) → FitsSigned w128 v → NoBlank (signed_decimal v)
 value-blankless v fits = signed-without 32 v (omega arith) (short v fits)
@@ -105,11 +104,11 @@ wide-injective m n p q e = sym (decimal_is_IsNumeral_wide m p).1 ∙ ap (digits_
 no-minus : (n : ℕ) (ds : List ℕ) → n < 10 ^ 64 → decimal n ≡ 45 ∷ ds → ⊥
 no-minus n ds h e = omega (arith, digit_from_value 45 (subst (AllDigits 10) e (decimal_is_IsNumeral_wide n h).0.1).0)
 
-signed-injective : (y z : ℤ) → mag y < 10 ^ 64 → mag z < 10 ^ 64 → signed_decimal y ≡ signed_decimal z → y ≡ z
-signed-injective (pos m) (pos n) p q e = ap pos (wide-injective m n p q e)
-signed-injective (pos m) (negsuc n) p q e = absurd (no-minus m _ p e)
-signed-injective (negsuc m) (pos n) p q e = absurd (no-minus n _ q (sym e))
-signed-injective (negsuc m) (negsuc n) p q e = ap negsuc (omega (arith, wide-injective (suc m) (suc n) p q (ap (drop 1) e)))
+signed-injective : (y z : ℤ) → mag y + 1 < 10 ^ 64 → mag z + 1 < 10 ^ 64 → signed_decimal y ≡ signed_decimal z → y ≡ z
+signed-injective (pos m) (pos n) p q e = ap pos (wide-injective m n (omega (arith, p)) (omega (arith, q)) e)
+signed-injective (pos m) (negsuc n) p q e = absurd (no-minus m _ (omega (arith, p)) e)
+signed-injective (negsuc m) (pos n) p q e = absurd (no-minus n _ (omega (arith, q)) (sym e))
+signed-injective (negsuc m) (negsuc n) p q e = ap negsuc (omega (arith, wide-injective (suc m) (suc n) (omega (arith, p)) (omega (arith, q)) (ap (drop 1) e)))
 
 pub value-one : (y z : ℤ) → FitsSigned w128 y → FitsSigned w128 z → signed_decimal y ≡ signed_decimal z → y ≡ z
 value-one y z p q e = signed-injective y z (short y p) (short z q) e

@@ -19,14 +19,14 @@ pub record HasPart (X : Type 0) (Has : X → Type 0) (lines : X → List (List �
   pub whole : X
   pub has : Has whole
   pub more : List (List ℕ)
-  pub lines : lines whole ≡ front ++ (part ++ more)
+  pub lines_are : lines whole ≡ front ++ (part ++ more)
 
 -- a part with which these lines begin
 pub record IsPart (Y : Type 0) (Has : Y → Type 0) (lines : Y → List (List ℕ)) (others : List (List ℕ)) : Type 0 where
   pub part : Y
   pub has : Has part
   pub more : List (List ℕ)
-  pub lines : others ≡ lines part ++ more
+  pub lines_are : others ≡ lines part ++ more
 
 -- the lines of no part begin those of another
 abbrev pub IsFree : (Y : Type 0) (Has : Y → Type 0) (lines : Y → List (List ℕ)) → Type 0
@@ -67,10 +67,10 @@ module _ (X Y : Type 0) (HasX : X → Type 0) (HasY : Y → Type 0) (linesX : X 
         has = g.has;
         next = s.next;
         more = s.more ++ g.more;
-        goes_on = g.lines ∙ ap (λ ls. front ++ (ls ++ g.more)) s.goes_on ∙ regroup front s.before s.next s.more g.more;
+        goes_on = g.lines_are ∙ ap (λ ls. front ++ (ls ++ g.more)) s.goes_on ∙ regroup front s.before s.next s.more g.more;
         stuck = λ line after plain e x others has is.
             (let b = back x (s.before ++ line ∷ others) has (is ∙ append_assoc front s.before (line ∷ others)) in
-            elim (side s.before line others (linesY b.part) b.more b.lines) [
+            elim (side s.before line others (linesY b.part) b.more b.lines_are) [
               | inl m ↦ s.stuck line after plain e b.part m.0 b.has m.1
               | inr m ↦ not-empty m.0 s.next s.more (free b.part s.some (m.0 ++ s.next ∷ s.more) b.has s.has
                   (s.goes_on ∙ ap (λ ls. ls ++ s.next ∷ s.more) m.1 ∙ append_assoc (linesY b.part) m.0 (s.next ∷ s.more)))
@@ -98,7 +98,7 @@ one-then Y lines y z ls ms same e = (same, append_cancel_left (lines z) ls ms (a
 
 -- ---- lines of a kind, so many of them
 
-pub copies : {X : Type 0} → ℕ → X → List X
+abbrev pub copies : {X : Type 0} → ℕ → X → List X
 copies zero x = []
 copies (suc n) x = x ∷ copies n x
 

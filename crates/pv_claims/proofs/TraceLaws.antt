@@ -8,7 +8,7 @@ use Rattle.pv_claims.specs.declared.claim.TraceForm.TheVariants.{Nothing, Run, S
 use Rattle.pv_claims.specs.declared.trace.Trace.{Trace}
 use Rattle.pv_claims.specs.declared.stop.Stop.{Stop}
 use Rattle.pv_claims.specs.Lines.{text_of_lines, NoFeed, StuckAt, StopsAt, HasMany}
-use Rattle.pv_claims.specs.TracePart.{IsRun, IsStretch, HasForm, AllFit, TraceFits, HasTrace, values_text, params_line, image_line, scan_line, prev_line, begin_lines, trace_lines}
+use Rattle.pv_claims.specs.TracePart.{IsRun, IsStretch, HasForm, AllFit, BeginFits, TraceFits, HasTrace, values_text, params_line, image_line, scan_line, prev_line, begin_lines, trace_lines}
 use Rattle.pv_claims.proofs.LineLaws.{all-append, plain, feedless-append, head, tail, text-append, text-more, text-first}
 use Rattle.pv_claims.proofs.NumberLaws.{cancel}
 use Rattle.pv_claims.proofs.ValueLaws.{values-plain, values-one}
@@ -63,12 +63,18 @@ pub has-run : (count : ℕ) (params : List ℤ) (scans : List (List ℤ)) → Al
 has-run count params scans p s = record { has_form = record { image = refl; prev = refl; scans = s.many }; fits = record { begin = p; inputs = s.each } }
 
 -- the parts of a run
-run-parts : (count : ℕ) (t : Option Trace) → HasTrace (Run count) t
-    → (params : List ℤ) × (scans : List (List ℤ)) × AllFit params × Scans count scans × (t ≡ run_of params scans)
+abbrev RunParts : ℕ → Option Trace → Type 0
+RunParts count t = (params : List ℤ) × (scans : List (List ℤ)) × AllFit params × Scans count scans × (t ≡ run_of params scans)
+
+run-fields : (count : ℕ) (image : Option (List ℤ)) (prev : Option Bool) (params : List ℤ) (inputs : List (List ℤ))
+    → HasTrace (Run count) (Some (record { image = image; prev = prev; params = params; inputs = inputs })) → RunParts count (Some (record { image = image; prev = prev; params = params; inputs = inputs }))
+run-fields count None None params inputs h = (params, inputs, h.fits.begin, record { many = h.has_form.scans; each = h.fits.inputs }, refl)
+run-fields count None (Some p) params inputs h = absurd (let no = h.has_form.prev in cc)
+run-fields count (Some i) prev params inputs h = absurd (let no = h.has_form.image in cc)
+
+run-parts : (count : ℕ) (t : Option Trace) → HasTrace (Run count) t → RunParts count t
 run-parts count None h = absurd h.has_form
-run-parts count (Some (record { image = None; prev = None; params = params; inputs = inputs })) h = (params, inputs, h.fits.begin, record { many = h.has_form.scans; each = h.fits.inputs }, refl)
-run-parts count (Some (record { image = None; prev = Some p; params = params; inputs = inputs })) h = absurd (let no = h.has_form.prev in cc)
-run-parts count (Some (record { image = Some i; prev = p; params = params; inputs = inputs })) h = absurd (let no = h.has_form.image in cc)
+run-parts count (Some t) h = run-fields count t.image t.prev t.params t.inputs h
 
 pub run-stuck : (count : ℕ) (text : List ℕ) → ((values : List ℤ) (after : List ℕ) → AllFit values → text ≡ (codes "params" ++ values_text values) ++ 10 ∷ after → ⊥)
     → StuckAt (Option Trace) (HasTrace (Run count)) trace_lines text (length text)
@@ -95,11 +101,11 @@ pub run-within : (count : ℕ) (text rest : List ℕ) (params : List ℤ) (stop 
 run-within count text rest params stop p e s =
     stops-within (Option Trace) (List (List ℤ)) (HasTrace (Run count)) (Scans count) trace_lines (map scan_line) (params_line params ∷ []) text rest stop
     (params-plain params p, tt) (e ∙ text-first (params_line params) rest)
-    (λ scans h. record { whole = run_of params scans; has = has-run count params scans p h; more = []; lines = ap (λ ls. params_line params ∷ ls) (sym (append-nil (map scan_line scans))) })
+    (λ scans h. record { whole = run_of params scans; has = has-run count params scans p h; more = []; lines_are = ap (λ ls. params_line params ∷ ls) (sym (append-nil (map scan_line scans))) })
     (λ t others h is.
     (let b = run-parts count t h in
     let behind = tail (params_line b.0) (params_line params) (map scan_line b.1) others (ap trace_lines (sym b.4) ∙ is) in
-    record { part = b.1; has = b.3; more = []; lines = sym behind ∙ sym (append-nil (map scan_line b.1)) }))
+    record { part = b.1; has = b.3; more = []; lines_are = sym behind ∙ sym (append-nil (map scan_line b.1)) }))
     (many-free (List ℤ) AllFit scan_line scan-plain count) s
 
 pub run-read : (text rest after : List ℕ) (params : List ℤ) (scans : List (List ℤ)) → text ≡ (codes "params" ++ values_text params) ++ 10 ∷ rest → rest ≡ text_of_lines (map scan_line scans) ++ after
@@ -126,19 +132,24 @@ record IsStretchOf (count : ℕ) (t : Option Trace) (lines : List (List ℕ)) : 
   lines_are : lines ≡ image_line image ∷ prev_line prev ∷ map scan_line scans
   trace_is : t ≡ stretch_of image prev scans
 
-stretch-back : (count : ℕ) (t : Option Trace) → HasTrace (Stretch count) t → IsStretchOf count t (trace_lines t)
-stretch-back count None h = absurd h.has_form
-stretch-back count (Some (record { image = None; prev = p; params = params; inputs = inputs })) h = absurd (let no = h.has_form.image.1 in cc)
-stretch-back count (Some (record { image = Some i; prev = p; params = v ∷ params; inputs = inputs })) h = absurd (let no = h.has_form.params in cc)
-stretch-back count (Some (record { image = Some i; prev = p; params = []; inputs = inputs })) h = record {
+stretch-fields : (count : ℕ) (image : Option (List ℤ)) (prev : Option Bool) (params : List ℤ) (inputs : List (List ℤ))
+    → HasTrace (Stretch count) (Some (record { image = image; prev = prev; params = params; inputs = inputs }))
+    → IsStretchOf count (Some (record { image = image; prev = prev; params = params; inputs = inputs })) (begin_lines image prev params ++ map scan_line inputs)
+stretch-fields count None prev params inputs h = absurd (let no = h.has_form.image.1 in cc)
+stretch-fields count (Some i) prev (v ∷ params) inputs h = absurd (let no = h.has_form.params in cc)
+stretch-fields count (Some i) prev [] inputs h = record {
   image = i;
-  prev = p;
+  prev = prev;
   scans = inputs;
   fits = h.fits.begin;
   has = record { many = h.has_form.scans; each = h.fits.inputs };
   lines_are = refl;
   trace_is = refl;
 }
+
+stretch-back : (count : ℕ) (t : Option Trace) → HasTrace (Stretch count) t → IsStretchOf count t (trace_lines t)
+stretch-back count None h = absurd h.has_form
+stretch-back count (Some t) h = stretch-fields count t.image t.prev t.params t.inputs h
 
 pub stretch-stuck-first : (count : ℕ) (text : List ℕ) → ((values : List ℤ) (after : List ℕ) → AllFit values → text ≡ (codes "image" ++ values_text values) ++ 10 ∷ after → ⊥)
     → StuckAt (Option Trace) (HasTrace (Stretch count)) trace_lines text (length text)
@@ -196,11 +207,11 @@ stretch-within count text rest behind image prev stop i e f s =
     let front = image_line image ∷ prev_line prev ∷ [] in
     stops-within (Option Trace) (List (List ℤ)) (HasTrace (Stretch count)) (Scans count) trace_lines (map scan_line) front text behind stop
     (image-plain image i, (prev-plain prev, tt)) (stretch-front text rest behind image prev e f)
-    (λ scans h. record { whole = stretch_of image prev scans; has = has-stretch count image prev scans i h; more = []; lines = ap (λ ls. front ++ ls) (sym (append-nil (map scan_line scans))) })
+    (λ scans h. record { whole = stretch_of image prev scans; has = has-stretch count image prev scans i h; more = []; lines_are = ap (λ ls. front ++ ls) (sym (append-nil (map scan_line scans))) })
     (λ t others h is.
     (let b = stretch-back count t h in
     let second = tail (image_line b.image) (image_line image) (prev_line b.prev ∷ map scan_line b.scans) (prev_line prev ∷ others) (sym b.lines_are ∙ is) in
-    record { part = b.scans; has = b.has; more = []; lines = sym (tail (prev_line b.prev) (prev_line prev) (map scan_line b.scans) others second) ∙ sym (append-nil (map scan_line b.scans)) }))
+    record { part = b.scans; has = b.has; more = []; lines_are = sym (tail (prev_line b.prev) (prev_line prev) (map scan_line b.scans) others second) ∙ sym (append-nil (map scan_line b.scans)) }))
     (many-free (List ℤ) AllFit scan_line scan-plain count) s
 
 pub stretch-read : (text rest behind after : List ℕ) (image : List ℤ) (prev : Option Bool) (scans : List (List ℤ)) → text ≡ (codes "image" ++ values_text image) ++ 10 ∷ rest → rest ≡ prev_line prev ++ 10 ∷ behind
@@ -212,10 +223,14 @@ stretch-read text rest behind after image prev scans e f g =
 
 -- ---- any trace part
 
+fields-plain : (image : Option (List ℤ)) (prev : Option Bool) (params : List ℤ) (inputs : List (List ℤ)) → BeginFits image params → AllByRecursion AllFit inputs
+    → AllByRecursion NoFeed (begin_lines image prev params ++ map scan_line inputs)
+fields-plain None prev params inputs b a = (params-plain params b, many-plain (List ℤ) AllFit scan_line scan-plain inputs a)
+fields-plain (Some i) prev params inputs b a = (image-plain i b, (prev-plain prev, many-plain (List ℤ) AllFit scan_line scan-plain inputs a))
+
 pub trace-plain : (form : TraceForm) (t : Option Trace) → HasTrace form t → AllByRecursion NoFeed (trace_lines t)
 trace-plain form None h = tt
-trace-plain form (Some (record { image = None; prev = p; params = params; inputs = inputs })) h = (params-plain params h.fits.begin, many-plain (List ℤ) AllFit scan_line scan-plain inputs h.fits.inputs)
-trace-plain form (Some (record { image = Some i; prev = p; params = params; inputs = inputs })) h = (image-plain i h.fits.begin, (prev-plain p, many-plain (List ℤ) AllFit scan_line scan-plain inputs h.fits.inputs))
+trace-plain form (Some t) h = fields-plain t.image t.prev t.params t.inputs h.fits.begin h.fits.inputs
 
 one-prev : (p q : Option Bool) → prev_line p ≡ prev_line q → p ≡ q
 one-prev None None e = refl

@@ -7,6 +7,6 @@ returns-in_default-clause-stuck c = head-stuck-first c.args.text.now c.in_defaul
 pub returns-in-None-clause-stuck : goal.returns-in-None-clause-stuck
 returns-in-None-clause-stuck c = head-stuck-second c.args.text.now c.in-Some.rest.now c.in-Some.ensures.found c.in-None.ensures.none
 
-pub returns-in-Some-2-clause-ok : goal.returns-in-Some-2-clause-ok
-returns-in-Some-2-clause-ok c =
-    (c.in-Some-2.ensures.found.0, head-read c.args.text.now c.in-Some.rest.now c.in-Some-2.head.1.now c.in-Some-2.head.0 c.in-Some.ensures.found c.in-Some-2.ensures.found.1)
+pub returns-in-Some-verdict-clause-ok : goal.returns-in-Some-verdict-clause-ok
+returns-in-Some-verdict-clause-ok c =
+    (c.in-Some-verdict.ensures.found.0, head-read c.args.text.now c.in-Some.rest.now c.in-Some-verdict.head.1.now c.in-Some-verdict.head.0 c.in-Some.ensures.found c.in-Some-verdict.ensures.found.1)
