@@ -11,15 +11,12 @@ mod parts;
 mod proof;
 mod proofs;
 mod query;
-mod read;
-mod write;
+mod reader;
+mod writer;
 
 pub use certificate::{Certificate, Proofs};
 pub use laws::text_determines_certificate;
 pub use proof::{Chain, Proof, Query};
 pub use pv_claims::{CellValues, CertFault, Claim, Ending, ScanInputs, Trace, cut_line};
-pub use read::read;
-pub use write::write;
-
-#[cfg(test)]
-mod tests;
+pub use reader::read;
+pub use writer::write;

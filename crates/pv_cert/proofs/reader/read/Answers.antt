@@ -1,5 +1,5 @@
 use Rattle.pv_cert.proofs.Wholes.{reads-ok, reads-complete, reads-writable, reads-stuck, reads-refused}
-use Rattle.pv_cert.proofs.read.read.Goals as goal
+use Rattle.pv_cert.proofs.reader.read.Goals as goal
 
 pub returns-clause-found : goal.returns-clause-found
 returns-clause-found c = reads-ok c.args.bytes.now c.read_parts.result c.read_parts.ensures

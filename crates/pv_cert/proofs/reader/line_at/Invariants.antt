@@ -1,6 +1,6 @@
 use Rattle.std.proofs.Common.{◌+◌, ◌≤◌, length}
 use Rattle.pv_cert.proofs.LineNumbers.{Standing}
-use Rattle.pv_cert.proofs.read.line_at.Given as goal
+use Rattle.pv_cert.proofs.reader.line_at.Given as goal
 
 abbrev pub invariant-loop : goal.invariant-loop
 invariant-loop l = record {
