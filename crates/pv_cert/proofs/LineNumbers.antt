@@ -52,11 +52,11 @@ standing-next text left rest cut after line s lt plain e = record { passed = λ 
 -- so many bytes are left
 pub standing-last : (text : List ℕ) (left : ℕ) (rest : List ℕ) (line : ℕ) → Standing text left rest line → (left < length rest → ⊥)
     → (before : List (List ℕ)) (behind : List ℕ) → text ≡ text_of_lines before ++ behind → AllByRecursion NoFeed before → left ≡ length behind → line ≡ length before + 1
-standing-last text left rest line s no before behind split whole size = (let p = s.passed before behind split whole size in go p.done p.more p.lines p.left p.number)
+standing-last text left rest line s less before behind split whole size = (let p = s.passed before behind split whole size in go p.done p.more p.lines p.left p.number)
   where
     go : (done more : List (List ℕ)) → before ≡ done ++ more → rest ≡ text_of_lines more ++ behind → line ≡ length done + 1 → line ≡ length before + 1
     go done [] lines is number = (let same = ap length (lines ∙ append-nil done) in omega (arith, number, same))
-    go done (m ∷ ms) lines is number = absurd (no (let more = longer m ms behind rest is in omega (arith, size, more)))
+    go done (m ∷ ms) lines is number = absurd (less (let more = longer m ms behind rest is in omega (arith, size, more)))
 
 -- with more bytes left there is a whole line
 pub standing-on : (text : List ℕ) (left : ℕ) (rest : List ℕ) (line : ℕ) → Standing text left rest line → left < length rest → NoFeed rest

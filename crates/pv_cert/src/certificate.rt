@@ -1,7 +1,6 @@
 //! Certificates: a claim, and what shows it.
 ghost use Rattle.std.specs.Prelude.{◌≡◌, List, [], ◌∷◌, ◌++◌, OnOk, OnErr};
 ghost use Rattle.pv_cert.specs.declared.proof.Proof.{Proof};
-ghost use Rattle.pv_cert.specs.CertificateText.{asks_next};
 
 use crate::proof::Proof;
 use pv_claims::{Claim, Trace};
@@ -59,14 +58,4 @@ pub struct Certificate {
     pub proofs: Proofs,
     /// For `Region`, the lemma that found no room, where one was learnt.
     pub next: Option<Line>,
-}
-
-/// Whether a certificate with this claim says which lemma comes next: that of a region does.
-pub(crate) fn asks_next(claim: Claim) -> bool
-    ensures { result ≡ asks_next claim }
-{
-    match claim {
-        Claim::Region(_) => true,
-        _ => false,
-    }
 }

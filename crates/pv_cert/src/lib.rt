@@ -7,6 +7,7 @@ mod certificate;
 mod chain;
 mod laws;
 mod logs;
+mod next;
 mod parts;
 mod proof;
 mod proofs;

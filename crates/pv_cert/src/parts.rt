@@ -1,5 +1,5 @@
 //! The parts of a certificate, one after the other.
-ghost use Rattle.std.specs.Prelude.{◌≡◌, ℕ, List, ◌++◌, codes, true, Option, IfOk, IfErr};
+ghost use Rattle.std.specs.Prelude.{◌≡◌, ◌↔◌, ℕ, List, [], ◌++◌, codes, true, Option, IfOk, IfErr, IsTrue};
 ghost use Rattle.pv_log.specs.declared.line.Line.{Line};
 ghost use Rattle.pv_claims.specs.Lines.{StopsAt, text_of_lines};
 ghost use Rattle.pv_claims.specs.Heads.{ClaimFits};
@@ -7,8 +7,9 @@ ghost use Rattle.pv_cert.specs.declared.certificate.Certificate.{Certificate};
 ghost use Rattle.pv_cert.specs.CertificateText.{HasNext, HasCertificateText, IsTextOf, certificate_lines, tail_lines};
 ghost use Rattle.pv_cert.specs.Reading.{Body, HasBody, HasClaim, IsNoEnd, StopsWith, body_lines, lines_behind_head};
 
-use crate::certificate::{Certificate, Proofs, asks_next};
+use crate::certificate::{Certificate, Proofs};
 use crate::logs::lemma_line;
+use crate::next::asks_next;
 use crate::proofs::proofs;
 use pv_claims::{Claim, Stop, read_head, read_trace_part, strip};
 use pv_log::Line;
@@ -104,13 +105,20 @@ fn certificate(alloc: Global, text: &[u8]) -> Result<(Certificate, &[u8]), Stop>
     shown(alloc, claim, rest)
 }
 
+/// Whether nothing is left.
+fn is_over(rest: &[u8]) -> bool
+    ensures { IsTrue result ↔ (rest.now ≡ []) }
+{
+    rest.is_empty()
+}
+
 /// The certificate of a text with nothing behind it.
 pub(crate) fn whole(alloc: Global, text: &[u8]) -> Result<Certificate, Stop>
     ensures ok { IfOk result (IsTextOf text.now) }
     ensures stuck { IfErr result (StopsWith text.now) }
 {
     let (certificate, rest) = certificate(alloc, text)?;
-    if rest.is_empty() {
+    if is_over(rest) {
         Ok(certificate)
     } else {
         drop(certificate);

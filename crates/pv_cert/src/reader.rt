@@ -19,10 +19,10 @@ fn line_at(text: &[u8], left: usize) -> u64
     let mut rest = text;
     let mut line = 1;
     while rest.len() > left {
-        let Some((_, after)) = cut_line(rest) else {
+        let Some(cut) = cut_line(rest) else {
             return line;
         };
-        rest = after;
+        rest = cut.1;
         line += 1;
     }
     line

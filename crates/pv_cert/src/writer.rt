@@ -8,7 +8,8 @@ ghost use Rattle.pv_claims.specs.TracePart.{HasForm, trace_form};
 ghost use Rattle.pv_cert.specs.CertificateText.{query_line, log_line, proof_lines, asks_next, tail_lines, certificate_text, QueryFits, HasNext, HasProofText, IsTextOf, IsWritableProof, IsWritableNext};
 ghost use Rattle.pv_cert.specs.ChainText.{cells_text, havoc_text, chain_line};
 
-use crate::certificate::{Certificate, asks_next};
+use crate::certificate::Certificate;
+use crate::next::asks_next;
 use crate::proof::{Chain, Proof, Query};
 use itoa::Buffer;
 use pv_claims::{push_head, push_trace_part};

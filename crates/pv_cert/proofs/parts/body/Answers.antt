@@ -3,7 +3,7 @@ use Rattle.pv_cert.proofs.BodyLaws.{body-under, tail-within, body-read}
 use Rattle.pv_cert.proofs.parts.body.Goals as goal
 
 pub returns-in_err-proofs-clause-stuck : goal.returns-in_err-proofs-clause-stuck
-returns-in_err-proofs-clause-stuck c = passed _ c.from_residual-in_err-proofs.result c.in_err-proofs.field-0.0 c.from_residual-in_err-proofs.ensures.1 (c.in_err-proofs.ensures.stuck c.args.region)
+returns-in_err-proofs-clause-stuck c = passed _ c.from_residual.result c.in_err-proofs.field-0.0 c.from_residual.ensures.1 (c.in_err-proofs.ensures.stuck c.args.region)
 
 pub returns-in_err-next-clause-stuck : goal.returns-in_err-next-clause-stuck
 returns-in_err-next-clause-stuck c =

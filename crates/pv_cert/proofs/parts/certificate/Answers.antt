@@ -5,7 +5,7 @@ use Rattle.pv_cert.proofs.Wholes.{head-within, shown-within, whole-read, stops-o
 use Rattle.pv_cert.proofs.parts.certificate.Goals as goal
 
 pub returns-in_err-claim-clause-stuck : goal.returns-in_err-claim-clause-stuck
-returns-in_err-claim-clause-stuck c = passed _ c.from_residual-in_err-claim.result c.in_err-claim.field-0.0 c.from_residual-in_err-claim.ensures.1 (head-within c.args.text.now c.in_err-claim.field-0.0 c.in_err-claim.ensures.stuck)
+returns-in_err-claim-clause-stuck c = passed _ c.from_residual.result c.in_err-claim.field-0.0 c.from_residual.ensures.1 (head-within c.args.text.now c.in_err-claim.field-0.0 c.in_err-claim.ensures.stuck)
 
 pub returns-clause-ok : goal.returns-clause-ok
 returns-clause-ok c =

@@ -5,7 +5,7 @@ use Rattle.pv_cert.proofs.proofs.proofs.Goals as goal
 
 pub returns-in_err-proof-clause-stuck : goal.returns-in_err-proof-clause-stuck
 returns-in_err-proof-clause-stuck c = λ asked.
-    passed _ c.from_residual-in_err-proof.result c.in_err-proof.field-0.0 c.from_residual-in_err-proof.ensures.1
+    passed _ c.from_residual.result c.in_err-proof.field-0.0 c.from_residual.ensures.1
     (body-under asked c.loop-query.proofs c.args.text.now c.loop-query.rest.now c.in_err-proof.field-0.0 c.loop-query.invariant.fit c.loop-query.invariant.split
     (proof-within asked c.in-Some.query c.loop-query.rest.now c.in-Some.behind.now c.in_err-proof.field-0.0 c.in-Some.ensures.found.0 c.in-Some.ensures.found.1
     (c.in_err-proof.ensures.stuck c.in-Some.ensures.found.0)))
@@ -19,7 +19,7 @@ loop-query-preserved c =
       fit = proofs-fit c.loop-query.proofs c.in_ok-proof.proof c.loop-query.invariant.fit read.0.has;
     }
 
-pub loop-query-decreases : goal.loop-query-decreases
-loop-query-decreases c =
+pub loop-query-smaller : goal.loop-query-smaller
+loop-query-smaller c =
     let read = c.in_ok-proof.ensures.ok c.in-Some.ensures.found.0 in
     proof-shorter c.in-Some.query c.loop-query.rest.now c.in-Some.behind.now c.in_ok-proof.after.now c.in_ok-proof.proof c.in-Some.ensures.found.1 read.1
