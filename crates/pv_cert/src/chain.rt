@@ -117,7 +117,8 @@ fn chain(alloc: Global, text: &[u8]) -> Result<Option<Chain>, AllocError>
 /// The chain of the first line, and what follows that.
 pub(crate) fn chain_line(alloc: Global, text: &[u8]) -> Result<Option<(Chain, &[u8])>, AllocError>
     ensures { IfOk result (λ found. MatchOption found
-        ((other : Chain) (after : List ℕ) → HasChainText other → text.now ≡ chain_line other ++ 10 ∷ after → ⊥)
+        ((other : Chain) (after : List ℕ) → HasChainText other
+        → text.now ≡ chain_line other ++ 10 ∷ after → ⊥)
         (λ cut. HasChainText cut.0 × (text.now ≡ chain_line cut.0 ++ 10 ∷ cut.1.now))) }
 {
     let Some((line, after)) = cut_line(text) else {

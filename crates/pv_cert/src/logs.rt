@@ -10,7 +10,8 @@ use std::alloc::{AllocError, Global};
 
 /// The line of a log, if this is one.
 fn line_in(alloc: Global, text: &[u8]) -> Result<Option<Line>, AllocError>
-    ensures { IfOk result (λ line. MatchOption line ((l : Line) → Spells text.now l → ⊥) (λ l. Spells text.now l)) }
+    ensures { IfOk result (λ line. MatchOption line
+        ((l : Line) → Spells text.now l → ⊥) (λ l. Spells text.now l)) }
 {
     match read_line(alloc, text) {
         Ok(line) => Ok(Some(line)),
@@ -22,7 +23,8 @@ fn line_in(alloc: Global, text: &[u8]) -> Result<Option<Line>, AllocError>
 /// The line of a log that comes first, and what follows that.
 pub(crate) fn lemma_line(alloc: Global, text: &[u8]) -> Result<Option<(Line, &[u8])>, AllocError>
     ensures { IfOk result (λ found. MatchOption found
-        ((other : Line) (after : List ℕ) → HasText other → text.now ≡ line_text other ++ 10 ∷ after → ⊥)
+        ((other : Line) (after : List ℕ) → HasText other
+        → text.now ≡ line_text other ++ 10 ∷ after → ⊥)
         (λ cut. HasText cut.0 × (text.now ≡ line_text cut.0 ++ 10 ∷ cut.1.now))) }
 {
     let Some((line, after)) = cut_line(text) else {
@@ -38,7 +40,8 @@ pub(crate) fn lemma_line(alloc: Global, text: &[u8]) -> Result<Option<(Line, &[u
 pub(crate) fn log_lines(alloc: Global, count: u32, text: &[u8]) -> Result<(Log, &[u8]), Stop>
     ensures ok { IfOk result (λ cut. HasMany Line HasText count cut.0
         × (text.now ≡ text_of_lines (map line_text cut.0) ++ cut.1.now)) }
-    ensures stuck { IfErr result (StopsAt (List Line) (HasMany Line HasText count) (map line_text) text.now) }
+    ensures stuck { IfErr result
+        (StopsAt (List Line) (HasMany Line HasText count) (map line_text) text.now) }
 {
     let mut log = Log::new(alloc);
     let mut rest = text;

@@ -28,7 +28,8 @@ fn end(text: &[u8]) -> Result<&[u8], Stop>
 
 /// The next lemma behind the line `next`, and what follows the end.
 fn lemma_tail(alloc: Global, text: &[u8]) -> Result<(Option<Line>, &[u8]), Stop>
-    ensures ok { (whole : List ℕ) → whole ≡ codes "next\n" ++ text.now → IfOk result (λ cut. HasNext true cut.0
+    ensures ok { (whole : List ℕ) → whole ≡ codes "next\n" ++ text.now
+        → IfOk result (λ cut. HasNext true cut.0
         × (whole ≡ text_of_lines (tail_lines true cut.0) ++ cut.1.now)) }
     ensures stuck { (whole : List ℕ) → whole ≡ codes "next\n" ++ text.now
         → IfErr result (StopsAt (Option Line) (HasNext true) (tail_lines true) whole) }
@@ -42,7 +43,8 @@ fn lemma_tail(alloc: Global, text: &[u8]) -> Result<(Option<Line>, &[u8]), Stop>
 
 /// What stands behind the proofs of a region, up to the end, and what follows that.
 fn region_tail(alloc: Global, text: &[u8]) -> Result<(Option<Line>, &[u8]), Stop>
-    ensures ok { IfOk result (λ cut. HasNext true cut.0 × (text.now ≡ text_of_lines (tail_lines true cut.0) ++ cut.1.now)) }
+    ensures ok { IfOk result (λ cut. HasNext true cut.0
+        × (text.now ≡ text_of_lines (tail_lines true cut.0) ++ cut.1.now)) }
     ensures stuck { IfErr result (StopsAt (Option Line) (HasNext true) (tail_lines true) text.now) }
 {
     if let Some(rest) = strip(text, b"next none\n") {
@@ -57,8 +59,10 @@ fn region_tail(alloc: Global, text: &[u8]) -> Result<(Option<Line>, &[u8]), Stop
 
 /// What stands behind the proofs, up to the end, and what follows that.
 fn tail(alloc: Global, region: bool, text: &[u8]) -> Result<(Option<Line>, &[u8]), Stop>
-    ensures ok { IfOk result (λ cut. HasNext region cut.0 × (text.now ≡ text_of_lines (tail_lines region cut.0) ++ cut.1.now)) }
-    ensures stuck { IfErr result (StopsAt (Option Line) (HasNext region) (tail_lines region) text.now) }
+    ensures ok { IfOk result (λ cut. HasNext region cut.0
+        × (text.now ≡ text_of_lines (tail_lines region cut.0) ++ cut.1.now)) }
+    ensures stuck { IfErr result
+        (StopsAt (Option Line) (HasNext region) (tail_lines region) text.now) }
 {
     if region {
         return region_tail(alloc, text);
@@ -82,7 +86,8 @@ fn body(alloc: Global, region: bool, text: &[u8]) -> Result<(Proofs, Option<Line
 fn shown(alloc: Global, claim: Claim, text: &[u8]) -> Result<(Certificate, &[u8]), Stop>
     ensures ok { ClaimFits claim → IfOk result (λ cut. HasClaim claim cut.0
         × (text.now ≡ text_of_lines (lines_behind_head cut.0) ++ cut.1.now)) }
-    ensures stuck { ClaimFits claim → IfErr result (StopsAt Certificate (HasClaim claim) lines_behind_head text.now) }
+    ensures stuck { ClaimFits claim → IfErr result
+        (StopsAt Certificate (HasClaim claim) lines_behind_head text.now) }
 {
     let (trace, rest) = read_trace_part(alloc, claim, text)?;
     let (proofs, next, after) = body(alloc, asks_next(claim), rest)?;
@@ -99,7 +104,8 @@ fn shown(alloc: Global, claim: Claim, text: &[u8]) -> Result<(Certificate, &[u8]
 fn certificate(alloc: Global, text: &[u8]) -> Result<(Certificate, &[u8]), Stop>
     ensures ok { IfOk result (λ cut. HasCertificateText cut.0
         × (text.now ≡ text_of_lines (certificate_lines cut.0) ++ cut.1.now)) }
-    ensures stuck { IfErr result (StopsAt Certificate HasCertificateText certificate_lines text.now) }
+    ensures stuck { IfErr result
+        (StopsAt Certificate HasCertificateText certificate_lines text.now) }
 {
     let (claim, rest) = read_head(text)?;
     shown(alloc, claim, rest)

@@ -18,7 +18,8 @@ use std::alloc::Global;
 fn proof_of(alloc: Global, query: Query, text: &[u8]) -> Result<(Proof, &[u8]), Stop>
     ensures ok { QueryFits query → IfOk result (λ cut. IsProofOf query cut.0
         × (text.now ≡ text_of_lines (lines_behind_query cut.0) ++ cut.1.now)) }
-    ensures stuck { QueryFits query → IfErr result (StopsAt Proof (IsProofOf query) lines_behind_query text.now) }
+    ensures stuck { QueryFits query → IfErr result
+        (StopsAt Proof (IsProofOf query) lines_behind_query text.now) }
 {
     let Some((chain, rest)) = chain_line(alloc, text)? else {
         return Err(Stop::Left(text.len()));
@@ -33,8 +34,10 @@ fn proof_of(alloc: Global, query: Query, text: &[u8]) -> Result<(Proof, &[u8]), 
 /// All proofs, and what follows the last.
 pub(crate) fn proofs(alloc: Global, text: &[u8]) -> Result<(Proofs, &[u8]), Stop>
     ensures ok { IfOk result (λ cut. AllByRecursion HasProofText cut.0
-        × (text.now ≡ text_of_lines (flat_map proof_lines cut.0) ++ cut.1.now) × IsNoQuery cut.1.now) }
-    ensures stuck { (region : Bool) → IfErr result (StopsAt Body (HasBody region) (body_lines region) text.now) }
+        × (text.now ≡ text_of_lines (flat_map proof_lines cut.0) ++ cut.1.now)
+        × IsNoQuery cut.1.now) }
+    ensures stuck { (region : Bool) → IfErr result
+        (StopsAt Body (HasBody region) (body_lines region) text.now) }
 {
     let mut proofs = Proofs::new(alloc);
     let mut rest = text;

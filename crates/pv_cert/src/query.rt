@@ -9,7 +9,8 @@ use pv_claims::{cut_line, number_behind};
 /// The query whose line this is.
 fn query(line: &[u8]) -> Option<Query>
     ensures found { IfSome result (λ query. QueryFits query × (line.now ≡ query_line query)) }
-    ensures none { IfNone result ((query : Query) → QueryFits query → line.now ≡ query_line query → ⊥) }
+    ensures none { IfNone result ((query : Query) → QueryFits query
+        → line.now ≡ query_line query → ⊥) }
 {
     if let Some(k) = number_behind(line, b"query base ") {
         Some(Query::Base(k))
@@ -21,7 +22,8 @@ fn query(line: &[u8]) -> Option<Query>
 
 /// The query of the first line, and what follows that.
 pub(crate) fn query_line(text: &[u8]) -> Option<(Query, &[u8])>
-    ensures found { IfSome result (λ cut. QueryFits cut.0 × (text.now ≡ query_line cut.0 ++ 10 ∷ cut.1.now)) }
+    ensures found { IfSome result (λ cut. QueryFits cut.0
+        × (text.now ≡ query_line cut.0 ++ 10 ∷ cut.1.now)) }
     ensures none { IfNone result ((query : Query) (after : List ℕ) → QueryFits query
         → text.now ≡ query_line query ++ 10 ∷ after → ⊥) }
 {

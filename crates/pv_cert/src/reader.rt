@@ -13,7 +13,8 @@ use std::alloc::Global;
 
 /// The line at whose beginning so many bytes are left, from 1.
 fn line_at(text: &[u8], left: usize) -> u64
-    ensures { (before : List (List ℕ)) (rest : List ℕ) → text.now ≡ text_of_lines before ++ rest → AllByRecursion NoFeed before
+    ensures { (before : List (List ℕ)) (rest : List ℕ) → text.now ≡ text_of_lines before ++ rest
+        → AllByRecursion NoFeed before
         → left ≡ length rest → result ≡ length before + 1 }
 {
     let mut rest = text;
@@ -41,9 +42,10 @@ fn read_parts(alloc: Global, bytes: &[u8]) -> Result<Certificate, CertFault>
     }
 }
 
-/// Reads the text of a certificate. A number has 32 bits, that of a region 64, and a value 128, without needless zeros or signs; the cells of
-/// a chain rise; a claim has as many scans as it says; and each line ends with a line feed alone. How many values a line has, and whether
-/// queries and cells belong to a case, isn't asked here.
+/// Reads the text of a certificate. A number has 32 bits, that of a region 64, and a value 128,
+/// without needless zeros or signs; the cells of a chain rise; a claim has as many scans as it
+/// says; and each line ends with a line feed alone. How many values a line has, and whether queries
+/// and cells belong to a case, isn't asked here.
 pub fn read(alloc: Global, bytes: &[u8]) -> Result<Certificate, CertFault>
     // What is read has this text, and what has this text is read.
     ensures found { IfOk result (IsTextOf bytes.now) }
@@ -51,8 +53,10 @@ pub fn read(alloc: Global, bytes: &[u8]) -> Result<Certificate, CertFault>
     // `write` takes what is read.
     ensures writable { IfOk result IsWritable }
     // A refusal names the first line with which no certificate begins so, and where there is one it is refused.
-    ensures stuck { (line : ℕ) → result ≡ Err (CertFault.NotACertificate line) → FailsAt bytes.now line }
-    ensures refused { (line : ℕ) → FailsAt bytes.now line → IsUnlessNoMemory result (Err (CertFault.NotACertificate line)) }
+    ensures stuck { (line : ℕ) → result ≡ Err (CertFault.NotACertificate line)
+        → FailsAt bytes.now line }
+    ensures refused { (line : ℕ) → FailsAt bytes.now line
+        → IsUnlessNoMemory result (Err (CertFault.NotACertificate line)) }
 {
     read_parts(alloc, bytes)
 }

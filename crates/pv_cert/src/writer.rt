@@ -18,7 +18,8 @@ use std::alloc::{AllocError, Global};
 
 /// Adds a line that a number ends.
 fn push_numbered(text: &mut Vec<u8>, front: &[u8], n: u32) -> Result<(), AllocError>
-    ensures { OnOk result (text.new.items ≡ text.old.items ++ ((front.now ++ decimal n) ++ codes "\n")) }
+    ensures { OnOk result (text.new.items
+        ≡ text.old.items ++ ((front.now ++ decimal n) ++ codes "\n")) }
 {
     let mut buffer = Buffer::new();
     text.extend_from_slice(front)?;
@@ -28,7 +29,8 @@ fn push_numbered(text: &mut Vec<u8>, front: &[u8], n: u32) -> Result<(), AllocEr
 }
 
 fn push_query(text: &mut Vec<u8>, query: Query) -> Result<(), AllocError>
-    ensures text { OnOk result (text.new.items ≡ text.old.items ++ (query_line query ++ codes "\n")) }
+    ensures text { OnOk result (text.new.items
+        ≡ text.old.items ++ (query_line query ++ codes "\n")) }
     ensures fits { QueryFits query }
 {
     match query {
@@ -69,7 +71,8 @@ fn push_word(text: &mut Vec<u8>, word: &[u8], is_there: bool) -> Result<(), Allo
 }
 
 fn push_chain(text: &mut Vec<u8>, chain: &Chain) -> Result<(), AllocError>
-    ensures { OnOk result (text.new.items ≡ text.old.items ++ (chain_line chain.now ++ codes "\n")) }
+    ensures { OnOk result (text.new.items
+        ≡ text.old.items ++ (chain_line chain.now ++ codes "\n")) }
 {
     text.extend_from_slice(b"chain")?;
     push_word(text, b" constants", chain.constants)?;
@@ -124,7 +127,8 @@ fn push_region_tail(
     next: &Option<Line>,
 ) -> Result<(), AllocError>
     requires { IsWritableNext true next.now }
-    ensures text { OnOk result (text.new.items ≡ text.old.items ++ text_of_lines (tail_lines true next.now)) }
+    ensures text { OnOk result (text.new.items
+        ≡ text.old.items ++ text_of_lines (tail_lines true next.now)) }
     ensures valid { OnOk result (HasNext true next.now) }
 {
     match next {
@@ -145,7 +149,8 @@ fn push_tail(
     next: &Option<Line>,
 ) -> Result<(), AllocError>
     requires { IsWritableNext asked next.now }
-    ensures text { OnOk result (text.new.items ≡ text.old.items ++ text_of_lines (tail_lines asked next.now)) }
+    ensures text { OnOk result (text.new.items
+        ≡ text.old.items ++ text_of_lines (tail_lines asked next.now)) }
     ensures valid { OnOk result (HasNext asked next.now) }
 {
     if asked {
@@ -155,8 +160,9 @@ fn push_tail(
     }
 }
 
-/// The one text of a certificate: its trace has the form and the number of scans that the claim asks for, a next lemma stands in that of a
-/// region alone, the cells of each chain rise, and each line of a log, and the next one, has literals of at least 2 and hints of at least 1.
+/// The one text of a certificate: its trace has the form and the number of scans that the claim
+/// asks for, a next lemma stands in that of a region alone, the cells of each chain rise, and each
+/// line of a log, and the next one, has literals of at least 2 and hints of at least 1.
 pub fn write(alloc: Global, certificate: &Certificate) -> Result<Vec<u8>, AllocError>
     requires trace { HasForm (trace_form certificate.now.claim) certificate.now.trace }
     requires next { IsWritableNext (asks_next certificate.now.claim) certificate.now.next }

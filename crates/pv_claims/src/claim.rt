@@ -36,7 +36,8 @@ pub enum TraceForm {
     Stretch(u64),
 }
 
-/// The scans that show this claim: N of `Violated(N)`, `Trapped(N)`, `Reached(N)` and `Loop(N)`, and K + 1 of `Depth(K)`.
+/// The scans that show this claim: N of `Violated(N)`, `Trapped(N)`, `Reached(N)` and `Loop(N)`,
+/// and K + 1 of `Depth(K)`.
 pub fn trace_form(claim: Claim) -> TraceForm
     ensures { result ≡ trace_form claim }
 {

@@ -8,8 +8,9 @@ use thiserror::Error;
 /// Why bytes are no certificate.
 #[derive(Clone, Copy, Debug, PartialEq, Eq, Error)]
 pub enum CertFault {
-    /// The bytes are no certificate: `line` is the first line with which no certificate begins so, or the
-    /// one behind the last where some certificate goes on. A line without its line feed begins none.
+    /// The bytes are no certificate: `line` is the first line with which no certificate begins so,
+    /// or the one behind the last where some certificate goes on. A line without its line feed
+    /// begins none.
     #[error("no certificate has this line {line}")]
     NotACertificate {
         /// The line, from 1.

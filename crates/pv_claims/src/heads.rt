@@ -12,7 +12,8 @@ use crate::stop::Stop;
 /// The claim whose words these are.
 fn claim_of(words: &[u8]) -> Option<Claim>
     ensures found { IfSome result (λ claim. ClaimFits claim × (words.now ≡ claim_text claim)) }
-    ensures none { IfNone result ((claim : Claim) → ClaimFits claim → words.now ≡ claim_text claim → ⊥) }
+    ensures none { IfNone result ((claim : Claim) → ClaimFits claim
+        → words.now ≡ claim_text claim → ⊥) }
 {
     if let Some(k) = number_behind(words, b"satisfied ") {
         return Some(Claim::Satisfied(k));
@@ -45,7 +46,8 @@ fn claim_of(words: &[u8]) -> Option<Claim>
 /// The claim of a verdict line.
 fn claim_in(line: &[u8]) -> Option<Claim>
     ensures found { IfSome result (λ claim. ClaimFits claim × (line.now ≡ verdict_line claim)) }
-    ensures none { IfNone result ((claim : Claim) → ClaimFits claim → line.now ≡ verdict_line claim → ⊥) }
+    ensures none { IfNone result ((claim : Claim) → ClaimFits claim
+        → line.now ≡ verdict_line claim → ⊥) }
 {
     let words = strip(line, b"verdict ")?;
     claim_of(words)
@@ -53,7 +55,8 @@ fn claim_in(line: &[u8]) -> Option<Claim>
 
 /// The claim of the first line, and what follows that.
 fn verdict(text: &[u8]) -> Option<(Claim, &[u8])>
-    ensures found { IfSome result (λ cut. ClaimFits cut.0 × (text.now ≡ verdict_line cut.0 ++ 10 ∷ cut.1.now)) }
+    ensures found { IfSome result (λ cut. ClaimFits cut.0
+        × (text.now ≡ verdict_line cut.0 ++ 10 ∷ cut.1.now)) }
     ensures none { IfNone result ((claim : Claim) (after : List ℕ) → ClaimFits claim
         → text.now ≡ verdict_line claim ++ 10 ∷ after → ⊥) }
 {
@@ -62,9 +65,11 @@ fn verdict(text: &[u8]) -> Option<(Claim, &[u8])>
     Some((claim, after))
 }
 
-/// The claim of a certificate, and what follows its verdict line. A refusal tells the line with which no certificate begins so.
+/// The claim of a certificate, and what follows its verdict line. A refusal tells the line with
+/// which no certificate begins so.
 pub fn read_head(text: &[u8]) -> Result<(Claim, &[u8]), Stop>
-    ensures ok { IfOk result (λ cut. ClaimFits cut.0 × (text.now ≡ text_of_lines (head_lines cut.0) ++ cut.1.now)) }
+    ensures ok { IfOk result (λ cut. ClaimFits cut.0
+        × (text.now ≡ text_of_lines (head_lines cut.0) ++ cut.1.now)) }
     ensures stuck { IfErr result (StopsAt Claim ClaimFits head_lines text.now) }
 {
     let Some(rest) = strip(text, b"PLCVCERT 1\n") else {

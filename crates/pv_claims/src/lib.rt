@@ -1,7 +1,9 @@
-//! What certificates claim, and the traces that show it: their types, and the lines of certificates up to the proofs, both ways.
+//! What certificates claim, and the traces that show it: their types, and the lines of certificates
+//! up to the proofs, both ways.
 //!
-//! A certificate's text is read part by part: the head (`read_head`), the trace part (`read_trace_part`), and what stands behind them. Each
-//! part is handed the text that is left, and tells what it says and what is left behind it, or where no such part goes on.
+//! A certificate's text is read part by part: the head (`read_head`), the trace part
+//! (`read_trace_part`), and what stands behind them. Each part is handed the text that is left, and
+//! tells what it says and what is left behind it, or where no such part goes on.
 #![tactic(auto)]
 
 mod claim;

@@ -4,7 +4,8 @@ ghost use Rattle.pv_claims.specs.Lines.{NoFeed};
 
 /// The first whole line of a text without its line feed, and what follows that.
 pub fn cut_line(text: &[u8]) -> Option<(&[u8], &[u8])>
-    ensures found { IfSome result (λ cut. NoFeed cut.0.now × (text.now ≡ cut.0.now ++ 10 ∷ cut.1.now)) }
+    ensures found { IfSome result (λ cut. NoFeed cut.0.now
+        × (text.now ≡ cut.0.now ++ 10 ∷ cut.1.now)) }
     ensures none { IfNone result (NoFeed text.now) }
 {
     for (at, byte) in text.iter().enumerate() {

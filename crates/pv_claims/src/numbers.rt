@@ -9,7 +9,8 @@ use itoa::Buffer;
 /// The number that a text of decimal digits parses to, if it fits 64 bits.
 fn parsed(text: &[u8]) -> Option<u64>
     ensures none { IfNone result ((n : ℕ) → n < 2 ^ 64 → text.now ≡ decimal n → ⊥) }
-    ensures value { IfSome result (λ value. (n : ℕ) → n < 2 ^ 64 → text.now ≡ decimal n → value ≡ n) }
+    ensures value { IfSome result (λ value. (n : ℕ) → n < 2 ^ 64 → text.now ≡ decimal n
+        → value ≡ n) }
 {
     let text = str::from_utf8(text).ok()?;
     u64::from_str_radix(text, 10).ok()
@@ -66,7 +67,8 @@ pub(crate) fn wide_number_behind(text: &[u8], prefix: &[u8]) -> Option<u64>
 /// The value that a text of decimal digits parses to, if it fits 128 bits.
 fn parsed_value(text: &[u8]) -> Option<i128>
     ensures none { IfNone result ((v : ℤ) → FitsSigned w128 v → text.now ≡ signed_decimal v → ⊥) }
-    ensures value { IfSome result (λ value. (v : ℤ) → FitsSigned w128 v → text.now ≡ signed_decimal v → value ≡ v) }
+    ensures value { IfSome result (λ value. (v : ℤ) → FitsSigned w128 v
+        → text.now ≡ signed_decimal v → value ≡ v) }
 {
     let text = str::from_utf8(text).ok()?;
     i128::from_str_radix(text, 10).ok()

@@ -83,13 +83,15 @@ impl ScanInputs {
     }
 }
 
-/// What determines a stretch of scans: where it begins, and its inputs. The text of a trace has no image and no value of the scan before.
+/// What determines a stretch of scans: where it begins, and its inputs. The text of a trace has no
+/// image and no value of the scan before.
 #[derive(Debug, Drop)]
 pub struct Trace {
-    /// The values of the kept and the param cells before the first scan; none where the run begins at the start.
+    /// The values of the kept and the param cells before the first scan; none where the run begins
+    /// at the start.
     pub image: Option<CellValues>,
-    /// For a pattern over two scans, whether its first expression was true at the end of the scan before the
-    /// image; none where no scan was before, and for other patterns.
+    /// For a pattern over two scans, whether its first expression was true at the end of the scan
+    /// before the image; none where no scan was before, and for other patterns.
     pub prev: Option<bool>,
     /// The values of the unbound params.
     pub params: CellValues,

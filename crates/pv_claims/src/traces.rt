@@ -16,7 +16,8 @@ use std::alloc::Global;
 fn scans(alloc: Global, count: u64, text: &[u8]) -> Result<(ScanInputs, &[u8]), Stop>
     ensures ok { IfOk result (λ cut. HasMany (List ℤ) AllFit count cut.0
         × (text.now ≡ text_of_lines (map scan_line cut.0) ++ cut.1.now)) }
-    ensures stuck { IfErr result (StopsAt (List (List ℤ)) (HasMany (List ℤ) AllFit count) (map scan_line) text.now) }
+    ensures stuck { IfErr result
+        (StopsAt (List (List ℤ)) (HasMany (List ℤ) AllFit count) (map scan_line) text.now) }
 {
     let mut scans = ScanInputs::new(alloc);
     let mut rest = text;
@@ -35,7 +36,8 @@ fn scans(alloc: Global, count: u64, text: &[u8]) -> Result<(ScanInputs, &[u8]), 
 /// The line of what a pattern says of the scan before an image, and what follows that.
 fn prev(text: &[u8]) -> Option<(Option<bool>, &[u8])>
     ensures found { IfSome result (λ cut. text.now ≡ prev_line cut.0 ++ 10 ∷ cut.1.now) }
-    ensures none { IfNone result ((prev : Option Bool) (after : List ℕ) → text.now ≡ prev_line prev ++ 10 ∷ after → ⊥) }
+    ensures none { IfNone result ((prev : Option Bool) (after : List ℕ)
+        → text.now ≡ prev_line prev ++ 10 ∷ after → ⊥) }
 {
     if let Some(rest) = strip(text, b"prev none\n") {
         return Some((None, rest));
@@ -49,8 +51,10 @@ fn prev(text: &[u8]) -> Option<(Option<bool>, &[u8])>
 
 /// The params and so many scans from the start.
 fn run(alloc: Global, count: u64, text: &[u8]) -> Result<(Option<Trace>, &[u8]), Stop>
-    ensures ok { IfOk result (λ cut. HasTrace (Run count) cut.0 × (text.now ≡ text_of_lines (trace_lines cut.0) ++ cut.1.now)) }
-    ensures stuck { IfErr result (StopsAt (Option Trace) (HasTrace (Run count)) trace_lines text.now) }
+    ensures ok { IfOk result (λ cut. HasTrace (Run count) cut.0
+        × (text.now ≡ text_of_lines (trace_lines cut.0) ++ cut.1.now)) }
+    ensures stuck { IfErr result
+        (StopsAt (Option Trace) (HasTrace (Run count)) trace_lines text.now) }
 {
     let Some((params, rest)) = values_line(alloc, text, b"params")? else {
         return Err(Stop::Left(text.len()));
@@ -67,8 +71,10 @@ fn run(alloc: Global, count: u64, text: &[u8]) -> Result<(Option<Trace>, &[u8]),
 
 /// An image, what was before it, and so many scans.
 fn stretch(alloc: Global, count: u64, text: &[u8]) -> Result<(Option<Trace>, &[u8]), Stop>
-    ensures ok { IfOk result (λ cut. HasTrace (Stretch count) cut.0 × (text.now ≡ text_of_lines (trace_lines cut.0) ++ cut.1.now)) }
-    ensures stuck { IfErr result (StopsAt (Option Trace) (HasTrace (Stretch count)) trace_lines text.now) }
+    ensures ok { IfOk result (λ cut. HasTrace (Stretch count) cut.0
+        × (text.now ≡ text_of_lines (trace_lines cut.0) ++ cut.1.now)) }
+    ensures stuck { IfErr result
+        (StopsAt (Option Trace) (HasTrace (Stretch count)) trace_lines text.now) }
 {
     let Some((image, rest)) = values_line(alloc, text, b"image")? else {
         return Err(Stop::Left(text.len()));
@@ -86,8 +92,9 @@ fn stretch(alloc: Global, count: u64, text: &[u8]) -> Result<(Option<Trace>, &[u
     Ok((Some(trace), after))
 }
 
-/// The trace part of a certificate with this claim, and what follows it. A refusal tells the line with which no such part goes on. As many
-/// scans are read as stand there, so a claim of many asks for no memory.
+/// The trace part of a certificate with this claim, and what follows it. A refusal tells the line
+/// with which no such part goes on. As many scans are read as stand there, so a claim of many asks
+/// for no memory.
 pub fn read_trace_part(
     alloc: Global,
     claim: Claim,
@@ -95,7 +102,8 @@ pub fn read_trace_part(
 ) -> Result<(Option<Trace>, &[u8]), Stop>
     ensures ok { IfOk result (λ cut. HasTrace (trace_form claim) cut.0
         × (text.now ≡ text_of_lines (trace_lines cut.0) ++ cut.1.now)) }
-    ensures stuck { IfErr result (StopsAt (Option Trace) (HasTrace (trace_form claim)) trace_lines text.now) }
+    ensures stuck { IfErr result
+        (StopsAt (Option Trace) (HasTrace (trace_form claim)) trace_lines text.now) }
 {
     match trace_form(claim) {
         TraceForm::Nothing => Ok((None, text)),

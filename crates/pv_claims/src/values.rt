@@ -63,7 +63,8 @@ pub(crate) fn values_line<'a>(
 ) -> Result<Option<(CellValues, &'a [u8])>, AllocError>
     requires { NoFeed word.now }
     ensures { IfOk result (λ found. MatchOption found
-        ((others : List ℤ) (after : List ℕ) → AllFit others → text.now ≡ (word.now ++ values_text others) ++ 10 ∷ after → ⊥)
+        ((others : List ℤ) (after : List ℕ) → AllFit others
+        → text.now ≡ (word.now ++ values_text others) ++ 10 ∷ after → ⊥)
         (λ cut. AllFit cut.0 × (text.now ≡ (word.now ++ values_text cut.0) ++ 10 ∷ cut.1.now))) }
 {
     let Some((line, after)) = cut_line(text) else {

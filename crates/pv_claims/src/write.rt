@@ -49,7 +49,8 @@ fn push_claim(text: &mut Vec<u8>, claim: Claim) -> Result<(), AllocError>
 
 /// Adds the two lines before a trace part.
 pub fn push_head(text: &mut Vec<u8>, claim: Claim) -> Result<(), AllocError>
-    ensures text { OnOk result (text.new.items ≡ text.old.items ++ text_of_lines (head_lines claim)) }
+    ensures text { OnOk result (text.new.items
+        ≡ text.old.items ++ text_of_lines (head_lines claim)) }
     ensures fits { ClaimFits claim }
 {
     text.extend_from_slice(b"PLCVCERT 1\nverdict ")?;
@@ -72,7 +73,8 @@ fn push_values(text: &mut Vec<u8>, values: &[i128]) -> Result<(), AllocError>
 
 /// Adds a line of values behind a word.
 fn push_line(text: &mut Vec<u8>, word: &[u8], values: &CellValues) -> Result<(), AllocError>
-    ensures text { OnOk result (text.new.items ≡ text.old.items ++ ((word.now ++ values_text values.now) ++ codes "\n")) }
+    ensures text { OnOk result (text.new.items
+        ≡ text.old.items ++ ((word.now ++ values_text values.now) ++ codes "\n")) }
     ensures fits { OnOk result (AllFit values.now) }
 {
     text.extend_from_slice(word)?;
@@ -92,7 +94,8 @@ fn push_prev(text: &mut Vec<u8>, prev: Option<bool>) -> Result<(), AllocError>
 }
 
 fn push_scans(text: &mut Vec<u8>, scans: &[CellValues]) -> Result<(), AllocError>
-    ensures text { OnOk result (text.new.items ≡ text.old.items ++ text_of_lines (map scan_line scans.now)) }
+    ensures text { OnOk result (text.new.items
+        ≡ text.old.items ++ text_of_lines (map scan_line scans.now)) }
     ensures fits { OnOk result (AllByRecursion AllFit scans.now) }
 {
     for values in scans {
@@ -102,7 +105,9 @@ fn push_scans(text: &mut Vec<u8>, scans: &[CellValues]) -> Result<(), AllocError
 }
 
 fn push_begin(text: &mut Vec<u8>, trace: &Trace) -> Result<(), AllocError>
-    ensures text { OnOk result (text.new.items ≡ text.old.items ++ text_of_lines (begin_lines trace.now.image trace.now.prev trace.now.params)) }
+    ensures text { OnOk result (text.new.items
+        ≡ text.old.items
+        ++ text_of_lines (begin_lines trace.now.image trace.now.prev trace.now.params)) }
     ensures fits { OnOk result (BeginFits trace.now.image trace.now.params) }
 {
     match &trace.image {
@@ -115,7 +120,8 @@ fn push_begin(text: &mut Vec<u8>, trace: &Trace) -> Result<(), AllocError>
 }
 
 fn push_trace(text: &mut Vec<u8>, trace: &Trace) -> Result<(), AllocError>
-    ensures text { OnOk result (text.new.items ≡ text.old.items ++ text_of_lines (trace_lines (Some trace.now))) }
+    ensures text { OnOk result (text.new.items
+        ≡ text.old.items ++ text_of_lines (trace_lines (Some trace.now))) }
     ensures fits { OnOk result (ValuesFit trace.now) }
 {
     push_begin(text, trace)?;
@@ -124,7 +130,8 @@ fn push_trace(text: &mut Vec<u8>, trace: &Trace) -> Result<(), AllocError>
 
 /// Adds the lines of a trace part. Which trace belongs to a claim is asked by no clause.
 pub fn push_trace_part(text: &mut Vec<u8>, trace: &Option<Trace>) -> Result<(), AllocError>
-    ensures text { OnOk result (text.new.items ≡ text.old.items ++ text_of_lines (trace_lines trace.now)) }
+    ensures text { OnOk result (text.new.items
+        ≡ text.old.items ++ text_of_lines (trace_lines trace.now)) }
     ensures fits { OnOk result (TraceFits trace.now) }
 {
     match trace {

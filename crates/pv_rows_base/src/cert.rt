@@ -1,5 +1,6 @@
 //! Tests of certificates: their text both ways, their parts, and the texts that are refused.
-use pv_cert::{CellValues, CertFault, Claim, Query, ScanInputs, Trace, read, write};
+use pv_cert::{Query, read, write};
+use pv_claims::{CellValues, CertFault, Claim, ScanInputs, Trace};
 use std::test::Fail;
 
 const SEVEN: &str =
