@@ -1,36 +1,13 @@
-//! Calls of pv_claims and pv_cert.
-ghost use Rattle.std.specs.Prelude.{◌≡◌, ℕ, [], ◌∷◌, ◌++◌, Option, Ok, Err, IfOk, IfErr, IfSome, IfNone, OnOk, OnErr};
+//! Calls of pv_cert.
+ghost use Rattle.std.specs.Prelude.{◌≡◌, ℕ, [], ◌∷◌, ◌++◌, Ok, Err, IfOk, OnOk, OnErr};
 ghost use Rattle.std.specs.List.{AllByRecursion};
 ghost use Rattle.pv_cert.specs.declared.certificate.Certificate.{Certificate};
-ghost use Rattle.pv_claims.specs.declared.trace.Trace.{Trace};
-ghost use Rattle.pv_claims.specs.Lines.{NoFeed, StopsAt, text_of_lines};
-ghost use Rattle.pv_claims.specs.TracePart.{HasForm, HasTrace, trace_form, trace_lines};
+ghost use Rattle.pv_claims.specs.TracePart.{HasForm, trace_form};
 ghost use Rattle.pv_cert.specs.CertificateText.{FailsAt, IsTextOf, IsUnlessNoMemory, IsWritable, IsWritableNext, IsWritableProof, asks_next, certificate_text};
 
 use pv_cert::{Certificate, Proof, Proofs};
-use pv_claims::{CertFault, Claim, Stop, Trace};
+use pv_claims::CertFault;
 use std::alloc::{AllocError, Global};
-
-/// [`pv_claims::cut_line`].
-pub fn cut_line(text: &[u8]) -> Option<(&[u8], &[u8])>
-    ensures found { IfSome result (λ cut. NoFeed cut.0.now × (text.now ≡ cut.0.now ++ 10 ∷ cut.1.now)) }
-    ensures none { IfNone result (NoFeed text.now) }
-{
-    pv_claims::cut_line(text)
-}
-
-/// [`pv_claims::read_trace_part`].
-pub fn read_trace_part(
-    alloc: Global,
-    claim: Claim,
-    text: &[u8],
-) -> Result<(Option<Trace>, &[u8]), Stop>
-    ensures ok { IfOk result (λ cut. HasTrace (trace_form claim) cut.0
-        × (text.now ≡ text_of_lines (trace_lines cut.0) ++ cut.1.now)) }
-    ensures stuck { IfErr result (StopsAt (Option Trace) (HasTrace (trace_form claim)) trace_lines text.now) }
-{
-    pv_claims::read_trace_part(alloc, claim, text)
-}
 
 /// [`pv_cert::read`].
 pub fn read(alloc: Global, bytes: &[u8]) -> Result<Certificate, CertFault>

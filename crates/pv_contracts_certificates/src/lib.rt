@@ -1,4 +1,4 @@
-//! Contract tests of pv_claims, pv_cert, pv_trace and pv_recheck: each call once more, with the clauses of its library.
+//! Contract tests of pv_cert, pv_trace and pv_recheck: each call once more, with the clauses of its library.
 #![tactic(auto)]
 
 pub mod certificates;

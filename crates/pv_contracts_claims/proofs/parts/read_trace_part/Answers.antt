@@ -1,4 +1,4 @@
-use Rattle.pv_contracts_certificates.proofs.certificates.read_trace_part.Goals as goal
+use Rattle.pv_contracts_claims.proofs.parts.read_trace_part.Goals as goal
 
 pub returns-clause-ok : goal.returns-clause-ok
 returns-clause-ok c = c.read_trace_part.ensures.ok

@@ -1,4 +1,4 @@
-use Rattle.pv_contracts_certificates.proofs.certificates.cut_line.Goals as goal
+use Rattle.pv_contracts_claims.proofs.texts.cut_line.Goals as goal
 
 pub returns-clause-found : goal.returns-clause-found
 returns-clause-found c = c.cut_line.ensures.found
