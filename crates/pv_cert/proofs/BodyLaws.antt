@@ -1,16 +1,15 @@
 -- The proofs of a certificate and what stands behind them.
-use Rattle.std.proofs.Common.{◌≡◌, ℕ, ◌+◌, ◌<◌, ◌==◌, Bool, true, false, List, [], ◌∷◌, ◌++◌, length, get_or, append_assoc, append-nil, length-append, arith, refl, ap, subst, ◌∙◌, sym, Option, Some, None}
+use Rattle.std.proofs.Common.{◌≡◌, ℕ, ◌<◌, ◌==◌, Bool, true, false, List, [], ◌∷◌, ◌++◌, length, get_or, append_assoc, append-nil, length-append, arith, refl, ap, subst, ◌∙◌, sym, Option, Some, None}
 use Rattle.std.specs.Prelude.{codes}
 use Rattle.std.specs.List.{flat_map, AllByRecursion}
 use Rattle.std.proofs.lemmas.Bool.{false≢true}
 use Rattle.std.proofs.lemmas.Grind.{flat_map-append}
-use Rattle.std.proofs.lemmas.List.{append_cancel_left}
 use Rattle.pv_log.specs.declared.line.Line.{Line}
 use Rattle.pv_log.specs.LineText.{line_text, HasText}
 use Rattle.pv_claims.specs.declared.stop.Stop.{Stop}
 use Rattle.pv_claims.specs.declared.stop.Stop.TheVariants.{Left, NoMemory}
 use Rattle.pv_claims.specs.Lines.{text_of_lines, NoFeed, StuckAt, StopsAt}
-use Rattle.pv_claims.proofs.ForCallers.{all-append, head, tail, plain, text-append, text-more, text-first, HasPart, IsPart, IsFree, IsOne, stops-within, one-free, one-then}
+use Rattle.pv_claims.proofs.ForCallers.{all-append, head, tail, plain, text-append, text-more, text-first, IsPart, IsOne, stops-within, one-free, one-then}
 use Rattle.pv_cert.specs.declared.proof.Query.{Query}
 use Rattle.pv_cert.specs.declared.proof.Proof.{Proof}
 use Rattle.pv_cert.specs.CertificateText.{query_line, proof_lines, tail_lines, QueryFits, HasProofText, HasNext}

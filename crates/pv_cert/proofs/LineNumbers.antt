@@ -1,8 +1,8 @@
 -- The number of a line, told by the bytes that are left at its beginning.
-use Rattle.std.proofs.Common.{◌≡◌, ℕ, ◌+◌, ◌<◌, ◌≤◌, List, [], ◌∷◌, ◌++◌, length, append_assoc, append-nil, length-append, refl, ap, ◌∙◌, sym, arith}
+use Rattle.std.proofs.Common.{◌≡◌, ℕ, ◌+◌, ◌<◌, List, [], ◌∷◌, ◌++◌, length, append_assoc, append-nil, length-append, refl, ap, ◌∙◌, sym, arith}
 use Rattle.std.specs.List.{AllByRecursion}
 use Rattle.pv_claims.specs.Lines.{text_of_lines, NoFeed}
-use Rattle.pv_claims.proofs.ForCallers.{all-behind, onto, cut-one, no-feed}
+use Rattle.pv_claims.proofs.ForCallers.{onto, cut-one, no-feed}
 
 -- where some lines of a front are passed
 pub record Passed (before : List (List ℕ)) (behind rest : List ℕ) (line : ℕ) : Type 0 where

@@ -1,5 +1,5 @@
 -- What the readers of single lines answer, and that each line says one thing.
-use Rattle.std.proofs.Common.{◌≡◌, ℕ, ◌^◌, ◌<◌, ◌==◌, true, false, List, [], ◌∷◌, ◌++◌, get_or, drop, refl, ap, ◌∙◌, sym, arith, inl, inr, Option, Some, None, MatchOption}
+use Rattle.std.proofs.Common.{◌≡◌, ℕ, ◌^◌, ◌<◌, ◌==◌, true, false, List, ◌∷◌, ◌++◌, get_or, drop, refl, ap, ◌∙◌, sym, arith}
 use Rattle.std.specs.Prelude.{codes}
 use Rattle.std.specs.Fmt.{decimal}
 use Rattle.std.proofs.lemmas.Bool.{false≢true}
@@ -11,8 +11,7 @@ use Rattle.pv_claims.specs.Lines.{NoFeed}
 use Rattle.pv_claims.proofs.ForCallers.{cut-one, no-feed}
 use Rattle.pv_cert.specs.declared.proof.Query.{Query}
 use Rattle.pv_cert.specs.declared.proof.Query.TheVariants.{Base, Step}
-use Rattle.pv_cert.specs.CertificateText.{query_line, log_line, QueryFits}
-use Rattle.pv_cert.proofs.Texts.{feedless-query, feedless-count}
+use Rattle.pv_cert.specs.CertificateText.{query_line, QueryFits}
 
 -- ---- lines of any kind
 

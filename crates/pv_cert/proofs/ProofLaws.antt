@@ -1,14 +1,12 @@
 -- Logs and proofs: what stops within them, and that their lines say one thing.
 use Rattle.std.proofs.Common.{◌≡◌, ℕ, ◌+◌, ◌^◌, ◌<◌, List, [], ◌∷◌, ◌++◌, length, drop, map, append_assoc, append-nil, refl, ap, subst, ◌∙◌, sym, arith}
-use Rattle.std.specs.Prelude.{codes}
 use Rattle.std.specs.List.{AllByRecursion}
-use Rattle.std.specs.Fmt.{decimal}
 use Rattle.std.proofs.lemmas.List.{map-append}
 use Rattle.pv_log.specs.declared.line.Line.{Line}
 use Rattle.pv_log.specs.LineText.{line_text, HasText}
 use Rattle.pv_claims.specs.declared.stop.Stop.{Stop}
-use Rattle.pv_claims.specs.Lines.{text_of_lines, NoFeed, StuckAt, StopsAt, HasMany}
-use Rattle.pv_claims.proofs.ForCallers.{all-append, head, tail, text-append, text-more, text-first, HasPart, IsPart, IsFree, IsOne, stops-within, many-stuck, many-free, many-one}
+use Rattle.pv_claims.specs.Lines.{text_of_lines, StuckAt, StopsAt, HasMany}
+use Rattle.pv_claims.proofs.ForCallers.{all-append, head, tail, text-append, text-more, text-first, IsFree, IsOne, stops-within, many-stuck, many-free, many-one}
 use Rattle.pv_cert.specs.declared.proof.Query.{Query}
 use Rattle.pv_cert.specs.declared.proof.Chain.{Chain}
 use Rattle.pv_cert.specs.declared.proof.Proof.{Proof}

@@ -1,7 +1,7 @@
 -- The parts of a certificate joined to the whole, and where a text fails as one.
-use Rattle.std.proofs.Common.{◌≡◌, ℕ, zero, suc, ◌+◌, ◌<◌, ◌≤◌, List, [], ◌∷◌, ◌++◌, length, append_assoc, append-nil, length-append, refl, ap, subst, ◌∙◌, sym, arith, inl, inr, Option, Some, None, Result, Ok, Err}
+use Rattle.std.proofs.Common.{◌≡◌, ℕ, ◌+◌, ◌<◌, List, [], ◌∷◌, ◌++◌, length, append_assoc, append-nil, refl, ap, subst, ◌∙◌, sym, arith, inl, inr, Option, None, Result, Ok, Err}
 use Rattle.std.specs.Prelude.{IfOk, IfErr}
-use Rattle.std.specs.List.{flat_map, AllByRecursion}
+use Rattle.std.specs.List.{AllByRecursion}
 use Rattle.std.proofs.lemmas.Bool.{cases_order}
 use Rattle.pv_log.specs.declared.line.Line.{Line}
 use Rattle.pv_claims.specs.declared.claim.Claim.{Claim}
@@ -15,11 +15,10 @@ use Rattle.pv_claims.specs.declared.fault.CertFault.TheVariants.{NotACertificate
 use Rattle.pv_claims.specs.Lines.{text_of_lines, NoFeed, StuckAt, StopsAt}
 use Rattle.pv_claims.specs.Heads.{head_lines, ClaimFits}
 use Rattle.pv_claims.specs.TracePart.{trace_form, HasTrace, trace_lines}
-use Rattle.pv_claims.proofs.ForCallers.{all-append, all-behind, onto, not-empty, IsCut, cut-short, cut-lines, text-append, text-push, no-lines, HasPart, IsPart, IsFree, IsOne, stops-within, one-free, head-plain, head-one, trace-plain, one-trace, some-trace}
-use Rattle.pv_cert.specs.declared.proof.Query.{Query}
+use Rattle.pv_claims.proofs.ForCallers.{all-append, all-behind, onto, not-empty, IsCut, cut-short, cut-lines, text-append, text-push, IsFree, IsOne, stops-within, one-free, head-plain, head-one, trace-plain, one-trace, some-trace}
 use Rattle.pv_cert.specs.declared.proof.Proof.{Proof}
 use Rattle.pv_cert.specs.declared.certificate.Certificate.{Certificate}
-use Rattle.pv_cert.specs.CertificateText.{proof_lines, asks_next, tail_lines, certificate_lines, certificate_text, satisfied_by, HasProofText, HasNext, HasCertificateText, IsTextOf, BeginsOne, FailsAt, IsWritable, IsUnlessNoMemory}
+use Rattle.pv_cert.specs.CertificateText.{asks_next, certificate_lines, certificate_text, satisfied_by, HasNext, HasCertificateText, IsTextOf, BeginsOne, FailsAt, IsWritable, IsUnlessNoMemory}
 use Rattle.pv_cert.specs.Reading.{Body, HasBody, body_lines, HasClaim, lines_behind_head, StopsWith, Reads}
 use Rattle.pv_cert.proofs.Texts.{feedless}
 use Rattle.pv_cert.proofs.BodyLaws.{no-next, one-body}

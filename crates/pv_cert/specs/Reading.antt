@@ -1,5 +1,5 @@
 -- The parts of a certificate, as they are read. No clause of other crates cites these.
-use Rattle.std.specs.Prelude.{◌≡◌, ℕ, ◌<◌, Bool, List, [], ◌∷◌, ◌++◌, length, map, codes, Option, Result, Ok, Err}
+use Rattle.std.specs.Prelude.{◌≡◌, ℕ, Bool, List, ◌∷◌, ◌++◌, length, map, codes, Option, Result, Ok, Err}
 use Rattle.std.specs.List.{flat_map, AllByRecursion}
 use Rattle.pv_log.specs.declared.line.Line.{Line}
 use Rattle.pv_log.specs.LineText.{line_text}

@@ -1,5 +1,5 @@
 -- The head of a certificate. A claim is told by its word and its number (`made_of`), so that no two claims are compared case by case.
-use Rattle.std.proofs.Common.{◌≡◌, ℕ, ◌+◌, ◌^◌, ◌<◌, ◌==◌, Bool, true, false, cond, List, [], ◌∷◌, ◌++◌, length, get_or, append_assoc, append-nil, refl, ap, subst, ◌∙◌, sym, arith, Option, Some, None}
+use Rattle.std.proofs.Common.{◌≡◌, ℕ, ◌^◌, ◌<◌, ◌==◌, cond, List, [], ◌∷◌, ◌++◌, length, get_or, append_assoc, append-nil, refl, ap, subst, ◌∙◌, sym, arith, Option, Some, None}
 use Rattle.std.specs.Prelude.{codes, IfNone}
 use Rattle.std.specs.List.{AllByRecursion}
 use Rattle.std.specs.Fmt.{decimal}
@@ -9,8 +9,8 @@ use Rattle.pv_claims.specs.declared.claim.Claim.TheVariants.{Satisfied, Unreacha
 use Rattle.pv_claims.specs.Words.{NoBlank}
 use Rattle.pv_claims.specs.Lines.{text_of_lines, NoFeed, StuckAt}
 use Rattle.pv_claims.specs.Heads.{claim_text, verdict_line, head_lines, ClaimFits}
-use Rattle.pv_claims.proofs.LineLaws.{plain, feedless-append, feedless-decimal, head, tail, cut-one, no-feed, onto, text-first}
-use Rattle.pv_claims.proofs.WordLaws.{cut-word, blankless-decimal}
+use Rattle.pv_claims.proofs.LineLaws.{plain, feedless-append, feedless-decimal, head, tail, cut-one, no-feed, text-first}
+use Rattle.pv_claims.proofs.WordLaws.{cut-word}
 use Rattle.pv_claims.proofs.NumberLaws.{cancel}
 use Rattle.pv_claims.proofs.PartLaws.{IsOne, one-then}
 

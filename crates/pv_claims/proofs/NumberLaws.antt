@@ -1,6 +1,6 @@
 -- Numbers in a text: `from_utf8`, `from_str_radix`, then compare with what `itoa` writes. `parse-decimal` and the law for signed ones give
 -- the refusals, so no fold over digits is proved.
-use Rattle.std.proofs.Common.{◌≡◌, ℕ, zero, suc, ◌+◌, ◌^◌, ◌<◌, ◌≤◌, ℤ, pos, negsuc, List, [], ◌∷◌, ◌++◌, length, drop, refl, ap, subst, ◌∙◌, sym, arith, Option, Some, None, Result, Ok, Err, Bor}
+use Rattle.std.proofs.Common.{◌≡◌, ℕ, zero, suc, ◌+◌, ◌^◌, ◌<◌, ◌≤◌, ℤ, pos, negsuc, List, [], ◌∷◌, ◌++◌, drop, refl, ap, subst, ◌∙◌, sym, arith, Option, Some, None, Result, Ok, Err, Bor}
 use Rattle.std.specs.Prelude.{IfSome, IfNone, FitsSigned, neg_ℤ}
 use Rattle.std.specs.Int.{w128}
 use Rattle.std.specs.Int.Signed.{mag}

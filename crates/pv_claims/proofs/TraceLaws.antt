@@ -1,5 +1,5 @@
 -- The trace part of a certificate.
-use Rattle.std.proofs.Common.{◌≡◌, ℕ, ◌+◌, ◌<◌, ◌==◌, ℤ, Bool, true, false, List, [], ◌∷◌, ◌++◌, length, get_or, map, append_assoc, append-nil, refl, ap, subst, ◌∙◌, sym, arith, Option, Some, None}
+use Rattle.std.proofs.Common.{◌≡◌, ℕ, ◌+◌, ◌<◌, ◌==◌, ℤ, Bool, true, false, List, [], ◌∷◌, ◌++◌, length, get_or, map, append_assoc, append-nil, refl, ap, ◌∙◌, sym, arith, Option, Some, None}
 use Rattle.std.specs.Prelude.{codes}
 use Rattle.std.specs.List.{AllByRecursion}
 use Rattle.std.proofs.lemmas.Bool.{false≢true}
@@ -8,11 +8,11 @@ use Rattle.pv_claims.specs.declared.claim.TraceForm.TheVariants.{Nothing, Run, S
 use Rattle.pv_claims.specs.declared.trace.Trace.{Trace}
 use Rattle.pv_claims.specs.declared.stop.Stop.{Stop}
 use Rattle.pv_claims.specs.Lines.{text_of_lines, NoFeed, StuckAt, StopsAt, HasMany}
-use Rattle.pv_claims.specs.TracePart.{IsRun, IsStretch, HasForm, AllFit, BeginFits, TraceFits, HasTrace, values_text, params_line, image_line, scan_line, prev_line, begin_lines, trace_lines}
+use Rattle.pv_claims.specs.TracePart.{AllFit, BeginFits, HasTrace, values_text, params_line, image_line, scan_line, prev_line, begin_lines, trace_lines}
 use Rattle.pv_claims.proofs.LineLaws.{all-append, plain, feedless-append, head, tail, text-append, text-more, text-first}
 use Rattle.pv_claims.proofs.NumberLaws.{cancel}
 use Rattle.pv_claims.proofs.ValueLaws.{values-plain, values-one}
-use Rattle.pv_claims.proofs.PartLaws.{copies, long-copies, all-copies, HasPart, IsPart, IsFree, IsOne, stops-within, many-plain, many-stuck, many-free, many-one, one-then}
+use Rattle.pv_claims.proofs.PartLaws.{copies, long-copies, all-copies, IsOne, stops-within, many-plain, many-stuck, many-free, many-one, one-then}
 
 -- ---- lines of values
 

@@ -1,9 +1,8 @@
 -- The values of a line.
-use Rattle.std.proofs.Common.{◌≡◌, ℕ, ◌+◌, ◌<◌, ℤ, List, [], ◌∷◌, ◌++◌, length, append_assoc, append-nil, refl, ap, subst, ◌∙◌, sym, arith, Option, Some, None, MatchOption}
+use Rattle.std.proofs.Common.{◌≡◌, ℕ, ◌<◌, ℤ, List, [], ◌∷◌, ◌++◌, length, append_assoc, append-nil, refl, ap, subst, ◌∙◌, sym, arith, Option, Some, None, MatchOption}
 use Rattle.std.specs.Prelude.{codes, FitsSigned}
 use Rattle.std.specs.Int.{w128}
 use Rattle.std.specs.Fmt.{signed_decimal}
-use Rattle.std.proofs.lemmas.List.{append_cancel_left}
 use Rattle.pv_claims.specs.Words.{NoBlank, EndsWord}
 use Rattle.pv_claims.specs.Lines.{NoFeed}
 use Rattle.pv_claims.specs.TracePart.{AllFit, values_text}

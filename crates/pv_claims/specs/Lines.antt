@@ -1,5 +1,5 @@
 -- Texts of lines, and the line at which a text stops to be one of some kind.
-use Rattle.std.specs.Prelude.{◌≡◌, ℕ, List, [], ◌∷◌, ◌++◌, length, codes}
+use Rattle.std.specs.Prelude.{◌≡◌, ℕ, List, ◌∷◌, ◌++◌, length, codes}
 use Rattle.std.specs.List.{flat_map, AllByRecursion}
 use Rattle.pv_claims.specs.declared.stop.Stop.{Stop}
 use Rattle.pv_claims.specs.declared.stop.Stop.TheVariants.{Left, NoMemory}

@@ -31,16 +31,16 @@ other_claim c fits other e = other (one-claim c (Satisfied 0) fits (omega arith)
 
 -- a claim whose verdict can't be another one
 claim_by : (c : Claim) → ClaimFits c → ((verdict_line c ≡ codes "verdict satisfied 0" → ⊥) → ⊥) → c ≡ Satisfied 0
-claim_by (Satisfied zero) fits no = refl
-claim_by (Satisfied (suc k)) fits no = absurd (no (other_claim (Satisfied (suc k)) fits (λ e. cc)))
-claim_by (Unreachable k) fits no = absurd (no (other_claim (Unreachable k) fits (λ e. cc)))
-claim_by (Violated n) fits no = absurd (no (other_claim (Violated n) fits (λ e. cc)))
-claim_by (Trapped n) fits no = absurd (no (other_claim (Trapped n) fits (λ e. cc)))
-claim_by (Reached n) fits no = absurd (no (other_claim (Reached n) fits (λ e. cc)))
-claim_by (Depth k) fits no = absurd (no (other_claim (Depth k) fits (λ e. cc)))
-claim_by (Loop n) fits no = absurd (no (other_claim (Loop n) fits (λ e. cc)))
-claim_by (Lemmas b) fits no = absurd (no (other_claim (Lemmas b) fits (λ e. cc)))
-claim_by (Region x) fits no = absurd (no (other_claim (Region x) fits (λ e. cc)))
+claim_by (Satisfied zero) fits never = refl
+claim_by (Satisfied (suc k)) fits never = absurd (never (other_claim (Satisfied (suc k)) fits (λ e. cc)))
+claim_by (Unreachable k) fits never = absurd (never (other_claim (Unreachable k) fits (λ e. cc)))
+claim_by (Violated n) fits never = absurd (never (other_claim (Violated n) fits (λ e. cc)))
+claim_by (Trapped n) fits never = absurd (never (other_claim (Trapped n) fits (λ e. cc)))
+claim_by (Reached n) fits never = absurd (never (other_claim (Reached n) fits (λ e. cc)))
+claim_by (Depth k) fits never = absurd (never (other_claim (Depth k) fits (λ e. cc)))
+claim_by (Loop n) fits never = absurd (never (other_claim (Loop n) fits (λ e. cc)))
+claim_by (Lemmas b) fits never = absurd (never (other_claim (Lemmas b) fits (λ e. cc)))
+claim_by (Region x) fits never = absurd (never (other_claim (Region x) fits (λ e. cc)))
 
 -- a certificate of a form that is read claims 'satisfied' with k = 0
 claim_of : (bytes : List ℕ) (c : Certificate) → (IsUnbuilt bytes → ⊥) → IsTextOf bytes c → c.claim ≡ Satisfied 0

@@ -1,4 +1,4 @@
-use Rattle.std.proofs.Common.{◌≡◌, ◌+◌, ◌-◌, ◌++◌, ◌∷◌, [], ◌<◌, length, length-append, arith, rules}
+use Rattle.std.proofs.Common.{◌∷◌, [], ◌<◌, length-append, arith, rules}
 use Rattle.pv_claims.proofs.ForCallers.{at-none, at-some}
 use Rattle.pv_cert.proofs.ProofLaws.{log-stuck, log-more, log-fit}
 use Rattle.pv_cert.proofs.logs.log_lines.Goals as goal

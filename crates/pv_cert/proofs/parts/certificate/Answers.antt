@@ -1,4 +1,3 @@
-use Rattle.std.proofs.Common.{Result}
 use Rattle.std.proofs.lemmas.Result.{IfOk-weaker}
 use Rattle.pv_claims.proofs.ForCallers.{passed}
 use Rattle.pv_cert.proofs.Wholes.{head-within, shown-within, whole-read, stops-on}

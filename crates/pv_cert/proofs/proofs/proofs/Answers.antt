@@ -1,4 +1,3 @@
-use Rattle.std.proofs.Common.{◌<◌, length, rules, arith}
 use Rattle.pv_claims.proofs.ForCallers.{passed}
 use Rattle.pv_cert.proofs.BodyLaws.{proof-within, body-under, proofs-fit, proofs-more, proof-shorter}
 use Rattle.pv_cert.proofs.proofs.proofs.Goals as goal

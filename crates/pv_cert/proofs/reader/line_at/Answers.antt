@@ -1,4 +1,4 @@
-use Rattle.std.proofs.Common.{◌<◌, ◌≤◌, ◌+◌, ◌∷◌, length, length-append, ap, arith, rules}
+use Rattle.std.proofs.Common.{◌<◌, ◌∷◌, length, length-append, ap, arith, rules}
 use Rattle.pv_cert.proofs.LineNumbers.{standing-next, standing-last, standing-on}
 use Rattle.pv_cert.proofs.reader.line_at.Goals as goal
 

@@ -1,4 +1,3 @@
-use Rattle.std.proofs.Common.{Option, Some, None}
 use Rattle.pv_claims.proofs.HeadLaws.{verdict-none}
 use Rattle.pv_claims.proofs.heads.claim_in.Goals as goal
 

@@ -1,4 +1,4 @@
-use Rattle.std.proofs.Common.{◌≤◌, ◌<◌, ◌^◌, arith, rules}
+use Rattle.std.proofs.Common.{◌<◌, ◌^◌, arith, rules}
 use Rattle.pv_claims.proofs.NumberLaws.{too-wide}
 use Rattle.pv_claims.proofs.numbers.number.Goals as goal
 

@@ -1,7 +1,4 @@
-use Rattle.std.proofs.Common.{◌≡◌, ◌+◌, ◌-◌, ◌++◌, ◌∷◌, [], ◌<◌, length, length-append, arith, rules}
-use Rattle.std.specs.Prelude.{codes}
-use Rattle.pv_claims.specs.Lines.{NoFeed}
-use Rattle.pv_claims.proofs.LineLaws.{plain}
+use Rattle.std.proofs.Common.{◌∷◌, [], ◌<◌, length-append, arith, rules}
 use Rattle.pv_claims.proofs.PartLaws.{at-none, at-some}
 use Rattle.pv_claims.proofs.TraceLaws.{scans-stuck, scans-more, scans-fit}
 use Rattle.pv_claims.proofs.traces.scans.Goals as goal
