@@ -1,7 +1,9 @@
 pub mod Texts
 pub mod Chains
 pub mod Parsing
-pub mod Steps
-pub mod Whole
+pub mod ProofLaws
+pub mod BodyLaws
+pub mod Wholes
+pub mod LineNumbers
 pub mod Writable
 pub mod ForCallers

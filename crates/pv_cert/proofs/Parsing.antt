@@ -1,57 +1,63 @@
--- What the readers of single texts answer.
---
--- Numbers in a text: `from_utf8`, `from_str_radix`, then compare with what `itoa` writes. `parse-decimal` and `IsAscii-decimal` give the
--- refusals, so no fold over digits is proved.
-use Rattle.std.proofs.Common.{◌≡◌, ℕ, zero, suc, ◌+◌, ◌^◌, ◌<◌, List, [], ◌∷◌, ◌++◌, length, get_or, take, drop, ap, subst, ◌∙◌, sym, arith, Option, Some, None, Result, Ok, Err, Bor}
-use Rattle.std.specs.Prelude.{codes, IfSome, IfNone}
-use Rattle.std.specs.Result.{MatchResult, result_ok}
+-- What the readers of single lines answer, and that each line says one thing.
+use Rattle.std.proofs.Common.{◌≡◌, ℕ, ◌^◌, ◌<◌, ◌==◌, true, false, List, ◌∷◌, ◌++◌, get_or, drop, refl, ap, ◌∙◌, sym, arith}
+use Rattle.std.specs.Prelude.{codes}
 use Rattle.std.specs.Fmt.{decimal}
-use Rattle.std.specs.Str.{IsUtf8}
-use Rattle.std.specs.Str.Parse.{ParsesUnsigned}
-use Rattle.std.proofs.lemmas.Fmt.{parse-decimal, IsAscii-decimal}
-use Rattle.std.proofs.lemmas.Str.{IsUtf8-from_ascii}
+use Rattle.std.proofs.lemmas.Bool.{false≢true}
+use Rattle.std.proofs.lemmas.Fmt.{decimal_injective}
+use Rattle.pv_log.specs.declared.line.Line.{Line}
+use Rattle.pv_log.specs.LineText.{line_text, HasText, Spells}
+use Rattle.pv_log.proofs.ForCallers.{one-line}
+use Rattle.pv_claims.specs.Lines.{NoFeed}
+use Rattle.pv_claims.proofs.ForCallers.{cut-one, no-feed}
 use Rattle.pv_cert.specs.declared.proof.Query.{Query}
 use Rattle.pv_cert.specs.declared.proof.Query.TheVariants.{Base, Step}
 use Rattle.pv_cert.specs.CertificateText.{query_line, QueryFits}
 
--- a text around one of its bytes
-around : (at byte : ℕ) (text : List ℕ) → at < length text → get_or text at 0 ≡ byte → text ≡ take at text ++ byte ∷ drop (suc at) text
-around at byte [] lt e = absurd (omega arith)
-around zero byte (x ∷ xs) lt e = ap (λ z. z ∷ xs) e
-around (suc at) byte (x ∷ xs) lt e = ap (λ zs. x ∷ zs) (around at byte xs (omega arith) e)
+-- ---- lines of any kind
 
-pub cut-at : (at : ℕ) (text front back : List ℕ) → at < length text → get_or text at 0 ≡ 10 → front ≡ take at text → back ≡ drop (at + 1) text → text ≡ front ++ 10 ∷ back
-cut-at at text front back lt e f b =
-    let next : at + 1 ≡ suc at = omega arith in
-    around at 10 text lt e ∙ ap (λ t. t ++ 10 ∷ drop (suc at) text) (sym f) ∙ ap (λ t. front ++ 10 ∷ t) (ap (λ n. drop n text) (sym next) ∙ sym b)
+-- there is no line
+pub no-line : {X : Type 0} (Has : X → Type 0) (line_of : X → List ℕ) (text : List ℕ) → NoFeed text → (x : X) (after : List ℕ) → Has x → text ≡ line_of x ++ 10 ∷ after → ⊥
+no-line Has line_of text plain x after h e = no-feed text (line_of x) after plain e
 
-pub cancel : (front xs ys : List ℕ) → front ++ xs ≡ front ++ ys → xs ≡ ys
-cancel [] xs ys e = e
-cancel (x ∷ front) xs ys e = cancel front xs ys (ap (drop 1) e)
+-- the line is another one
+pub other-line : {X : Type 0} (Has : X → Type 0) (line_of : X → List ℕ) → ((x : X) → Has x → NoFeed (line_of x)) → (text line behind : List ℕ) → NoFeed line → text ≡ line ++ 10 ∷ behind
+    → ((x : X) → Has x → line ≡ line_of x → ⊥) → (x : X) (after : List ℕ) → Has x → text ≡ line_of x ++ 10 ∷ after → ⊥
+other-line Has line_of feedless text line behind plain e never x after h f = never x h (cut-one line (line_of x) behind after plain (feedless x h) (sym e ∙ f)).0
 
--- digits are text, and text is what it was
-pub utf8-fails : {E : Type 0} (X : E → Type 0) (text : List ℕ) (r : Result (Bor (List ℕ)) E) → MatchResult r (λ s. (s.now ≡ text) × IsUtf8 text) (λ e. (IsUtf8 text → ⊥) × X e) → result_ok r ≡ None → (n : ℕ) → n < 2 ^ 32 → text ≡ decimal n → ⊥
-utf8-fails X text (Ok s) h e n small q = absurd cc
-utf8-fails X text (Err d) h e n small q = h.0 (subst IsUtf8 (sym q) (IsUtf8-from_ascii (decimal n) (IsAscii-decimal n (omega arith))))
+pub that-line : {X : Type 0} (Has : X → Type 0) (line_of : X → List ℕ) (text line behind : List ℕ) (x : X) → text ≡ line ++ 10 ∷ behind → Has x × (line ≡ line_of x) → Has x × (text ≡ line_of x ++ 10 ∷ behind)
+that-line Has line_of text line behind x e h = (h.0, e ∙ ap (λ l. l ++ 10 ∷ behind) h.1)
 
-pub utf8-same : {E : Type 0} (X : E → Type 0) (text : List ℕ) (r : Result (Bor (List ℕ)) E) (s : Bor (List ℕ)) → MatchResult r (λ s. (s.now ≡ text) × IsUtf8 text) (λ e. (IsUtf8 text → ⊥) × X e) → result_ok r ≡ Some s → s.now ≡ text
-utf8-same X text (Ok t) s h e = (let same : t ≡ s = cc in subst (λ (b : Bor (List ℕ)). b.now ≡ text) same h.0)
-utf8-same X text (Err d) s h e = absurd cc
-
-pub parse-fails : {E : Type 0} (t text : List ℕ) (r : Result ℕ E) → ParsesUnsigned 32 10 t r → t ≡ text → IfNone (result_ok r) ((n : ℕ) → n < 2 ^ 32 → text ≡ decimal n → ⊥)
-parse-fails t text (Ok v) h same = tt
-parse-fails {E} t text (Err d) h same = λ n small q. (let r : Err d ≡ Ok n = parse-decimal {E = E} 32 n t (Err d) small (omega arith) (same ∙ q) h in absurd cc)
-
-pub parse-gives : {E : Type 0} (t text : List ℕ) (r : Result ℕ E) → ParsesUnsigned 32 10 t r → t ≡ text → IfSome (result_ok r) (λ v. (n : ℕ) → n < 2 ^ 32 → text ≡ decimal n → v ≡ n)
-parse-gives {E} t text (Ok v) h same = λ n small q. (let r : Ok v ≡ Ok n = parse-decimal {E = E} 32 n t (Ok v) small (omega arith) (same ∙ q) h in cc)
-parse-gives t text (Err d) h same = tt
-
--- no number behind a prefix
-pub behind : (text front rest : List ℕ) (o : Option ℕ) → text ≡ front ++ rest → IfNone o ((n : ℕ) → n < 2 ^ 32 → rest ≡ decimal n → ⊥) → IfNone o ((n : ℕ) → n < 2 ^ 32 → text ≡ front ++ decimal n → ⊥)
-behind text front rest None e h = λ n small q. h n small (cancel front rest (decimal n) (sym e ∙ q))
-behind text front rest (Some v) e h = tt
+-- ---- queries
 
 pub no-query : (text : List ℕ) → ((n : ℕ) → n < 2 ^ 32 → text ≡ codes "query base " ++ decimal n → ⊥) → ((n : ℕ) → n < 2 ^ 32 → text ≡ codes "query step " ++ decimal n → ⊥)
     → (query : Query) → QueryFits query → text ≡ query_line query → ⊥
 no-query text base step (Base k) fits e = base k fits e
 no-query text base step (Step k) fits e = step k fits e
+
+pub same-number : (m n : ℕ) → m < 2 ^ 32 → n < 2 ^ 32 → decimal m ≡ decimal n → m ≡ n
+same-number m n a b e = decimal_injective m n (omega (arith, a)) (omega (arith, b)) e
+
+base-or-step : (x y : List ℕ) → codes "query base " ++ x ≡ codes "query step " ++ y → ⊥
+base-or-step x y e = (let differ : true ≡ false = ap (λ l. get_or l 6 0 == 98) e in false≢true (sym differ))
+
+pub same-query : (p q : Query) → QueryFits p → QueryFits q → query_line p ≡ query_line q → p ≡ q
+same-query (Base m) (Base n) a b e = ap (λ k. Base k) (same-number m n a b (ap (drop 11) e))
+same-query (Base m) (Step n) a b e = absurd (base-or-step (decimal m) (decimal n) e)
+same-query (Step m) (Base n) a b e = absurd (base-or-step (decimal n) (decimal m) (sym e))
+same-query (Step m) (Step n) a b e = ap (λ k. Step k) (same-number m n a b (ap (drop 11) e))
+
+-- a line that doesn't begin as a query's is none
+pub begins-not : (line : List ℕ) (q : Query) → (get_or line 0 0 == 113) ≡ false → line ≡ query_line q → ⊥
+begins-not line (Base n) other e = false≢true (sym other ∙ ap (λ l. get_or l 0 0 == 113) e)
+begins-not line (Step n) other e = false≢true (sym other ∙ ap (λ l. get_or l 0 0 == 113) e)
+
+-- ---- lines of a log
+
+pub same-lemma : (a b : Line) → HasText a → HasText b → line_text a ≡ line_text b → a ≡ b
+same-lemma a b h k e = one-line (line_text a) a b (record { valid = h; text = refl }) (record { valid = k; text = e })
+
+pub lemma-never : (text : List ℕ) → ((l : Line) → Spells text l → ⊥) → (l : Line) → HasText l → text ≡ line_text l → ⊥
+lemma-never text never l h e = never l (record { valid = h; text = e })
+
+pub spelled : (text : List ℕ) (l : Line) → Spells text l → HasText l × (text ≡ line_text l)
+spelled text l s = (s.valid, s.text)

@@ -1,21 +1,24 @@
--- The text of a certificate that a pattern is satisfied with k = 0, and which bytes begin one.
-use Rattle.std.specs.Prelude.{◌≡◌, ℕ, ◌+◌, ◌^◌, ◌<◌, false, List, [], ◌∷◌, ◌++◌, length, map, codes, ◌⊎◌, Result, Err, None}
+-- The text of a certificate, and which bytes begin one.
+use Rattle.std.specs.Prelude.{◌≡◌, ℕ, ◌+◌, ◌^◌, ◌<◌, Bool, true, false, List, [], ◌∷◌, ◌++◌, length, map, codes, ◌⊎◌, Option, Some, None, Result, Err}
 use Rattle.std.specs.List.{flat_map, AllByRecursion}
 use Rattle.std.specs.Fmt.{decimal}
+use Rattle.pv_log.specs.declared.line.Line.{Line}
 use Rattle.pv_log.specs.LineText.{line_text, HasText, IsWritable as IsWritableLine}
+use Rattle.pv_claims.specs.declared.claim.Claim.{Claim}
+use Rattle.pv_claims.specs.declared.claim.Claim.TheVariants.{Satisfied, Unreachable, Violated, Trapped, Reached, Depth, Loop, Lemmas, Region}
+use Rattle.pv_claims.specs.declared.fault.CertFault.{CertFault}
+use Rattle.pv_claims.specs.declared.fault.CertFault.TheVariants.{NoMemory}
+use Rattle.pv_claims.specs.Lines.{text_of_lines, NoFeed}
+use Rattle.pv_claims.specs.Heads.{head_lines, ClaimFits}
+use Rattle.pv_claims.specs.TracePart.{trace_form, HasForm, HasTrace, trace_lines}
 use Rattle.pv_cert.specs.ChainText.{chain_line, HasChainText}
 use Rattle.pv_cert.specs.declared.proof.Query.{Query}
 use Rattle.pv_cert.specs.declared.proof.Query.TheVariants.{Base, Step}
 use Rattle.pv_cert.specs.declared.proof.Chain.{Chain}
 use Rattle.pv_cert.specs.declared.proof.Proof.{Proof}
-use Rattle.pv_cert.specs.declared.certificate.Claim.TheVariants.{Satisfied}
 use Rattle.pv_cert.specs.declared.certificate.Certificate.{Certificate}
-use Rattle.pv_cert.specs.declared.fault.CertFault.{CertFault}
-use Rattle.pv_cert.specs.declared.fault.CertFault.TheVariants.{NoMemory}
 
--- lines, each with a line feed behind it
-abbrev pub text_of_lines : List (List ℕ) → List ℕ
-text_of_lines lines = flat_map (λ line. line ++ codes "\n") lines
+-- ---- the lines
 
 -- the line of a query
 abbrev pub query_line : Query → List ℕ
@@ -30,13 +33,32 @@ log_line n = codes "log " ++ decimal n
 abbrev pub proof_lines : Proof → List (List ℕ)
 proof_lines p = query_line p.query ∷ chain_line p.chain ∷ log_line (length p.log) ∷ map line_text p.log
 
--- the lines before the proofs
-abbrev pub head_lines : List (List ℕ)
-head_lines = codes "PLCVCERT 1" ∷ codes "verdict satisfied 0" ∷ []
+-- whether a certificate says which lemma comes next: that of a region does
+abbrev pub asks_next : Claim → Bool
+asks_next (Satisfied k) = false
+asks_next (Unreachable k) = false
+asks_next (Violated n) = false
+asks_next (Trapped n) = false
+asks_next (Reached n) = false
+asks_next (Depth k) = false
+asks_next (Loop n) = false
+asks_next (Lemmas b) = false
+asks_next (Region x) = true
 
--- the lines of a certificate: its proofs between the verdict and the end
+-- the lines of the next lemma, where it is asked for
+abbrev pub next_lines : Bool → Option Line → List (List ℕ)
+next_lines false next = []
+next_lines true None = codes "next none" ∷ []
+next_lines true (Some line) = codes "next" ∷ line_text line ∷ []
+
+-- the lines behind the proofs
+abbrev pub tail_lines : Bool → Option Line → List (List ℕ)
+tail_lines asked next = next_lines asked next ++ codes "end" ∷ []
+
+-- the lines of a certificate: its head, the trace part, the proofs, and what stands behind them
 abbrev pub certificate_lines : Certificate → List (List ℕ)
-certificate_lines c = head_lines ++ (flat_map proof_lines c.proofs ++ codes "end" ∷ [])
+certificate_lines c =
+    head_lines c.claim ++ (trace_lines c.trace ++ (flat_map proof_lines c.proofs ++ tail_lines (asks_next c.claim) c.next))
 
 -- the one text of a certificate
 abbrev pub certificate_text : Certificate → List ℕ
@@ -50,6 +72,8 @@ satisfied_by proofs = record { claim = Satisfied 0; trace = None; proofs = proof
 abbrev pub no_reduction : Chain
 no_reduction = record { constants = false; havoc = []; cone = false }
 
+-- ---- which certificates have a text
+
 -- the number of scans has 32 bits
 abbrev pub QueryFits : Query → Type 0
 QueryFits (Base k) = k < 2 ^ 32
@@ -62,11 +86,17 @@ pub record HasProofText (p : Proof) : Type 0 where
   pub few : length p.log < 2 ^ 32
   pub lines : AllByRecursion HasText p.log
 
+-- a next lemma, or none, is said where it is asked for alone
+abbrev pub HasNext : Bool → Option Line → Type 0
+HasNext false next = next ≡ None
+HasNext true None = Unit {0}
+HasNext true (Some line) = HasText line
+
 -- a certificate that has a text
 pub record HasCertificateText (c : Certificate) : Type 0 where
-  pub claim : c.claim ≡ Satisfied 0
-  pub trace : c.trace ≡ None
-  pub next : c.next ≡ None
+  pub claim : ClaimFits c.claim
+  pub has_trace : HasTrace (trace_form c.claim) c.trace
+  pub has_next : HasNext (asks_next c.claim) c.next
   pub proofs : AllByRecursion HasProofText c.proofs
 
 -- the bytes are the text of this certificate
@@ -74,15 +104,13 @@ pub record IsTextOf (bytes : List ℕ) (c : Certificate) : Type 0 where
   pub valid : HasCertificateText c
   pub text : bytes ≡ certificate_text c
 
+-- ---- where no certificate goes on
+
 -- the text of some certificate begins so
 pub record BeginsOne (front : List ℕ) : Type 0 where
   pub certificate : Certificate
   pub rest : List ℕ
   pub is_text : IsTextOf (front ++ rest) certificate
-
--- the line has no line feed
-abbrev pub NoFeed : List ℕ → Type 0
-NoFeed line = AllByRecursion (λ byte. byte ≡ 10 → ⊥) line
 
 -- The bytes are no certificate's text, and this line, from 1, is the first with which none begins so: the lines
 -- before it begin one, and with the next whole line, if there is one, they don't.
@@ -96,16 +124,22 @@ pub record FailsAt (bytes : List ℕ) (line : ℕ) : Type 0 where
   pub stuck : (next after : List ℕ) → NoFeed next → rest ≡ next ++ 10 ∷ after → BeginsOne (text_of_lines before ++ (next ++ 10 ∷ [])) → ⊥
   pub none : (c : Certificate) → IsTextOf bytes c → ⊥
 
+-- ---- which certificates can be written
+
 -- a proof that can be written
 pub record IsWritableProof (p : Proof) : Type 0 where
   pub chain : HasChainText p.chain
   pub lines : AllByRecursion IsWritableLine p.log
 
+abbrev pub IsWritableNext : Bool → Option Line → Type 0
+IsWritableNext false next = next ≡ None
+IsWritableNext true None = Unit {0}
+IsWritableNext true (Some line) = IsWritableLine line
+
 -- a certificate that can be written
 pub record IsWritable (c : Certificate) : Type 0 where
-  pub claim : c.claim ≡ Satisfied 0
-  pub trace : c.trace ≡ None
-  pub next : c.next ≡ None
+  pub trace : HasForm (trace_form c.claim) c.trace
+  pub next : IsWritableNext (asks_next c.claim) c.next
   pub proofs : AllByRecursion IsWritableProof c.proofs
 
 -- the answer is this one, unless memory ran out

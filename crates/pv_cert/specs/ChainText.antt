@@ -1,6 +1,6 @@
 -- The line of a chain: the word `chain`, and behind it the words for the reductions that it has.
-use Rattle.std.specs.Prelude.{◌≡◌, ℕ, ◌+◌, ◌^◌, ◌<◌, ◌≤◌, Bool, true, false, List, [], ◌∷◌, ◌++◌, codes}
-use Rattle.std.specs.List.{flat_map, AllByRecursion}
+use Rattle.std.specs.Prelude.{ℕ, ◌+◌, ◌^◌, ◌<◌, ◌≤◌, Bool, true, false, List, [], ◌∷◌, ◌++◌, codes}
+use Rattle.std.specs.List.{flat_map}
 use Rattle.std.specs.Fmt.{decimal}
 use Rattle.pv_cert.specs.declared.proof.Chain.{Chain}
 
@@ -35,12 +35,3 @@ RiseFrom least (cell ∷ cells) = (least ≤ cell) × (cell < 2 ^ 32) × RiseFro
 -- the cells of a chain that has a line: their numbers rise
 abbrev pub HasChainText : Chain → Type 0
 HasChainText chain = RiseFrom 0 chain.havoc
-
--- the word has no blank
-abbrev pub NoBlank : List ℕ → Type 0
-NoBlank word = AllByRecursion (λ byte. byte ≡ 32 → ⊥) word
-
--- what may follow a word: nothing, or a blank and more
-abbrev pub EndsWord : List ℕ → Type 0
-EndsWord [] = Unit {0}
-EndsWord (byte ∷ bytes) = byte ≡ 32

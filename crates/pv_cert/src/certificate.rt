@@ -3,33 +3,10 @@ ghost use Rattle.std.specs.Prelude.{◌≡◌, List, [], ◌∷◌, ◌++◌, On
 ghost use Rattle.pv_cert.specs.declared.proof.Proof.{Proof};
 
 use crate::proof::Proof;
-use crate::trace::Trace;
+use pv_claims::{Claim, Trace};
 use pv_log::Line;
 use std::alloc::{AllocError, Global};
 use std::marker::Model;
-
-/// What a certificate claims.
-#[derive(Clone, Copy, Debug, PartialEq, Eq)]
-pub enum Claim {
-    /// The pattern holds at every scan of every run, shown by k-induction with this k.
-    Satisfied(u32),
-    /// No run reaches the pattern, shown by k-induction with this k.
-    Unreachable(u32),
-    /// The pattern fails at this scan of a run, from 1.
-    Violated(u32),
-    /// A run stops with an error at this scan, from 1.
-    Trapped(u32),
-    /// A run reaches the pattern at this scan, from 1.
-    Reached(u32),
-    /// Neither was shown up to this depth.
-    Depth(u32),
-    /// A loop of this scan, from 1, passes the bound on its rounds.
-    Loop(u32),
-    /// So many lemmas were learnt, and then no more were allowed.
-    Lemmas(u32),
-    /// So many words of memory were wanted, more than were allowed.
-    Region(u64),
-}
 
 /// A list of proofs.
 #[derive(Debug, Drop)]

@@ -2,38 +2,13 @@
 ghost use Rattle.std.specs.Prelude.{◌≡◌, ℕ, ◌^◌, ◌<◌, ◌≤◌, false, Bool, List, [], ◌∷◌, ◌++◌, codes, IfOk, IfSome, IfNone, MatchOption};
 ghost use Rattle.std.specs.Fmt.{decimal};
 ghost use Rattle.pv_cert.specs.declared.proof.Chain.{Chain};
-ghost use Rattle.pv_cert.specs.ChainText.{constants_text, cells_text, havoc_text, cone_text, chain_line, RiseFrom, HasChainText, NoBlank, EndsWord};
-ghost use Rattle.pv_cert.specs.CertificateText.{no_reduction};
+ghost use Rattle.pv_claims.specs.Words.{EndsWord};
+ghost use Rattle.pv_cert.specs.ChainText.{constants_text, cells_text, havoc_text, cone_text, chain_line, RiseFrom, HasChainText};
 
-use crate::parts::{number, strip};
 use crate::proof::Chain;
+use pv_claims::{cut_line, cut_word, number, strip};
 use pv_log::Numbers;
 use std::alloc::{AllocError, Global};
-
-/// The chain without words.
-pub(crate) fn no_words(alloc: Global) -> Chain
-    ensures { result ≡ no_reduction }
-{
-    Chain {
-        constants: false,
-        havoc: Numbers::new(alloc),
-        cone: false,
-    }
-}
-
-/// The bytes before the first blank, and the others.
-fn cut_word(text: &[u8]) -> (&[u8], &[u8])
-    ensures word { NoBlank result.0.now }
-    ensures ends { EndsWord result.1.now }
-    ensures cut { text.now ≡ result.0.now ++ result.1.now }
-{
-    for (at, byte) in text.iter().enumerate() {
-        if *byte == b' ' {
-            return text.split_at(at);
-        }
-    }
-    text.split_at(text.len())
-}
 
 /// The number whose text this is, if it isn't below this one.
 fn number_from(text: &[u8], least: u64) -> Option<u32>
@@ -120,7 +95,7 @@ fn cut_constants(text: &[u8]) -> Option<(bool, &[u8])>
 }
 
 /// The chain whose line this is.
-pub(crate) fn chain(alloc: Global, text: &[u8]) -> Result<Option<Chain>, AllocError>
+fn chain(alloc: Global, text: &[u8]) -> Result<Option<Chain>, AllocError>
     ensures { IfOk result (λ chain. MatchOption chain
         ((other : Chain) → HasChainText other → text.now ≡ chain_line other → ⊥)
         (λ chain. HasChainText chain × (text.now ≡ chain_line chain))) }
@@ -137,4 +112,20 @@ pub(crate) fn chain(alloc: Global, text: &[u8]) -> Result<Option<Chain>, AllocEr
         havoc,
         cone,
     }))
+}
+
+/// The chain of the first line, and what follows that.
+pub(crate) fn chain_line(alloc: Global, text: &[u8]) -> Result<Option<(Chain, &[u8])>, AllocError>
+    ensures { IfOk result (λ found. MatchOption found
+        ((other : Chain) (after : List ℕ) → HasChainText other
+        → text.now ≡ chain_line other ++ 10 ∷ after → ⊥)
+        (λ cut. HasChainText cut.0 × (text.now ≡ chain_line cut.0 ++ 10 ∷ cut.1.now))) }
+{
+    let Some((line, after)) = cut_line(text) else {
+        return Ok(None);
+    };
+    match chain(alloc, line)? {
+        Some(chain) => Ok(Some((chain, after))),
+        None => Ok(None),
+    }
 }

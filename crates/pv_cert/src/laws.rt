@@ -5,5 +5,6 @@ ghost use Rattle.pv_cert.specs.CertificateText.{IsTextOf};
 
 /// A law: a text is that of at most one certificate.
 pub fn text_determines_certificate()
-    ensures { (bytes : List ℕ) (certificate other : Certificate) → IsTextOf bytes certificate → IsTextOf bytes other → certificate ≡ other }
+    ensures { (bytes : List ℕ) (certificate other : Certificate) → IsTextOf bytes certificate
+        → IsTextOf bytes other → certificate ≡ other }
 {}

@@ -1,24 +1,24 @@
-//! Certificates: a verdict with the proofs that show it, and their text; and the type of traces.
+//! Certificates: a verdict with what shows it, and their text, both ways.
 //!
-//! The text of a certificate of today is that of the verdict `satisfied 0`.
+//! A text is read part by part: the head and the trace part (`pv_claims`), then the proofs
+//! (`proofs`), then what stands behind them.
 #![tactic(auto)]
 
 mod certificate;
 mod chain;
-mod fault;
 mod laws;
+mod logs;
+mod next;
 mod parts;
 mod proof;
+mod proofs;
+mod query;
 mod reader;
-mod stage;
-mod trace;
 mod writer;
 
-pub use certificate::{Certificate, Claim, Proofs};
-pub use fault::CertFault;
+pub use certificate::{Certificate, Proofs};
 pub use laws::text_determines_certificate;
-pub use parts::cut_line;
 pub use proof::{Chain, Proof, Query};
+pub use pv_claims::{CellValues, CertFault, Claim, Ending, ScanInputs, Trace};
 pub use reader::read;
-pub use trace::{CellValues, Ending, ScanInputs, Trace};
 pub use writer::write;

@@ -1,84 +1,133 @@
-//! What lines consist of.
-ghost use Rattle.std.specs.Prelude.{◌≡◌, ℕ, ◌^◌, ◌<◌, List, ◌∷◌, ◌++◌, IfSome, IfNone, IsTrue, ◌↔◌};
-ghost use Rattle.std.specs.Fmt.{decimal};
-ghost use Rattle.pv_cert.specs.declared.proof.Query.{Query};
-ghost use Rattle.pv_cert.specs.CertificateText.{query_line, QueryFits, NoFeed};
+//! The parts of a certificate, one after the other.
+ghost use Rattle.std.specs.Prelude.{◌≡◌, ◌↔◌, ℕ, List, [], ◌++◌, codes, true, Option, IfOk, IfErr, IsTrue};
+ghost use Rattle.pv_log.specs.declared.line.Line.{Line};
+ghost use Rattle.pv_claims.specs.Lines.{StopsAt, text_of_lines};
+ghost use Rattle.pv_claims.specs.Heads.{ClaimFits};
+ghost use Rattle.pv_cert.specs.declared.certificate.Certificate.{Certificate};
+ghost use Rattle.pv_cert.specs.CertificateText.{HasNext, HasCertificateText, IsTextOf, certificate_lines, tail_lines};
+ghost use Rattle.pv_cert.specs.Reading.{Body, HasBody, HasClaim, IsNoEnd, StopsWith, body_lines, lines_behind_head};
 
-use crate::proof::Query;
-use itoa::Buffer;
+use crate::certificate::{Certificate, Proofs};
+use crate::logs::lemma_line;
+use crate::next::asks_next;
+use crate::proofs::proofs;
+use pv_claims::{Claim, Stop, read_head, read_trace_part, strip};
+use pv_log::Line;
+use std::alloc::Global;
 
-/// The first whole line of a text without its line feed, and what follows that.
-pub fn cut_line(text: &[u8]) -> Option<(&[u8], &[u8])>
-    ensures found { IfSome result (λ cut. NoFeed cut.0.now × (text.now ≡ cut.0.now ++ 10 ∷ cut.1.now)) }
-    ensures none { IfNone result (NoFeed text.now) }
+/// What follows the line `end`.
+fn end(text: &[u8]) -> Result<&[u8], Stop>
+    ensures ok { IfOk result (λ rest. text.now ≡ codes "end\n" ++ rest.now) }
+    ensures stuck { IfErr result (IsNoEnd text.now) }
 {
-    for (at, byte) in text.iter().enumerate() {
-        if *byte == b'\n' {
-            return Some((text.split_at(at).0, text.split_at(at + 1).1));
-        }
+    match strip(text, b"end\n") {
+        Some(rest) => Ok(rest),
+        None => Err(Stop::Left(text.len())),
     }
-    None
 }
 
-/// Whether two texts are the same.
-pub(crate) fn is_same(text: &[u8], other: &[u8]) -> bool
-    ensures { IsTrue result ↔ (text.now ≡ other.now) }
+/// The next lemma behind the line `next`, and what follows the end.
+fn lemma_tail(alloc: Global, text: &[u8]) -> Result<(Option<Line>, &[u8]), Stop>
+    ensures ok { (whole : List ℕ) → whole ≡ codes "next\n" ++ text.now
+        → IfOk result (λ cut. HasNext true cut.0
+        × (whole ≡ text_of_lines (tail_lines true cut.0) ++ cut.1.now)) }
+    ensures stuck { (whole : List ℕ) → whole ≡ codes "next\n" ++ text.now
+        → IfErr result (StopsAt (Option Line) (HasNext true) (tail_lines true) whole) }
 {
-    text == other
+    let Some((line, rest)) = lemma_line(alloc, text)? else {
+        return Err(Stop::Left(text.len()));
+    };
+    let after = end(rest)?;
+    Ok((Some(line), after))
 }
 
-/// What follows the prefix, where the text begins with it.
-pub(crate) fn strip<'a>(text: &'a [u8], prefix: &[u8]) -> Option<&'a [u8]>
-    ensures found { IfSome result (λ rest. text.now ≡ prefix.now ++ rest.now) }
-    ensures none { IfNone result ((rest : List ℕ) → text.now ≡ prefix.now ++ rest → ⊥) }
+/// What stands behind the proofs of a region, up to the end, and what follows that.
+fn region_tail(alloc: Global, text: &[u8]) -> Result<(Option<Line>, &[u8]), Stop>
+    ensures ok { IfOk result (λ cut. HasNext true cut.0
+        × (text.now ≡ text_of_lines (tail_lines true cut.0) ++ cut.1.now)) }
+    ensures stuck { IfErr result (StopsAt (Option Line) (HasNext true) (tail_lines true) text.now) }
 {
-    text.strip_prefix(prefix)
+    if let Some(rest) = strip(text, b"next none\n") {
+        let after = end(rest)?;
+        return Ok((None, after));
+    }
+    match strip(text, b"next\n") {
+        Some(rest) => lemma_tail(alloc, rest),
+        None => Err(Stop::Left(text.len())),
+    }
 }
 
-/// The number that a text of decimal digits parses to, if it fits 32 bits.
-fn parsed(text: &[u8]) -> Option<u32>
-    ensures none { IfNone result ((n : ℕ) → n < 2 ^ 32 → text.now ≡ decimal n → ⊥) }
-    ensures value { IfSome result (λ value. (n : ℕ) → n < 2 ^ 32 → text.now ≡ decimal n → value ≡ n) }
+/// What stands behind the proofs, up to the end, and what follows that.
+fn tail(alloc: Global, region: bool, text: &[u8]) -> Result<(Option<Line>, &[u8]), Stop>
+    ensures ok { IfOk result (λ cut. HasNext region cut.0
+        × (text.now ≡ text_of_lines (tail_lines region cut.0) ++ cut.1.now)) }
+    ensures stuck { IfErr result
+        (StopsAt (Option Line) (HasNext region) (tail_lines region) text.now) }
 {
-    let text = str::from_utf8(text).ok()?;
-    u32::from_str_radix(text, 10).ok()
+    if region {
+        return region_tail(alloc, text);
+    }
+    let after = end(text)?;
+    Ok((None, after))
 }
 
-/// Whether the text is that of this number.
-fn is_text_of(text: &[u8], n: u32) -> bool
-    ensures { IsTrue result ↔ (text.now ≡ decimal n) }
+/// The proofs and what stands behind them.
+fn body(alloc: Global, region: bool, text: &[u8]) -> Result<(Proofs, Option<Line>, &[u8]), Stop>
+    ensures ok { IfOk result (λ cut. HasBody region (cut.0, cut.1)
+        × (text.now ≡ text_of_lines (body_lines region (cut.0, cut.1)) ++ cut.2.now)) }
+    ensures stuck { IfErr result (StopsAt Body (HasBody region) (body_lines region) text.now) }
 {
-    let mut buffer = Buffer::new();
-    is_same(text, buffer.format(n).as_bytes())
+    let (proofs, rest) = proofs(alloc, text)?;
+    let (next, after) = tail(alloc, region, rest)?;
+    Ok((proofs, next, after))
 }
 
-/// The number whose text this is, without needless zeros or a sign.
-pub(crate) fn number(text: &[u8]) -> Option<u32>
-    ensures found { IfSome result (λ n. text.now ≡ decimal n) }
-    ensures none { IfNone result ((n : ℕ) → n < 2 ^ 32 → text.now ≡ decimal n → ⊥) }
+/// A certificate with this claim, whose head was read, and what follows it.
+fn shown(alloc: Global, claim: Claim, text: &[u8]) -> Result<(Certificate, &[u8]), Stop>
+    ensures ok { ClaimFits claim → IfOk result (λ cut. HasClaim claim cut.0
+        × (text.now ≡ text_of_lines (lines_behind_head cut.0) ++ cut.1.now)) }
+    ensures stuck { ClaimFits claim → IfErr result
+        (StopsAt Certificate (HasClaim claim) lines_behind_head text.now) }
 {
-    let n = parsed(text)?;
-    if is_text_of(text, n) { Some(n) } else { None }
+    let (trace, rest) = read_trace_part(alloc, claim, text)?;
+    let (proofs, next, after) = body(alloc, asks_next(claim), rest)?;
+    let certificate = Certificate {
+        claim,
+        trace,
+        proofs,
+        next,
+    };
+    Ok((certificate, after))
 }
 
-/// The number behind a prefix.
-pub(crate) fn number_behind(text: &[u8], prefix: &[u8]) -> Option<u32>
-    ensures found { IfSome result (λ n. text.now ≡ prefix.now ++ decimal n) }
-    ensures none { IfNone result ((n : ℕ) → n < 2 ^ 32 → text.now ≡ prefix.now ++ decimal n → ⊥) }
+/// A certificate, and what follows it.
+fn certificate(alloc: Global, text: &[u8]) -> Result<(Certificate, &[u8]), Stop>
+    ensures ok { IfOk result (λ cut. HasCertificateText cut.0
+        × (text.now ≡ text_of_lines (certificate_lines cut.0) ++ cut.1.now)) }
+    ensures stuck { IfErr result
+        (StopsAt Certificate HasCertificateText certificate_lines text.now) }
 {
-    let rest = strip(text, prefix)?;
-    number(rest)
+    let (claim, rest) = read_head(text)?;
+    shown(alloc, claim, rest)
 }
 
-/// The query whose line this is.
-pub(crate) fn query(text: &[u8]) -> Option<Query>
-    ensures found { IfSome result (λ query. QueryFits query × (text.now ≡ query_line query)) }
-    ensures none { IfNone result ((query : Query) → QueryFits query → text.now ≡ query_line query → ⊥) }
+/// Whether nothing is left.
+fn is_over(rest: &[u8]) -> bool
+    ensures { IsTrue result ↔ (rest.now ≡ []) }
 {
-    if let Some(k) = number_behind(text, b"query base ") {
-        Some(Query::Base(k))
+    rest.is_empty()
+}
+
+/// The certificate of a text with nothing behind it.
+pub(crate) fn whole(alloc: Global, text: &[u8]) -> Result<Certificate, Stop>
+    ensures ok { IfOk result (IsTextOf text.now) }
+    ensures stuck { IfErr result (StopsWith text.now) }
+{
+    let (certificate, rest) = certificate(alloc, text)?;
+    if is_over(rest) {
+        Ok(certificate)
     } else {
-        let k = number_behind(text, b"query step ")?;
-        Some(Query::Step(k))
+        drop(certificate);
+        Err(Stop::Left(rest.len()))
     }
 }

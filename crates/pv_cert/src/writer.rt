@@ -1,21 +1,25 @@
 //! Writing the text of a certificate.
-ghost use Rattle.std.specs.Prelude.{◌≡◌, ◌∷◌, ◌++◌, [], codes, map, length, None, IfOk, OnOk, if◌then◌else◌};
+ghost use Rattle.std.specs.Prelude.{◌≡◌, ◌∷◌, ◌++◌, [], codes, map, length, true, IfOk, OnOk, if◌then◌else◌};
 ghost use Rattle.std.specs.List.{flat_map, AllByRecursion};
 ghost use Rattle.std.specs.Fmt.{decimal};
 ghost use Rattle.pv_log.specs.LineText.{line_text, HasText, IsWritable as IsWritableLine};
-ghost use Rattle.pv_cert.specs.declared.certificate.Claim.TheVariants.{Satisfied};
-ghost use Rattle.pv_cert.specs.CertificateText.{text_of_lines, query_line, log_line, proof_lines, certificate_text, QueryFits, HasProofText, IsTextOf, IsWritableProof};
+ghost use Rattle.pv_claims.specs.Lines.{text_of_lines};
+ghost use Rattle.pv_claims.specs.TracePart.{HasForm, trace_form};
+ghost use Rattle.pv_cert.specs.CertificateText.{query_line, log_line, proof_lines, asks_next, tail_lines, certificate_text, QueryFits, HasNext, HasProofText, IsTextOf, IsWritableProof, IsWritableNext};
 ghost use Rattle.pv_cert.specs.ChainText.{cells_text, havoc_text, chain_line};
 
 use crate::certificate::Certificate;
+use crate::next::asks_next;
 use crate::proof::{Chain, Proof, Query};
 use itoa::Buffer;
+use pv_claims::{push_head, push_trace_part};
 use pv_log::{Line, write_line};
 use std::alloc::{AllocError, Global};
 
 /// Adds a line that a number ends.
 fn push_numbered(text: &mut Vec<u8>, front: &[u8], n: u32) -> Result<(), AllocError>
-    ensures { OnOk result (text.new.items ≡ text.old.items ++ ((front.now ++ decimal n) ++ codes "\n")) }
+    ensures { OnOk result (text.new.items
+        ≡ text.old.items ++ ((front.now ++ decimal n) ++ codes "\n")) }
 {
     let mut buffer = Buffer::new();
     text.extend_from_slice(front)?;
@@ -25,7 +29,8 @@ fn push_numbered(text: &mut Vec<u8>, front: &[u8], n: u32) -> Result<(), AllocEr
 }
 
 fn push_query(text: &mut Vec<u8>, query: Query) -> Result<(), AllocError>
-    ensures text { OnOk result (text.new.items ≡ text.old.items ++ (query_line query ++ codes "\n")) }
+    ensures text { OnOk result (text.new.items
+        ≡ text.old.items ++ (query_line query ++ codes "\n")) }
     ensures fits { QueryFits query }
 {
     match query {
@@ -66,7 +71,8 @@ fn push_word(text: &mut Vec<u8>, word: &[u8], is_there: bool) -> Result<(), Allo
 }
 
 fn push_chain(text: &mut Vec<u8>, chain: &Chain) -> Result<(), AllocError>
-    ensures { OnOk result (text.new.items ≡ text.old.items ++ (chain_line chain.now ++ codes "\n")) }
+    ensures { OnOk result (text.new.items
+        ≡ text.old.items ++ (chain_line chain.now ++ codes "\n")) }
 {
     text.extend_from_slice(b"chain")?;
     push_word(text, b" constants", chain.constants)?;
@@ -114,20 +120,66 @@ fn push_proofs(alloc: Global, text: &mut Vec<u8>, proofs: &[Proof]) -> Result<()
     Ok(())
 }
 
-/// The one text of a certificate: the claim is `Satisfied(0)`, with no trace and no next lemma, the cells of each
-/// chain rise, and each line of a log has literals of at least 2 and hints of at least 1.
+/// Adds the next lemma, or that there is none, and the end.
+fn push_region_tail(
+    alloc: Global,
+    text: &mut Vec<u8>,
+    next: &Option<Line>,
+) -> Result<(), AllocError>
+    requires { IsWritableNext true next.now }
+    ensures text { OnOk result (text.new.items
+        ≡ text.old.items ++ text_of_lines (tail_lines true next.now)) }
+    ensures valid { OnOk result (HasNext true next.now) }
+{
+    match next {
+        Some(line) => {
+            text.extend_from_slice(b"next\n")?;
+            text.extend_from_slice(write_line(alloc, line)?.as_slice())?;
+            text.extend_from_slice(b"\nend\n")
+        }
+        None => text.extend_from_slice(b"next none\nend\n"),
+    }
+}
+
+/// Adds the lines behind the proofs.
+fn push_tail(
+    alloc: Global,
+    text: &mut Vec<u8>,
+    asked: bool,
+    next: &Option<Line>,
+) -> Result<(), AllocError>
+    requires { IsWritableNext asked next.now }
+    ensures text { OnOk result (text.new.items
+        ≡ text.old.items ++ text_of_lines (tail_lines asked next.now)) }
+    ensures valid { OnOk result (HasNext asked next.now) }
+{
+    if asked {
+        push_region_tail(alloc, text, next)
+    } else {
+        text.extend_from_slice(b"end\n")
+    }
+}
+
+/// The one text of a certificate: its trace has the form and the number of scans that the claim
+/// asks for, a next lemma stands in that of a region alone, the cells of each chain rise, and each
+/// line of a log, and the next one, has literals of at least 2 and hints of at least 1.
 pub fn write(alloc: Global, certificate: &Certificate) -> Result<Vec<u8>, AllocError>
-    requires claim { certificate.now.claim ≡ Satisfied 0 }
-    requires trace { certificate.now.trace ≡ None }
-    requires next { certificate.now.next ≡ None }
+    requires trace { HasForm (trace_form certificate.now.claim) certificate.now.trace }
+    requires next { IsWritableNext (asks_next certificate.now.claim) certificate.now.next }
     requires proofs { AllByRecursion IsWritableProof certificate.now.proofs }
     ensures text { IfOk result (λ text. text.items ≡ certificate_text certificate.now) }
     // `read` gives the certificate back.
     ensures is_text { IfOk result (λ text. IsTextOf text.items certificate.now) }
 {
     let mut text = Vec::new(alloc);
-    text.extend_from_slice(b"PLCVCERT 1\nverdict satisfied 0\n")?;
+    push_head(&mut text, certificate.claim)?;
+    push_trace_part(&mut text, &certificate.trace)?;
     push_proofs(alloc, &mut text, certificate.proofs.as_slice())?;
-    text.extend_from_slice(b"end\n")?;
+    push_tail(
+        alloc,
+        &mut text,
+        asks_next(certificate.claim),
+        &certificate.next,
+    )?;
     Ok(text)
 }

@@ -7,7 +7,7 @@ use Rattle.pv_mean.specs.Sources.{Source}
 use Rattle.pv_mean.specs.Frames.{Input, Params}
 use Rattle.pv_mean.specs.Runs.{run}
 use Rattle.pv_pattern.specs.Patterns.{Pattern}
-use Rattle.pv_cert.specs.declared.trace.Trace.{Trace}
+use Rattle.pv_claims.specs.declared.trace.Trace.{Trace}
 use Rattle.pv_command_load.specs.Refusals.{Refusal, of_case, of_source, of_project, of_table, of_fit, TableRefusal, no_entry, too_many_cells, table_status, case_refusal_line, source_line, project_line, table_line, fit_line, refusal_status, refusal_line}
 use Rattle.pv_command_load.specs.Subjects.{SubjectData, source_in}
 use Rattle.pv_command_load.specs.Reads.{Refuses}

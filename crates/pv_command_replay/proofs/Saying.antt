@@ -3,7 +3,7 @@ use Rattle.std.proofs.Common.{◌≡◌, ℕ, List, map, Option, Result, Ok, Err
 use Rattle.std.specs.Result.{IsErrAnd}
 use Rattle.pv_edge.specs.Files.{FileMap}
 use Rattle.pv_mean.specs.Runs.{run}
-use Rattle.pv_cert.specs.declared.trace.Trace.{Trace}
+use Rattle.pv_claims.specs.declared.trace.Trace.{Trace}
 use Rattle.pv_command_load.specs.declared.subject.Subject.{Subject}
 use Rattle.pv_command_load.specs.Subjects.{SubjectData, source_in}
 use Rattle.pv_command_load.specs.Reads.{Reads}

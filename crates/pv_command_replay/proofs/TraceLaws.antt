@@ -14,9 +14,9 @@ use Rattle.pv_edge.specs.Files.{FileMap}
 use Rattle.pv_mean.specs.declared.cell.Cell.{Cell}
 use Rattle.pv_mean.specs.Sources.{Source}
 use Rattle.pv_mean.specs.Frames.{free_cells, input_cells, param_ranges, input_ranges}
-use Rattle.pv_cert.specs.declared.trace.Trace.{Trace}
-use Rattle.pv_cert.specs.declared.fault.CertFault.{CertFault}
-use Rattle.pv_cert.specs.declared.fault.CertFault.TheVariants as cert_fault
+use Rattle.pv_claims.specs.declared.trace.Trace.{Trace}
+use Rattle.pv_claims.specs.declared.fault.CertFault.{CertFault}
+use Rattle.pv_claims.specs.declared.fault.CertFault.TheVariants as cert_fault
 use Rattle.pv_trace.specs.TraceText.{Bounds, range_between, AreBetween, IsRange, IsTextOf, FailsAt}
 use Rattle.pv_trace.proofs.ForCallers.{one-trace, one-fault}
 use Rattle.pv_command_load.specs.Held.{Holds}

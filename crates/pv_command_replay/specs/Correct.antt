@@ -5,7 +5,7 @@ use Rattle.pv_mean.specs.Sources.{Source}
 use Rattle.pv_mean.specs.Frames.{Input, Params}
 use Rattle.pv_mean.specs.Runs.{run}
 use Rattle.pv_pattern.specs.Patterns.{Pattern}
-use Rattle.pv_cert.specs.declared.trace.Trace.{Trace}
+use Rattle.pv_claims.specs.declared.trace.Trace.{Trace}
 use Rattle.pv_command_replay.specs.declared.end.End.{End}
 use Rattle.pv_command_replay.specs.Ends.{IsEnd}
 use Rattle.pv_command_replay.specs.Traces.{HoldsTrace, HoldsNoTrace}

@@ -19,7 +19,7 @@ use Rattle.pv_replay.specs.declared.replay.Replay.{Replay}
 use Rattle.pv_replay.specs.Replays.{image_of, end_of, is_ready}
 use Rattle.pv_cells.specs.declared.project_table.Table.{Table}
 use Rattle.pv_cells.specs.Named.{wide_bytes}
-use Rattle.pv_cert.specs.declared.trace.Trace.{Trace}
+use Rattle.pv_claims.specs.declared.trace.Trace.{Trace}
 use Rattle.pv_command_replay.specs.declared.end.Cause.TheVariants as cause
 use Rattle.pv_command_replay.specs.declared.end.End.{End}
 use Rattle.pv_command_replay.specs.declared.end.End.TheVariants.{Kept, Broken, Over, Reached, NotReached}

@@ -2,8 +2,8 @@
 use Rattle.std.specs.Prelude.{ℕ}
 use Rattle.pv_place.specs.Ranges.{range_of}
 use Rattle.pv_mean.specs.declared.cell.Cell.{Cell}
-use Rattle.pv_cert.specs.declared.fault.CertFault.{CertFault}
-use Rattle.pv_cert.specs.declared.fault.CertFault.TheVariants as cert_fault
+use Rattle.pv_claims.specs.declared.fault.CertFault.{CertFault}
+use Rattle.pv_claims.specs.declared.fault.CertFault.TheVariants as cert_fault
 use Rattle.pv_trace.specs.TraceText.{Bounds}
 use Rattle.pv_command_load.specs.declared.reading.ReadStop.{ReadStop}
 use Rattle.pv_command_load.specs.declared.reading.ReadStop.TheVariants as read_stop

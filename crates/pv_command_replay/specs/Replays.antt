@@ -2,7 +2,7 @@
 use Rattle.std.specs.Prelude.{◌≡◌, ◌↔◌, ℕ, List, map, Option, Some, None, Result, Ok, Err, string_bytes}
 use Rattle.pv_edge.specs.Files.{FileMap}
 use Rattle.pv_mean.specs.Runs.{run}
-use Rattle.pv_cert.specs.declared.trace.Trace.{Trace}
+use Rattle.pv_claims.specs.declared.trace.Trace.{Trace}
 use Rattle.pv_command_load.specs.Refusals.{Refusal, refusal_status, refusal_line}
 use Rattle.pv_command_load.specs.Subjects.{texts_of, SubjectData, source_in}
 use Rattle.pv_command_load.specs.Reads.{Reads, Refuses}

@@ -5,7 +5,7 @@ use Rattle.pv_place.specs.Ranges.{Range}
 use Rattle.pv_edge.specs.Files.{FileMap}
 use Rattle.pv_mean.specs.Sources.{Source}
 use Rattle.pv_mean.specs.Frames.{param_ranges, input_ranges}
-use Rattle.pv_cert.specs.declared.trace.Trace.{Trace}
+use Rattle.pv_claims.specs.declared.trace.Trace.{Trace}
 use Rattle.pv_trace.specs.TraceText.{Bounds, IsTextOf, FailsAt}
 use Rattle.pv_command_load.specs.Held.{HoldsBytes}
 use Rattle.pv_command_load.specs.Stopped.{Stopped, unread, refused, no_memory, StopsAt}

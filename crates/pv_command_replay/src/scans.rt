@@ -16,7 +16,7 @@ ghost use Rattle.pv_command_replay.specs.Judged.{is_goal, judged_at, trapped_beh
 
 use crate::end::{Cause, End};
 use pv_cells::Table;
-use pv_cert::{CellValues, Trace};
+use pv_claims::{CellValues, Trace};
 use pv_command_load::Subject;
 use pv_mean::CaseView;
 use pv_pattern::Pattern;

@@ -8,7 +8,7 @@ ghost use Rattle.pv_command_replay.specs.Traces.{HoldsTrace, StopsTrace, trace_s
 ghost use Rattle.pv_command_replay.specs.Passing.{type_bounds, trace_status};
 ghost use Rattle.pv_command_replay.specs.declared.trace.TraceStop.TheVariants.{NoMemory};
 
-use pv_cert::{CertFault, Trace};
+use pv_claims::{CertFault, Trace};
 use pv_command_load::{NO_MEMORY, READ_FAULT, ReadStop, Status, TEXT_REFUSED, read, read_line};
 use pv_edge::Files;
 use pv_mean::Cell;

@@ -1,20 +1,13 @@
 //! Calls of pv_cert.
-ghost use Rattle.std.specs.Prelude.{◌≡◌, ℕ, [], ◌∷◌, ◌++◌, Ok, Err, None, IfOk, IfSome, IfNone, OnOk, OnErr};
+ghost use Rattle.std.specs.Prelude.{◌≡◌, ℕ, [], ◌∷◌, ◌++◌, Ok, Err, IfOk, OnOk, OnErr};
 ghost use Rattle.std.specs.List.{AllByRecursion};
 ghost use Rattle.pv_cert.specs.declared.certificate.Certificate.{Certificate};
-ghost use Rattle.pv_cert.specs.declared.certificate.Claim.TheVariants.{Satisfied};
-ghost use Rattle.pv_cert.specs.CertificateText.{FailsAt, IsTextOf, IsUnlessNoMemory, IsWritable, IsWritableProof, NoFeed, certificate_text};
+ghost use Rattle.pv_claims.specs.TracePart.{HasForm, trace_form};
+ghost use Rattle.pv_cert.specs.CertificateText.{FailsAt, IsTextOf, IsUnlessNoMemory, IsWritable, IsWritableNext, IsWritableProof, asks_next, certificate_text};
 
-use pv_cert::{CertFault, Certificate, Proof, Proofs};
+use pv_cert::{Certificate, Proof, Proofs};
+use pv_claims::CertFault;
 use std::alloc::{AllocError, Global};
-
-/// [`pv_cert::cut_line`].
-pub fn cut_line(text: &[u8]) -> Option<(&[u8], &[u8])>
-    ensures found { IfSome result (λ cut. NoFeed cut.0.now × (text.now ≡ cut.0.now ++ 10 ∷ cut.1.now)) }
-    ensures none { IfNone result (NoFeed text.now) }
-{
-    pv_cert::cut_line(text)
-}
 
 /// [`pv_cert::read`].
 pub fn read(alloc: Global, bytes: &[u8]) -> Result<Certificate, CertFault>
@@ -29,9 +22,8 @@ pub fn read(alloc: Global, bytes: &[u8]) -> Result<Certificate, CertFault>
 
 /// [`pv_cert::write`].
 pub fn write(alloc: Global, certificate: &Certificate) -> Result<Vec<u8>, AllocError>
-    requires claim { certificate.now.claim ≡ Satisfied 0 }
-    requires trace { certificate.now.trace ≡ None }
-    requires next { certificate.now.next ≡ None }
+    requires trace { HasForm (trace_form certificate.now.claim) certificate.now.trace }
+    requires next { IsWritableNext (asks_next certificate.now.claim) certificate.now.next }
     requires proofs { AllByRecursion IsWritableProof certificate.now.proofs }
     ensures text { IfOk result (λ text. text.items ≡ certificate_text certificate.now) }
     ensures is_text { IfOk result (λ text. IsTextOf text.items certificate.now) }

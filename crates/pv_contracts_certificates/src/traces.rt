@@ -1,10 +1,10 @@
 //! Calls of pv_trace, and the lists that traces consist of.
 ghost use Rattle.std.specs.Prelude.{◌≡◌, ℕ, [], ◌∷◌, ◌++◌, Ok, Err, None, IfOk, OnOk, OnErr};
 ghost use Rattle.std.specs.List.{AllByRecursion};
-ghost use Rattle.pv_cert.specs.declared.trace.Trace.{Trace};
+ghost use Rattle.pv_claims.specs.declared.trace.Trace.{Trace};
 ghost use Rattle.pv_trace.specs.TraceText.{FailsAt, IsRange, IsTextOf, IsUnlessNoMemory, trace_text};
 
-use pv_cert::{CellValues, CertFault, ScanInputs, Trace};
+use pv_claims::{CellValues, CertFault, ScanInputs, Trace};
 use std::alloc::{AllocError, Global};
 
 /// [`pv_trace::read_trace`].

@@ -2,7 +2,8 @@
 --
 -- The steps of a check have stops and relations of their own (specs/Judging), one a layer: their exits close with no file, and one lemma
 -- (`answers_by_proofs`) goes from the inner to the outer.
-use Rattle.std.proofs.Common.{◌≡◌, ℕ, List, [], ◌∷◌, refl, ap, sym, subst, ◌∙◌, inl, inr, Result, Ok, Err, length, ℤ}
+use Rattle.std.proofs.Common.{◌≡◌, ℕ, zero, suc, arith, List, [], ◌∷◌, refl, ap, sym, subst, ◌∙◌, inl, inr, Result, Ok, Err, length, ℤ}
+use Rattle.std.specs.Prelude.{codes}
 use Rattle.pv_bool.specs.Tree.{ProgramTree}
 use Rattle.pv_gate.specs.declared.netlist.Node.{Node}
 use Rattle.pv_gate.specs.Node.{Names}
@@ -10,6 +11,10 @@ use Rattle.pv_cert.specs.declared.proof.Proof.{Proof}
 use Rattle.pv_cert.specs.declared.certificate.Certificate.{Certificate}
 use Rattle.pv_cert.specs.CertificateText.{satisfied_by, no_reduction, IsTextOf}
 use Rattle.pv_cert.specs.ChainText.{chain_line}
+use Rattle.pv_claims.specs.declared.claim.Claim.{Claim}
+use Rattle.pv_claims.specs.declared.claim.Claim.TheVariants.{Satisfied, Unreachable, Violated, Trapped, Reached, Depth, Loop, Lemmas, Region}
+use Rattle.pv_claims.specs.Heads.{claim_text, verdict_line, ClaimFits}
+use Rattle.pv_claims.proofs.ForCallers.{one-claim, verdict-zero}
 use Rattle.pv_cert.proofs.ForCallers.{made-of-proofs, without-words}
 use Rattle.pv_recheck.specs.declared.stop.LogStop.TheVariants.{TooManyGates, Line, NoEmpty, NoMemory}
 use Rattle.pv_recheck.specs.declared.stop.ProofStop.{ProofStop}
@@ -18,11 +23,35 @@ use Rattle.pv_recheck.specs.Form.{IsUnbuilt}
 use Rattle.pv_recheck.specs.Validity.{IsValid}
 use Rattle.pv_recheck.specs.Answers.{Answers}
 use Rattle.pv_recheck.specs.Judging.{JudgesProofs, answer_of}
-use Rattle.pv_recheck.proofs.Lines.{fourth_of}
+use Rattle.pv_recheck.proofs.Lines.{fourth_of, second_of}
 
--- a certificate's text is that of its proofs
-proofs_text : (bytes : List ℕ) (c : Certificate) (p : Proof) → IsTextOf bytes c → c.proofs ≡ p ∷ [] → IsTextOf bytes (satisfied_by (p ∷ []))
-proofs_text bytes c p t e = subst (λ (d : Certificate). IsTextOf bytes d) (made-of-proofs c t.valid ∙ ap satisfied_by e) t
+-- no other claim has this verdict
+other_claim : (c : Claim) → ClaimFits c → (c ≡ Satisfied 0 → ⊥) → verdict_line c ≡ codes "verdict satisfied 0" → ⊥
+other_claim c fits other e = other (one-claim c (Satisfied 0) fits (omega arith) (e ∙ sym verdict-zero))
+
+-- a claim whose verdict can't be another one
+claim_by : (c : Claim) → ClaimFits c → ((verdict_line c ≡ codes "verdict satisfied 0" → ⊥) → ⊥) → c ≡ Satisfied 0
+claim_by (Satisfied zero) fits never = refl
+claim_by (Satisfied (suc k)) fits never = absurd (never (other_claim (Satisfied (suc k)) fits (λ e. cc)))
+claim_by (Unreachable k) fits never = absurd (never (other_claim (Unreachable k) fits (λ e. cc)))
+claim_by (Violated n) fits never = absurd (never (other_claim (Violated n) fits (λ e. cc)))
+claim_by (Trapped n) fits never = absurd (never (other_claim (Trapped n) fits (λ e. cc)))
+claim_by (Reached n) fits never = absurd (never (other_claim (Reached n) fits (λ e. cc)))
+claim_by (Depth k) fits never = absurd (never (other_claim (Depth k) fits (λ e. cc)))
+claim_by (Loop n) fits never = absurd (never (other_claim (Loop n) fits (λ e. cc)))
+claim_by (Lemmas b) fits never = absurd (never (other_claim (Lemmas b) fits (λ e. cc)))
+claim_by (Region x) fits never = absurd (never (other_claim (Region x) fits (λ e. cc)))
+
+-- a certificate of a form that is read claims 'satisfied' with k = 0
+claim_of : (bytes : List ℕ) (c : Certificate) → (IsUnbuilt bytes → ⊥) → IsTextOf bytes c → c.claim ≡ Satisfied 0
+claim_of bytes c built t =
+    claim_by c.claim t.valid.claim (λ other. built (inl (verdict_line c.claim, second_of bytes c t, (claim_text c.claim, refl), other)))
+
+-- such a certificate's text is that of its proofs
+proofs_text : (bytes : List ℕ) (c : Certificate) (p : Proof) → (IsUnbuilt bytes → ⊥) → IsTextOf bytes c → c.proofs ≡ p ∷ []
+    → IsTextOf bytes (satisfied_by (p ∷ []))
+proofs_text bytes c p built t e =
+    subst (λ (d : Certificate). IsTextOf bytes d) (made-of-proofs c t.valid (claim_of bytes c built t) ∙ ap satisfied_by e) t
 
 -- the first chain has no words where line 4 isn't one with words
 plain_chain : (bytes : List ℕ) (p : Proof) (ps : List Proof) → (IsUnbuilt bytes → ⊥) → IsTextOf bytes (satisfied_by (p ∷ ps))
@@ -33,7 +62,7 @@ module _ (limit : ℕ) (program : ProgramTree) where
   valid_by : (bytes : List ℕ) (c : Certificate) (done : Unit {0}) → (IsUnbuilt bytes → ⊥) → IsTextOf bytes c
       → JudgesProofs limit program c.proofs (Ok done) → IsValid program bytes
   valid_by bytes c done built t j =
-      let text = proofs_text bytes c j.1 t j.2 in
+      let text = proofs_text bytes c j.1 built t j.2 in
       record { proof = j.1; is_text = text; is_proof = record { query = j.3; chain = plain_chain bytes j.1 [] built text; refutes = j.4 } }
 
   -- a certificate was read, and its proofs were judged

@@ -9,11 +9,17 @@ use Rattle.std.specs.Prelude.{◌↔◌, IsTrue, IfSome, IfNone, codes}
 use Rattle.std.specs.List.{flat_map}
 use Rattle.std.proofs.lemmas.Bool.{false≢true}
 use Rattle.pv_cert.specs.declared.proof.Proof.{Proof}
-use Rattle.pv_cert.specs.CertificateText.{NoFeed, text_of_lines, query_line, log_line, proof_lines, satisfied_by}
+use Rattle.pv_claims.specs.declared.claim.Claim.TheVariants.{Satisfied}
+use Rattle.pv_claims.specs.Lines.{NoFeed, text_of_lines}
+use Rattle.pv_claims.specs.Heads.{verdict_line}
+use Rattle.pv_claims.specs.TracePart.{trace_lines}
+use Rattle.pv_claims.proofs.ForCallers.{cut-one, all-behind, verdict-zero}
+use Rattle.pv_cert.specs.declared.certificate.Certificate.{Certificate}
+use Rattle.pv_cert.specs.CertificateText.{query_line, log_line, proof_lines, asks_next, tail_lines, satisfied_by}
 use Rattle.pv_cert.specs.CertificateText.{IsTextOf}
 use Rattle.pv_cert.specs.ChainText.{chain_line}
 use Rattle.pv_log.specs.LineText.{line_text}
-use Rattle.pv_cert.proofs.ForCallers.{cut-one, all-behind, feedless}
+use Rattle.pv_cert.proofs.ForCallers.{feedless}
 use Rattle.pv_recheck.specs.Form.{IsLine, BeginsWith, HasOtherVerdict, HasReductions}
 
 no_feed : (text line rest : List ℕ) → NoFeed text → text ≡ line ++ 10 ∷ rest → ⊥
@@ -118,9 +124,27 @@ pub second_and_fourth : (bytes : List ℕ) (p : Proof) (ps : List Proof) → IsT
     → IsLine 2 bytes (codes "verdict satisfied 0") × IsLine 4 bytes (chain_line p.chain)
 second_and_fourth bytes p ps t =
     let plain = feedless (satisfied_by (p ∷ ps)) t.valid in
-    lines_built (codes "PLCVCERT 1") (codes "verdict satisfied 0") (query_line p.query) (chain_line p.chain)
-    (rest_of p ps) bytes t.text plain.0 plain.1.0 plain.1.1.0 plain.1.1.1.0
+    let lines = lines_built (codes "PLCVCERT 1") (verdict_line (Satisfied 0)) (query_line p.query) (chain_line p.chain)
+    (rest_of p ps) bytes t.text plain.0 plain.1.0 plain.1.1.0 plain.1.1.1.0 in
+    (subst (λ (line : List ℕ). IsLine 2 bytes line) verdict-zero lines.0, lines.1)
 
 pub fourth_of : (bytes : List ℕ) (p : Proof) (ps : List Proof) → IsTextOf bytes (satisfied_by (p ∷ ps))
     → IsLine 4 bytes (chain_line p.chain)
 fourth_of bytes p ps t = (second_and_fourth bytes p ps t).1
+
+-- the lines of a certificate behind the second
+abbrev behind_head : Certificate → List (List ℕ)
+behind_head c = trace_lines c.trace ++ (flat_map proof_lines c.proofs ++ tail_lines (asks_next c.claim) c.next)
+
+-- the second line of any certificate
+pub second_of : (bytes : List ℕ) (c : Certificate) → IsTextOf bytes c → IsLine 2 bytes (verdict_line c.claim)
+second_of bytes c t =
+    let plain = feedless c t.valid in
+    let rest = text_of_lines (behind_head c) in
+    let here : IsLine 1 (text_of_lines (verdict_line c.claim ∷ behind_head c)) (verdict_line c.claim) = (
+      rest,
+      plain.1.0,
+      append_assoc (verdict_line c.claim) (10 ∷ []) rest,
+    ) in
+    let behind = text_of_lines (verdict_line c.claim ∷ behind_head c) in
+    ahead 0 bytes (codes "PLCVCERT 1") behind (verdict_line c.claim) plain.0 (t.text ∙ append_assoc (codes "PLCVCERT 1") (10 ∷ []) behind) here

@@ -1,6 +1,6 @@
 -- The form of the certificates that are read today: of the verdict 'satisfied' with k = 0, without reductions.
 use Rattle.std.specs.Prelude.{◌≡◌, ◌≢◌, ℕ, zero, suc, List, ◌∷◌, ◌++◌, codes, ◌⊎◌}
-use Rattle.pv_cert.specs.CertificateText.{NoFeed}
+use Rattle.pv_claims.specs.Lines.{NoFeed}
 
 -- line n of a text, from 1: the stretch that the n-th line feed ends, and so what stands behind the last one is no line
 abbrev pub IsLine : ℕ → List ℕ → List ℕ → Type 0

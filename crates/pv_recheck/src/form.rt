@@ -3,7 +3,7 @@ ghost use Rattle.std.specs.Prelude.{◌≡◌, ◌↔◌, ◌≢◌, List, ℕ, 
 ghost use Rattle.pv_recheck.specs.Form.{IsLine, BeginsWith, HasOtherVerdict, HasReductions};
 ghost use Rattle.pv_recheck.specs.Form.{IsUnbuilt};
 
-use pv_cert::cut_line;
+use pv_claims::cut_line;
 
 /// Line 2 of a text, and what follows it.
 fn second(text: &[u8]) -> Option<(&[u8], &[u8])>

@@ -1,5 +1,6 @@
 //! Tests of certificates: their text both ways, their parts, and the texts that are refused.
-use pv_cert::{CellValues, CertFault, Claim, Query, ScanInputs, Trace, read, write};
+use pv_cert::{Query, read, write};
+use pv_claims::{CellValues, CertFault, Claim, ScanInputs, Trace};
 use std::test::Fail;
 
 const SEVEN: &str =
@@ -118,7 +119,7 @@ fn refusals_name_the_line(rt: HostRuntime) {
             "PLCVCERT 1\nverdict satisfied 0\nquery step 4294967296\n",
             3,
         ),
-        ("PLCVCERT 1\nverdict satisfied 1\n", 2),
+        ("PLCVCERT 1\nverdict satisfied 1\n", 3),
         (
             "PLCVCERT 1\nverdict satisfied 0\nquery base 4294967295\nchain\nlog 9\nend\n",
             6,
@@ -135,4 +136,84 @@ fn refusals_name_the_line(rt: HostRuntime) {
             "{text:?}"
         );
     }
+}
+
+/// What stands behind `verdict`, `/` for a line feed: a certificate of each claim.
+const CLAIMS: &str = "satisfied 3/end/|unreachable 4294967295/query step 0/chain/log 0/end/\
+|violated 1/params/scan 1 0/end/|violated 0/params/end/|violated 1/params/scan/end/\
+|trapped 2/params 7 -7/scan 0/scan -1/query base 1/chain/log 0/end/|loop 1/params/scan 10/end/\
+|reached 1/params 170141183460469231731687303715884105727/scan -170141183460469231731687303715884105728/end/\
+|depth 0/image -32768/prev none/scan/end/|depth 0/image/prev 0/scan/end/|depth 0/image/prev 1/scan/end/\
+|depth 2/image 0 0 0/prev none/scan 1/scan 0/scan 0/query base 1/chain/log 1/3 0 1 2 0/query base 2/chain/log 1/4 0 1 3 0/end/\
+|lemmas 1/query step 0/chain/log 1/12 0 11 8 9 5 0/end/|lemmas 4294967295/end/\
+|region 70/query step 0/chain/log 0/next none/end/|region 70/query step 0/chain/log 0/next/12 3 0 11 8 0/end/\
+|region 18446744073709551615/next none/end/";
+
+#[test]
+fn each_claim_is_read_and_written(rt: HostRuntime) -> Result<(), Fail> {
+    for row in CLAIMS.split('|') {
+        let text = format!(in rt.alloc(); "PLCVCERT 1/verdict {row}")?;
+        let text = text.as_str().replace(rt.alloc(), '/', "\n")?;
+        let certificate = read(rt.alloc(), text.as_bytes())?;
+        let written = write(rt.alloc(), &certificate)?;
+        assert!(rt; written.as_slice() == text.as_bytes(), "{row:?}");
+    }
+    Ok(())
+}
+
+/// The line at fault, and what stands behind `verdict`: verdicts and scans.
+const REFUSED_TRACES: &str =
+    "2>violated 01/params/end/|2>violated/params/end/|2>violated -1/params/end/\
+|2>unreachable 4294967296/end/|2>depth 4294967296/|2>region 18446744073709551616/|2>holds 0/end/|2> depth 0/|2>violated 1\r/\
+|3>violated 1/params -0/scan/end/|3>violated 1/scan/end/|3>violated 1/params 1 /scan/end/|3>violated 1/params +1/scan/end/\
+|3>violated 1/params 170141183460469231731687303715884105728/scan/end/|3>violated 1/params\r/scan/end/\
+|3>violated 1/params -170141183460469231731687303715884105729/scan/end/|4>violated 1/params/scan\r/end/\
+|5>violated 2/params/scan 1 0/end/|5>violated 1/params/scan/scan/end/|4>violated 1/params/end/|4>violated 1/params/scan  1/end/\
+|4>violated 1/params/scan 01/end/|4>violated 1/params/scans/end/|4>loop 1/params/query base 1/\
+|3>depth 0/params/scan/end/|4>depth 0/image -32768/prev 2/scan/end/|4>depth 0/image -32768/scan/end/\
+|6>depth 0/image -32768/prev none/scan/scan/end/|5>depth 0/image/prev none/end/\
+|11>depth 4294967295/image/prev none/scan/scan/scan/scan/scan/scan/";
+
+/// The same, of what stands behind scans and proofs.
+const REFUSED_ENDS: &str = "3>satisfied 0/params/end/|3>lemmas 0/next none/end/\
+|7>satisfied 0/query step 0/chain/log 1/12 0 11 8 9 5 0/next none/end/\
+|6>region 70/query step 0/chain/log 0/end/|7>region 70/query step 0/chain/log 0/next/end/\
+|6>region 70/query step 0/chain/log 0/next 12 3 0 11 8 0/end/|3>region 0/next none\r/end/|4>region 0/next/12 3 0 11 8 0\r/end/\
+|8>region 70/query step 0/chain/log 0/next/12 3 0 11 8 0/12 3 0 11 8 0/end/|7>region 70/query step 0/chain/log 0/next none/next none/end/\
+|5>violated 1/params/scan/end\r/|5>violated 1/params/scan/end|6>violated 1/params/scan/end/x|6>violated 1/params/scan/end//";
+
+#[test]
+fn other_traces_name_the_line(rt: HostRuntime) -> Result<(), Fail> {
+    for row in REFUSED_TRACES.split('|') {
+        if let Some((line, lines)) = row.split_once('>') {
+            let text = format!(in rt.alloc(); "PLCVCERT 1/verdict {lines}")?;
+            let text = text.as_str().replace(rt.alloc(), '/', "\n")?;
+            let answer = read(rt.alloc(), text.as_bytes()).err();
+            let line = line.parse::<u64>().unwrap_or(0);
+            assert_eq!(rt;
+                answer,
+                Some(CertFault::NotACertificate { line }),
+                "{row:?}"
+            );
+        }
+    }
+    Ok(())
+}
+
+#[test]
+fn other_ends_name_the_line(rt: HostRuntime) -> Result<(), Fail> {
+    for row in REFUSED_ENDS.split('|') {
+        if let Some((line, lines)) = row.split_once('>') {
+            let text = format!(in rt.alloc(); "PLCVCERT 1/verdict {lines}")?;
+            let text = text.as_str().replace(rt.alloc(), '/', "\n")?;
+            let answer = read(rt.alloc(), text.as_bytes()).err();
+            let line = line.parse::<u64>().unwrap_or(0);
+            assert_eq!(rt;
+                answer,
+                Some(CertFault::NotACertificate { line }),
+                "{row:?}"
+            );
+        }
+    }
+    Ok(())
 }

@@ -4,9 +4,9 @@ use Rattle.std.specs.Prelude.{codes, ◌==◌, true, false}
 use Rattle.std.specs.List.{AllByRecursion}
 use Rattle.std.proofs.lemmas.Bool.{false≢true}
 use Rattle.std.proofs.lemmas.Grind.{flat_map-append}
-use Rattle.pv_cert.specs.declared.trace.Trace.{Trace}
-use Rattle.pv_cert.specs.CertificateText.{text_of_lines, NoFeed}
-use Rattle.pv_cert.proofs.ForCallers.{cut-one}
+use Rattle.pv_claims.specs.declared.trace.Trace.{Trace}
+use Rattle.pv_claims.specs.Lines.{text_of_lines, NoFeed}
+use Rattle.pv_claims.proofs.ForCallers.{cut-one}
 use Rattle.pv_trace.specs.TraceText.{value_text, values_text, params_line, scan_line, trace_lines, Bounds, AreBetween, IsRange, IsTrace}
 use Rattle.pv_trace.proofs.Words.{short, no-feed}
 

@@ -3,11 +3,11 @@ use Rattle.std.proofs.Common.{◌≡◌, ℕ, zero, suc, ◌+◌, ◌<◌, ℤ, 
 use Rattle.std.specs.Prelude.{◌≤ℤ◌, codes, IfOk, IsErrAnd}
 use Rattle.std.specs.List.{AllByRecursion}
 use Rattle.std.proofs.lemmas.Int.{ints}
-use Rattle.pv_cert.specs.declared.trace.Trace.{Trace}
-use Rattle.pv_cert.specs.declared.fault.CertFault.{CertFault}
-use Rattle.pv_cert.specs.declared.fault.CertFault.TheVariants.{NotACertificate, NoMemory}
-use Rattle.pv_cert.specs.CertificateText.{text_of_lines, NoFeed}
-use Rattle.pv_cert.proofs.ForCallers.{cut-one}
+use Rattle.pv_claims.specs.declared.trace.Trace.{Trace}
+use Rattle.pv_claims.specs.declared.fault.CertFault.{CertFault}
+use Rattle.pv_claims.specs.declared.fault.CertFault.TheVariants.{NotACertificate, NoMemory}
+use Rattle.pv_claims.specs.Lines.{text_of_lines, NoFeed}
+use Rattle.pv_claims.proofs.ForCallers.{cut-one}
 use Rattle.pv_trace.specs.TraceText.{values_text, params_line, scan_line, trace_lines, trace_text, Bounds, AreBetween, IsRange, IsTrace, IsTextOf, BeginsOne, FailsAt, IsUnlessNoMemory}
 use Rattle.pv_trace.specs.Scans.{scan_lines, HasScans, IsNoScan, StopsAt, at_line, behind_end, ReadsScans, ReadsTrace}
 use Rattle.pv_trace.proofs.Words.{one-values, cancel}

@@ -1,10 +1,10 @@
 -- The lines behind a trace's parameters: its scans and its end. No public clause cites these.
 use Rattle.std.specs.Prelude.{◌≡◌, ◌≢◌, ℕ, ◌+◌, ℤ, List, [], ◌∷◌, ◌++◌, length, map, codes, Result, Ok, Err}
 use Rattle.std.specs.List.{AllByRecursion}
-use Rattle.pv_cert.specs.declared.fault.CertFault.{CertFault}
-use Rattle.pv_cert.specs.declared.fault.CertFault.TheVariants.{NotACertificate, NoMemory}
-use Rattle.pv_cert.specs.CertificateText.{text_of_lines, NoFeed}
-use Rattle.pv_cert.specs.declared.trace.Trace.{Trace}
+use Rattle.pv_claims.specs.declared.fault.CertFault.{CertFault}
+use Rattle.pv_claims.specs.declared.fault.CertFault.TheVariants.{NotACertificate, NoMemory}
+use Rattle.pv_claims.specs.Lines.{text_of_lines, NoFeed}
+use Rattle.pv_claims.specs.declared.trace.Trace.{Trace}
 use Rattle.pv_trace.specs.TraceText.{Bounds, AreBetween, scan_line, IsTextOf, FailsAt}
 
 -- the lines of scans and the end

@@ -3,10 +3,10 @@ use Rattle.std.specs.Prelude.{◌≡◌, ◌≤ℤ◌, ℕ, ◌+◌, ℤ, pos, n
 use Rattle.std.specs.List.{flat_map, AllByRecursion}
 use Rattle.std.specs.Fmt.{signed_decimal}
 use Rattle.pv_place.specs.Ranges.{Range, AreWithin}
-use Rattle.pv_cert.specs.declared.trace.Trace.{Trace}
-use Rattle.pv_cert.specs.declared.fault.CertFault.{CertFault}
-use Rattle.pv_cert.specs.declared.fault.CertFault.TheVariants.{NoMemory}
-use Rattle.pv_cert.specs.CertificateText.{text_of_lines, NoFeed}
+use Rattle.pv_claims.specs.declared.trace.Trace.{Trace}
+use Rattle.pv_claims.specs.declared.fault.CertFault.{CertFault}
+use Rattle.pv_claims.specs.declared.fault.CertFault.TheVariants.{NoMemory}
+use Rattle.pv_claims.specs.Lines.{text_of_lines, NoFeed}
 
 -- ---- the lines
 

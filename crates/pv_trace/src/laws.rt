@@ -1,7 +1,7 @@
 //! Laws of texts: a text is that of at most one trace, and has at most one line at fault.
 ghost use Rattle.std.specs.Prelude.{◌≡◌, ℕ, List};
 ghost use Rattle.std.specs.List.{AllByRecursion};
-ghost use Rattle.pv_cert.specs.declared.trace.Trace.{Trace};
+ghost use Rattle.pv_claims.specs.declared.trace.Trace.{Trace};
 ghost use Rattle.pv_trace.specs.TraceText.{Bounds, IsRange, IsTextOf, FailsAt};
 
 /// A law: over ranges of 64 bits a text is that of at most one trace.

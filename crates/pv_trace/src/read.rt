@@ -1,12 +1,12 @@
 //! Reading a trace.
 ghost use Rattle.std.specs.Prelude.{◌≡◌, ℕ, ℤ, List, [], ◌++◌, Ok, Err, codes, IfOk, MatchOption, IsTrue, ◌↔◌};
 ghost use Rattle.std.specs.List.{AllByRecursion};
-ghost use Rattle.pv_cert.specs.declared.trace.Trace.{Trace};
+ghost use Rattle.pv_claims.specs.declared.trace.Trace.{Trace};
 ghost use Rattle.pv_trace.specs.TraceText.{AreBetween, IsRange, IsTextOf, FailsAt, IsUnlessNoMemory, values_text};
 ghost use Rattle.pv_trace.specs.Scans.{ReadsScans, ReadsTrace};
 
 use crate::values::{strip, values_at};
-use pv_cert::{CellValues, CertFault, ScanInputs, Trace, cut_line};
+use pv_claims::{CellValues, CertFault, ScanInputs, Trace, cut_line};
 use std::alloc::{AllocError, Global};
 
 /// The values of a line behind its first word.

@@ -7,7 +7,7 @@ ghost use Rattle.pv_trace.specs.TraceText.{value_text, values_text, range_betwee
 ghost use Rattle.pv_trace.specs.Words.{NoBlank, IsWordEnd};
 
 use itoa::Buffer;
-use pv_cert::CellValues;
+use pv_claims::CellValues;
 use std::alloc::{AllocError, Global};
 
 /// The bytes before the first blank, and those from it on.

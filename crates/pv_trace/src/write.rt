@@ -1,11 +1,11 @@
 //! Writing a trace.
 ghost use Rattle.std.specs.Prelude.{◌≡◌, ◌++◌, None, IfOk, OnOk, map};
 ghost use Rattle.std.specs.List.{flat_map};
-ghost use Rattle.pv_cert.specs.CertificateText.{text_of_lines};
+ghost use Rattle.pv_claims.specs.Lines.{text_of_lines};
 ghost use Rattle.pv_trace.specs.TraceText.{values_text, scan_line, trace_text};
 
 use itoa::Buffer;
-use pv_cert::{CellValues, Trace};
+use pv_claims::{CellValues, Trace};
 use std::alloc::{AllocError, Global};
 
 /// Puts the values behind a text, a blank before each.

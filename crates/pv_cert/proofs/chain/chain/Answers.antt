@@ -1,6 +1,6 @@
 use Rattle.pv_cert.specs.ChainText.{havoc_text}
 use Rattle.pv_cert.proofs.Chains.{chain-cut, constants-cut}
-use Rattle.pv_cert.proofs.Whole.{at-none}
+use Rattle.pv_claims.proofs.ForCallers.{at-none}
 use Rattle.pv_cert.proofs.chain.chain.Goals as goal
 
 pub returns-in_default : goal.returns-in_default

@@ -1,4 +1,4 @@
-use Rattle.pv_cert.proofs.Whole.{one-certificate}
+use Rattle.pv_cert.proofs.Wholes.{one-certificate}
 use Rattle.pv_cert.proofs.laws.text_determines_certificate.Goals as goal
 
 pub returns : goal.returns

@@ -2,7 +2,7 @@ use Rattle.std.proofs.Common.{ap, ◌∙◌, ◌++◌, List, map}
 use Rattle.std.proofs.lemmas.List.{take_all}
 use Rattle.pv_log.specs.declared.line.Line.{Line}
 use Rattle.pv_log.specs.LineText.{line_text}
-use Rattle.pv_cert.specs.CertificateText.{text_of_lines}
+use Rattle.pv_claims.specs.Lines.{text_of_lines}
 use Rattle.pv_cert.proofs.writer.push_lines.Goals as goal
 
 pub returns-clause-text : goal.returns-clause-text

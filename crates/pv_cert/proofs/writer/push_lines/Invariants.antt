@@ -1,7 +1,7 @@
 use Rattle.std.proofs.Common.{◌≡◌, ◌++◌, take, map}
 use Rattle.std.specs.List.{AllByRecursion}
 use Rattle.pv_log.specs.LineText.{line_text, HasText}
-use Rattle.pv_cert.specs.CertificateText.{text_of_lines}
+use Rattle.pv_claims.specs.Lines.{text_of_lines}
 use Rattle.pv_cert.proofs.writer.push_lines.Given as goal
 
 -- the lines so far are written, and have a text

@@ -1,6 +1,7 @@
 use Rattle.std.proofs.Common.{◌≡◌, ◌++◌, take}
 use Rattle.std.specs.List.{flat_map, AllByRecursion}
-use Rattle.pv_cert.specs.CertificateText.{text_of_lines, proof_lines, HasProofText}
+use Rattle.pv_claims.specs.Lines.{text_of_lines}
+use Rattle.pv_cert.specs.CertificateText.{proof_lines, HasProofText}
 use Rattle.pv_cert.proofs.writer.push_proofs.Given as goal
 
 -- the proofs so far are written, and have a text

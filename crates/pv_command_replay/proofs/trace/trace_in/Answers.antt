@@ -1,7 +1,7 @@
 use Rattle.std.proofs.Common.{Err, ap, sym, subst, ◌∙◌}
 use Rattle.std.specs.List.{AllByRecursion}
 use Rattle.pv_mean.specs.Frames.{free_cells, input_cells}
-use Rattle.pv_cert.specs.declared.fault.CertFault.{CertFault}
+use Rattle.pv_claims.specs.declared.fault.CertFault.{CertFault}
 use Rattle.pv_trace.specs.TraceText.{IsRange}
 use Rattle.pv_command_replay.specs.Passing.{faulty_trace}
 use Rattle.pv_command_replay.proofs.TraceLaws.{type_ranges, holds_trace, stops_at, err_passed}

@@ -1,5 +1,5 @@
 use Rattle.std.proofs.Common.{◌≡◌, ◌++◌, take, map}
-use Rattle.pv_cert.specs.CertificateText.{text_of_lines}
+use Rattle.pv_claims.specs.Lines.{text_of_lines}
 use Rattle.pv_trace.specs.TraceText.{scan_line}
 use Rattle.pv_trace.proofs.write.push_scans.Given as goal
 

@@ -1,7 +1,0 @@
-use Rattle.std.proofs.Common.{take}
-use Rattle.pv_cert.specs.ChainText.{NoBlank}
-use Rattle.pv_cert.proofs.chain.cut_word.Given as goal
-
--- no blank so far
-abbrev pub invariant-loop-at : goal.invariant-loop-at
-invariant-loop-at l = NoBlank (take l.at l.text)

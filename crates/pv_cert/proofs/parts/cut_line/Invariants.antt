@@ -1,7 +1,0 @@
-use Rattle.std.proofs.Common.{take}
-use Rattle.pv_cert.specs.CertificateText.{NoFeed}
-use Rattle.pv_cert.proofs.parts.cut_line.Given as goal
-
--- no line feed so far
-abbrev pub invariant-loop-at : goal.invariant-loop-at
-invariant-loop-at l = NoFeed (take l.at l.text)
