@@ -1,0 +1,6 @@
+-- what public clauses cite
+pub mod Words
+pub mod Places
+pub mod Reports
+-- what private clauses cite
+pub mod Groups

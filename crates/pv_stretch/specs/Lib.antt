@@ -1,0 +1,6 @@
+-- what public clauses cite
+pub mod Stretches
+-- what laws say
+pub mod Correct
+-- what private clauses cite
+pub mod Judged
