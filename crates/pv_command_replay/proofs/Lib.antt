@@ -1,7 +1,6 @@
 mod Examples
 pub mod OneEnd
 pub mod Ending
-pub mod Scanning
 pub mod Starts
 pub mod TraceLaws
 pub mod Saying

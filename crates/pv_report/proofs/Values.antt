@@ -39,16 +39,16 @@ module _ (front : List ℕ) (p : Cell → Bool) where
 
   pub skipped : (cells : List Cell) (i : ℕ) (values : List ℤ) (n : ℕ) (c : Cell) → i < length cells → p (get_or cells i c) ≡ false
       → still cells i values n ≡ still cells (i + 1) values n
-  skipped cells i values n c lt no =
+  skipped cells i values n c lt not_one =
       ap (λ cs. value_lines front (filter p cs) (drop n values)) (drop_more cells i c lt)
-      ∙ ap (λ b. chosen b (get_or cells i c) (drop (i + 1) cells) (drop n values)) no
+      ∙ ap (λ b. chosen b (get_or cells i c) (drop (i + 1) cells) (drop n values)) not_one
 
   pub written : (cells : List Cell) (i : ℕ) (values : List ℤ) (n : ℕ) (c : Cell) (v : ℤ) → i < length cells
       → p (get_or cells i c) ≡ true → n < length values
       → still cells i values n ≡ value_line front (get_or cells i c) (get_or values n v) ++ still cells (i + 1) values (n + 1)
-  written cells i values n c v lt yes more =
+  written cells i values n c v lt is_one more =
       ap (λ cs. value_lines front (filter p cs) (drop n values)) (drop_more cells i c lt)
-      ∙ ap (λ b. chosen b (get_or cells i c) (drop (i + 1) cells) (drop n values)) yes
+      ∙ ap (λ b. chosen b (get_or cells i c) (drop (i + 1) cells) (drop n values)) is_one
       ∙ ap (λ vs. value_lines front (get_or cells i c ∷ filter p (drop (i + 1) cells)) vs) (drop_more values n v more)
 
   pub ran_out : (cells : List Cell) (i : ℕ) (values : List ℤ) (n : ℕ) → length values ≤ n → still cells i values n ≡ []

@@ -2,5 +2,7 @@
 pub mod Words
 pub mod Places
 pub mod Reports
+-- what laws say
+pub mod Correct
 -- what private clauses cite
 pub mod Groups

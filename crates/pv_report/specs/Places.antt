@@ -18,7 +18,7 @@ file_lines lines = record { file = string_bytes lines.file; starts = lines.start
 abbrev pub starts_behind : ℕ → List ℕ → List ℕ
 starts_behind before [] = []
 starts_behind before (byte ∷ more) = elim (byte == 10) [
-  | true ↦ before + 1 ∷ starts_behind (before + 1) more
+  | true ↦ (before + 1) ∷ starts_behind (before + 1) more
   | false ↦ starts_behind (before + 1) more
 ]
 

@@ -4,6 +4,7 @@
 #![tactic(auto)]
 
 mod group;
+pub mod laws;
 mod places;
 mod report;
 mod verdict;

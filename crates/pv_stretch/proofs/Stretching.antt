@@ -16,7 +16,8 @@ use Rattle.pv_stretch.specs.declared.ends.StretchEnd.{StretchEnd}
 use Rattle.pv_stretch.specs.declared.ends.StretchEnd.TheVariants.{Fails, Stopped}
 use Rattle.pv_stretch.specs.declared.ends.Stretch.{Stretch}
 use Rattle.pv_stretch.specs.Stretches.{ending_of, stops_as, fails_or, last_of, last_or, one_more, stretch_of}
-use Rattle.pv_stretch.specs.Correct.{is_done, done_in, trap_of, last_trap, cause_of, EndsSo, IsStretchOf, fails_behind}
+use Rattle.pv_stretch.specs.Scans.{is_done, done_in, last_trap}
+use Rattle.pv_stretch.specs.Correct.{cause_of, EndsSo, IsStretchOf, fails_behind}
 
 -- ---- causes and what is told of them
 

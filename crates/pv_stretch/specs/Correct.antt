@@ -1,11 +1,8 @@
 -- What laws say of stretches: which scans fail first, and which states and inputs a query's machine meets it by.
-use Rattle.std.specs.Prelude.{◌≡◌, ℕ, ◌+◌, List, [], ◌∷◌, length, count_by, Bool, true, false, Option, Some, None}
-use Rattle.pv_place.specs.declared.place.Place.{Place}
-use Rattle.pv_place.specs.declared.trap.TrapKind.{TrapKind}
+use Rattle.std.specs.Prelude.{◌≡◌, ℕ, ◌+◌, List, [], ◌∷◌, length, Bool, true, Option, Some, None}
 use Rattle.pv_mean.specs.Sources.{Source}
 use Rattle.pv_mean.specs.Frames.{Input}
-use Rattle.pv_mean.specs.Endings.{ended, trapped, over as over_end}
-use Rattle.pv_mean.specs.Scans.{Scan, ScanEnd}
+use Rattle.pv_mean.specs.Scans.{Scan}
 use Rattle.pv_pattern.specs.Patterns.{Pattern, asks_for_goal}
 use Rattle.pv_pattern.specs.Failing.{Cause, pattern, trap, over, NoneFailsFrom, FailsFirstFrom}
 use Rattle.pv_cert.specs.declared.trace.Ending.{Ending}
@@ -13,29 +10,7 @@ use Rattle.pv_cert.specs.declared.trace.Ending.TheVariants as ending
 use Rattle.pv_stretch.specs.declared.ends.StretchEnd.{StretchEnd}
 use Rattle.pv_stretch.specs.declared.ends.StretchEnd.TheVariants.{Fails, Stopped}
 use Rattle.pv_stretch.specs.declared.ends.Stretch.{Stretch}
-
--- ---- the scans of a run
-
-abbrev pub is_done : ScanEnd → Bool
-is_done (ended values) = true
-is_done (trapped kind place) = false
-is_done (over_end place) = false
-
--- how many of them are done
-abbrev pub done_in : List Scan → ℕ
-done_in scans = count_by (λ s. is_done s.end) scans
-
--- the trap by which a scan ends, if it does
-abbrev pub trap_of : ScanEnd → Option (TrapKind × Place)
-trap_of (ended values) = None
-trap_of (trapped kind place) = Some (kind, place)
-trap_of (over_end place) = None
-
--- that of the last one
-abbrev pub last_trap : List Scan → Option (TrapKind × Place)
-last_trap [] = None
-last_trap (s ∷ []) = trap_of s.end
-last_trap (s ∷ t ∷ more) = last_trap (t ∷ more)
+use Rattle.pv_stretch.specs.Scans.{done_in, last_trap}
 
 -- ---- what a stretch says of them
 

@@ -1,5 +1,6 @@
 -- what public clauses cite
 pub mod Stretches
+pub mod Scans
 -- what laws say
 pub mod Correct
 -- what private clauses cite

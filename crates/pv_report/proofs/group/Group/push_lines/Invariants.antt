@@ -2,7 +2,7 @@ use Rattle.std.proofs.Common.{◌≡◌, ◌++◌, filter}
 use Rattle.pv_report.specs.Reports.{value_lines}
 use Rattle.pv_report.specs.Groups.{front_text, has}
 use Rattle.pv_report.proofs.Values.{still}
-use Rattle.pv_report.proofs.group.push_lines.Given as goal
+use Rattle.pv_report.proofs.group.Group.push_lines.Given as goal
 
 -- the lines so far stand behind the text, and with those of the cells and values that are left they are all
 abbrev pub invariant-loop-cell : goal.invariant-loop-cell
