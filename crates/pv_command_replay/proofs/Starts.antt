@@ -6,9 +6,8 @@ use Rattle.pv_mean.specs.Sources.{Source}
 use Rattle.pv_mean.specs.Frames.{Input as Inputs, Params}
 use Rattle.pv_mean.specs.Runs.{start, run}
 use Rattle.pv_pattern.specs.Patterns.{Pattern, asks_for_goal}
-use Rattle.pv_replay.specs.Replays.{HasStarts}
 use Rattle.pv_stretch.specs.declared.ends.Stretch.{Stretch}
-use Rattle.pv_stretch.specs.Stretches.{stretch_of}
+use Rattle.pv_stretch.specs.Stretches.{HasStarts, stretch_of}
 use Rattle.pv_laws_starts.proofs.ForCallers.{fitting_has_starts}
 use Rattle.pv_command_load.specs.Subjects.{project_of, SubjectData, source_in}
 use Rattle.pv_command_load.specs.Reads.{Reads}

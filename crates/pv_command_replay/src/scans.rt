@@ -4,7 +4,7 @@ ghost use Rattle.pv_mean.specs.Sources.{Source};
 ghost use Rattle.pv_mean.specs.Runs.{run};
 ghost use Rattle.pv_pattern.specs.Patterns.{Pattern as A_pattern};
 ghost use Rattle.pv_pattern.specs.Found.{IsPatternOf};
-ghost use Rattle.pv_replay.specs.Replays.{HasStarts};
+ghost use Rattle.pv_stretch.specs.Stretches.{HasStarts};
 ghost use Rattle.pv_command_load.specs.Subjects.{SubjectData, source_in};
 ghost use Rattle.pv_command_load.specs.Made.{IsSubject};
 ghost use Rattle.pv_command_replay.specs.Ends.{IsEnd};

@@ -125,10 +125,10 @@ last_colon (a ∷ others) (b ∷ bs) x y nx ny e =
     let rest = last_colon others bs x y nx ny (tail_of a b (others ++ 58 ∷ x) (bs ++ 58 ∷ y) e) in
     (ap (λ z. z ∷ others) (head_of a b (others ++ 58 ∷ x) (bs ++ 58 ∷ y) e) ∙ ap (λ l. b ∷ l) rest.0, rest.1)
 
-record ArePrinted (file other : List ℕ) (line row column offset : ℕ) : Type 0 where
-  file : file ≡ other
-  line : line ≡ row
-  column : column ≡ offset
+record ArePrinted (f g : List ℕ) (l m c d : ℕ) : Type 0 where
+  file : f ≡ g
+  line : l ≡ m
+  column : c ≡ d
 
 regrouped : (file : List ℕ) (line column : ℕ) → printed file line column ≡ (file ++ 58 ∷ decimal line) ++ 58 ∷ decimal column
 regrouped file line column = sym (append_assoc file (58 ∷ decimal line) (58 ∷ decimal column))
@@ -149,27 +149,30 @@ none_begins o (t ∷ ts) s gt all =
     ap (λ b. cond b (t ∷ begun_at o ts) (begun_at o ts)) (lt-leb t o (omega (arith, gt, all.0))) ∙ none_begins o ts s gt all.1
 
 -- those that begin no later are the first ones
+abbrev Told : ℕ → ℕ → Type 0
+Told s o = ((nat_le s o ≡ true) × (s ≤ o)) ⊎ ((nat_le s o ≡ false) × (o < s))
+
 begun_take : (o : ℕ) (starts : List ℕ) → Rise starts → begun_at o starts ≡ take (length (begun_at o starts)) starts
 begun_take o [] rise = refl
-begun_take o (s ∷ ss) rise = lead (nat_le s o) (leb_tells s o) refl
+begun_take o (s ∷ ss) rise = lead (nat_le s o) (leb_tells s o) refl (begun_take o ss rise.1)
   where
-    lead : (b : Bool) → ((nat_le s o ≡ true) × (s ≤ o)) ⊎ ((nat_le s o ≡ false) × (o < s)) → nat_le s o ≡ b
+    lead : (b : Bool) → Told s o → nat_le s o ≡ b → begun_at o ss ≡ take (length (begun_at o ss)) ss
         → cond b (s ∷ begun_at o ss) (begun_at o ss) ≡ take (length (cond b (s ∷ begun_at o ss) (begun_at o ss))) (s ∷ ss)
-    lead true tells is = ap (λ l. s ∷ l) (begun_take o ss rise.1)
-    lead false (inl yes_so) is = absurd (true≢false (sym yes_so.0 ∙ is))
-    lead false (inr no_so) is =
+    lead true tells is rest = ap (λ l. s ∷ l) rest
+    lead false (inl yes_so) is rest = absurd (true≢false (sym yes_so.0 ∙ is))
+    lead false (inr no_so) is rest =
         let none = none_begins o ss s no_so.1 rise.0 in
-        none ∙ ap (λ l. take (length l) (s ∷ ss)) (sym none)
+        none ∙ ap (λ (l : List ℕ). take (length l) (s ∷ ss)) (sym none)
 
 begun_before : (o : ℕ) (starts : List ℕ) → AllByRecursion (λ start. start ≤ o) (begun_at o starts)
 begun_before o [] = tt
-begun_before o (s ∷ ss) = lead (nat_le s o) (leb_tells s o) refl
+begun_before o (s ∷ ss) = lead (nat_le s o) (leb_tells s o) refl (begun_before o ss)
   where
-    lead : (b : Bool) → ((nat_le s o ≡ true) × (s ≤ o)) ⊎ ((nat_le s o ≡ false) × (o < s)) → nat_le s o ≡ b
+    lead : (b : Bool) → Told s o → nat_le s o ≡ b → AllByRecursion (λ start. start ≤ o) (begun_at o ss)
         → AllByRecursion (λ start. start ≤ o) (cond b (s ∷ begun_at o ss) (begun_at o ss))
-    lead true (inl yes_so) is = (yes_so.1, begun_before o ss)
-    lead true (inr no_so) is = absurd (true≢false (sym is ∙ no_so.0))
-    lead false tells is = begun_before o ss
+    lead true (inl yes_so) is rest = (yes_so.1, rest)
+    lead true (inr no_so) is rest = absurd (true≢false (sym is ∙ no_so.0))
+    lead false tells is rest = rest
 
 last_before : (o : ℕ) (xs : List ℕ) → AllByRecursion (λ start. start ≤ o) xs → last_of xs ≤ o
 last_before o [] all = omega arith

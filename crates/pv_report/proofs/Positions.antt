@@ -95,7 +95,12 @@ begun_none bytes = starts_begun bytes 0 ∙ ap (λ l. 0 ∷ l) (none_begun 0 0 b
 begun_one : (bytes : List ℕ) (k d : ℕ) → k < length bytes
     → begun bytes (k + 1) ≡ begun bytes k ++ one_if (is_feed (get_or bytes k d)) (k + 1)
 begun_one bytes k d lt =
-    starts_begun bytes (k + 1) ∙ ap (λ l. 0 ∷ l) (begun_next 0 bytes k d lt)
+    let none : 0 + k ≡ k = omega arith in
+    let next : begun_at (k + 1) (starts_behind 0 bytes)
+    ≡ begun_at k (starts_behind 0 bytes) ++ one_if (is_feed (get_or bytes k d)) (k + 1) =
+    subst (λ n. begun_at (n + 1) (starts_behind 0 bytes) ≡ begun_at n (starts_behind 0 bytes) ++ one_if (is_feed (get_or bytes k d)) (n + 1)) none
+    (begun_next 0 bytes k d lt) in
+    starts_begun bytes (k + 1) ∙ ap (λ l. 0 ∷ l) next
     ∙ ap (λ l. l ++ one_if (is_feed (get_or bytes k d)) (k + 1)) (sym (starts_begun bytes k))
 
 -- what is so of a place: its line, its column, and that the line doesn't begin behind it

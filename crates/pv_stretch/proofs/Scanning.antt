@@ -11,7 +11,7 @@ use Rattle.pv_mean.specs.Scans.{Visible, Scan, ScanEnd, scan, next_image}
 use Rattle.pv_mean.specs.Runs.{after, run_from}
 use Rattle.pv_pattern.specs.declared.pattern.Pattern.{Pattern as Found}
 use Rattle.pv_pattern.specs.Patterns.{Pattern, judge, mark, asks_for_goal}
-use Rattle.pv_pattern.specs.Failing.{pattern, trap, ends_by, mark_of, is_failure}
+use Rattle.pv_pattern.specs.Failing.{Cause, pattern, trap, ends_by, mark_of}
 use Rattle.pv_pattern.specs.Found.{IsPatternOf, is_invariant, is_forbidden, is_implication, is_within, is_between, is_reach}
 use Rattle.pv_replay.specs.declared.end.ScanEnd.TheVariants as code
 use Rattle.pv_replay.specs.declared.replay.Replay.{Replay}
@@ -37,18 +37,24 @@ goal_is source found p (is_reach s) = refl
 abbrev last_at : Source → Pattern → Option Bool → Visible → ScanEnd → Option StretchEnd
 last_at source p prev begin end = fails_or (ends_by source p prev begin end) (stops_as end)
 
+abbrev failure_by : Bool → Bool → Bool
+failure_by goal holds = elim goal [ true ↦ holds | false ↦ not holds ]
+
+abbrev fails_where : Bool → Option Cause
+fails_where failure = elim failure [ true ↦ Some pattern | false ↦ None ]
+
+abbrev traps_by : Bool → TrapKind → Place → Option Cause
+traps_by goal kind place = elim goal [ true ↦ None | false ↦ Some (trap kind place) ]
+
 -- one that is done, by whether a goal is asked for and how the pattern is judged
-judged_so : (goal holds : Bool)
-    → judged_by goal holds
-    ≡ fails_or (elim (elim goal [ true ↦ holds | false ↦ not holds ]) [ true ↦ Some pattern | false ↦ None ]) None
+judged_so : (goal holds : Bool) → judged_by goal holds ≡ fails_or (fails_where (failure_by goal holds)) None
 judged_so true true = refl
 judged_so true false = refl
 judged_so false true = refl
 judged_so false false = refl
 
 trapped_so : (goal : Bool) (kind : TrapKind) (place : Place)
-    → Some (trapped_by goal kind place)
-    ≡ fails_or (elim goal [ true ↦ None | false ↦ Some (trap kind place) ]) (Some (Stopped kind place))
+    → Some (trapped_by goal kind place) ≡ fails_or (traps_by goal kind place) (Some (Stopped kind place))
 trapped_so true kind place = refl
 trapped_so false kind place = refl
 

@@ -8,6 +8,7 @@ use Rattle.pv_mean.specs.Scans.{Scan, ScanEnd}
 use Rattle.pv_mean.specs.Runs.{start}
 use Rattle.pv_pattern.specs.Patterns.{Pattern}
 use Rattle.pv_pattern.specs.Failing.{Cause, pattern, trap, over, ends_as, mark_of}
+pub use Rattle.pv_replay.specs.Replays.{HasStarts}
 use Rattle.pv_cert.specs.declared.trace.Ending.{Ending}
 use Rattle.pv_cert.specs.declared.trace.Ending.TheVariants as ending
 use Rattle.pv_stretch.specs.declared.ends.StretchStart.{StretchStart}

@@ -16,7 +16,7 @@ loop-start-preserved c =
     elim c.if-start-offset.branch [
       | then-start-offset w ↦
           let more = begun_more_yes c.args.offset starts l.start-index 0 c.loop-start-test.true w.if-start-offset.true in
-          (w.line-is ∙ ap (λ n. n + 1) l.invariant.0 ∙ one_longer _ _ ∙ ap length (sym more), w.last-is ∙ sym (last_is _ _) ∙ ap last_of (sym more))
+          (w.line-is ∙ ap (λ n. n + 1) l.invariant.0 ∙ one_longer (begun_at c.args.offset (take l.start-index starts)) _ ∙ ap length (sym more), w.last-is ∙ sym (last_is (begun_at c.args.offset (take l.start-index starts)) _) ∙ ap last_of (sym more))
       | else-start-offset w ↦
           let same = begun_more_no c.args.offset starts l.start-index 0 c.loop-start-test.true w.if-start-offset.false in
           (w.line-is ∙ l.invariant.0 ∙ ap length (sym same), w.last-is ∙ l.invariant.1 ∙ ap last_of (sym same))

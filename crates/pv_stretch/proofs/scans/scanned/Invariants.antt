@@ -14,6 +14,6 @@ abbrev pub invariant-loop-done : goal.invariant-loop-done
 invariant-loop-done l =
     ((source : Source) (p : Pattern) → IsReplayOf source l.fn.replay → is_ready l.fn.replay ≡ true
     → IsPatternOf source l.pattern p → AllByRecursion (AreWithin (input_ranges source.cells)) l.inputs
-    → Remains source p l.first (image_of l.fn.replay) l.inputs l.done l.prev l.replay)
+    → Remains source p l.fn.first (image_of l.fn.replay) l.inputs l.done l.prev l.replay)
     × (cells_of l.replay ≡ cells_of l.fn.replay) × (view_of l.replay ≡ view_of l.fn.replay)
     × ((source : Source) → IsReplayOf source l.fn.replay → IsReplayOf source l.replay)
