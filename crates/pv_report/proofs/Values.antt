@@ -1,8 +1,6 @@
 -- Lines of values, by what is still to be written.
 use Rattle.std.proofs.Common.{◌≡◌, ℕ, zero, suc, ◌+◌, ◌<◌, ◌≤◌, ℤ, pos, List, [], ◌∷◌, ◌++◌, length, drop, get_or, filter, append_assoc, append-nil, Bool, true, false, cond, refl, sym, ap, ◌∙◌, arith}
-use Rattle.std.specs.Prelude.{codes, decimal, slice_get, Some}
-use Rattle.std.specs.Option.{unwrap_or}
-use Rattle.std.proofs.lemmas.Option.{slice_get_within, unwrap_or-slice_get}
+use Rattle.std.specs.Prelude.{codes, decimal}
 use Rattle.std.proofs.lemmas.List.{drop_more}
 use Rattle.pv_mean.specs.declared.cell.Cell.{Cell}
 use Rattle.pv_mean.specs.Frames.{input_cells}
@@ -63,15 +61,13 @@ module _ (front : List ℕ) (p : Cell → Bool) where
 -- one step of the loop
 module _ (front : List ℕ) (p : Cell → Bool) (cells : List Cell) (i : ℕ) (values : List ℤ) (n : ℕ) (c : Cell) (old new all : List ℕ) (next : ℕ) where
   -- the cell's line is written
-  pub pushed : (v : ℤ) → i < length cells → c ≡ get_or cells i c → p c ≡ true → slice_get values n ≡ Some v
+  pub pushed : (v : ℤ) → i < length cells → c ≡ get_or cells i c → p c ≡ true → n < length values → v ≡ get_or values n v
       → new ≡ old ++ value_line front c v → next ≡ n + 1 → old ++ still front p cells i values n ≡ all
       → new ++ still front p cells (i + 1) values next ≡ all
-  pushed v lt is one value line count so_far =
-      let at : get_or values n v ≡ v =
-      sym (unwrap_or-slice_get values n v) ∙ ap (λ o. unwrap_or o v) value in
-      let step = written front p cells i values n c v lt (ap p (sym is) ∙ one) (slice_get_within values n v value)
+  pushed v lt is one more value line count so_far =
+      let step = written front p cells i values n c v lt (ap p (sym is) ∙ one) more
       ∙ ap (λ x. value_line front x (get_or values n v) ++ still front p cells (i + 1) values (n + 1)) (sym is)
-      ∙ ap (λ x. value_line front c x ++ still front p cells (i + 1) values (n + 1)) at in
+      ∙ ap (λ x. value_line front c x ++ still front p cells (i + 1) values (n + 1)) (sym value) in
       ap (λ t. t ++ still front p cells (i + 1) values next) line
       ∙ ap (λ k. (old ++ value_line front c v) ++ still front p cells (i + 1) values k) count
       ∙ append_assoc old (value_line front c v) (still front p cells (i + 1) values (n + 1))

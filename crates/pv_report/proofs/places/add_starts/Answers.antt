@@ -1,4 +1,4 @@
-use Rattle.std.proofs.Common.{◌≡◌, ◌+◌, ◌++◌, ◌∷◌, [], length, drop, true, false, sym, ap, ◌∙◌, arith}
+use Rattle.std.proofs.Common.{◌≡◌, ◌+◌, ◌++◌, ◌∷◌, [], length, drop, true, false, sym, ap, ◌∙◌, arith, rules}
 use Rattle.pv_report.specs.Places.{starts_behind}
 use Rattle.pv_report.proofs.Values.{whole, stepped, all_dropped}
 use Rattle.pv_report.proofs.Starts.{starts_more}
@@ -9,11 +9,16 @@ pub loop-at-preserved : goal.loop-at-preserved
 loop-at-preserved c =
     let l = c.loop-at in
     let bytes = c.args.bytes.now in
+    let rest = starts_behind (l.at + 1) (drop (l.at + 1) bytes) in
     elim c.if-byte-eq10.branch [
-      | then-byte-eq10+in-Ok+in_ok-push-in-Ok w ↦ ap (λ s. s ++ starts_behind (l.at + 1) (drop (l.at + 1) bytes)) (w.starts-is ∙ w.in_ok-push-in-Ok.ensures)
-          ∙ stepped l.starts.items ((l.at + 1) ∷ []) (starts_behind l.at (drop l.at bytes)) (starts_behind (l.at + 1) (drop (l.at + 1) bytes)) _ l.invariant
+      | then-byte-eq10+in-Ok+in_ok-push-in-Ok w ↦
+          let start : w.in-Ok.start ≡ l.at + 1 = search rules in
+          ap (λ s. s.items ++ rest) w.starts-is
+          ∙ ap (λ s. s ++ rest) w.in_ok-push-in-Ok.ensures.items
+          ∙ ap (λ n. (l.starts.items ++ n ∷ []) ++ rest) start
+          ∙ stepped l.starts.items ((l.at + 1) ∷ []) (starts_behind l.at (drop l.at bytes)) rest _ l.invariant
           (starts_more bytes l.at 0 c.loop-at-test.true true w.if-byte-eq10.true)
-      | else-byte-eq10 w ↦ ap (λ s. s ++ starts_behind (l.at + 1) (drop (l.at + 1) bytes)) w.starts-is
+      | else-byte-eq10 w ↦ ap (λ s. s.items ++ rest) w.starts-is
           ∙ ap (λ r. l.starts.items ++ r) (sym (starts_more bytes l.at 0 c.loop-at-test.true false w.if-byte-eq10.false)) ∙ l.invariant
     ]
 

@@ -7,7 +7,7 @@ use Rattle.pv_report.proofs.places.line_at.Goals.{then-start-offset, else-start-
 pub overflow_add-line : goal.overflow_add-line
 overflow_add-line c =
     let l = c.loop-start in
-    omega (arith, l.invariant.0, begun_short c.args.offset c.args.starts.now l.start-index, c.loop-start-test.true, c.type_inv.starts)
+    omega (arith, l.invariant.0, begun_short c.args.offset c.args.starts.now l.start-index, c.loop-start-test.true)
 
 pub loop-start-preserved : goal.loop-start-preserved
 loop-start-preserved c =
