@@ -4,7 +4,7 @@ use Rattle.std.specs.Prelude.{nat_le}
 use Rattle.std.proofs.Math.Seq.{take-suc}
 use Rattle.std.proofs.lemmas.List.{drop_more, length-take}
 use Rattle.std.proofs.lemmas.List.Elements.{filter-append}
-use Rattle.std.proofs.lemmas.Bool.{le-leb, lt-leb}
+use Rattle.std.proofs.lemmas.Bool.{le-leb, lt-leb, eqb-true}
 use Rattle.pv_report.specs.Places.{starts_behind, begun_at, last_of}
 
 -- ---- along the bytes
@@ -15,10 +15,22 @@ by_feed feed before more = elim feed [
   | false ↦ starts_behind (before + 1) more
 ]
 
-pub starts_more : (bytes : List ℕ) (i d : ℕ) → i < length bytes → (feed : Bool) → (get_or bytes i d == 10) ≡ feed
+starts_more : (bytes : List ℕ) (i d : ℕ) → i < length bytes → (feed : Bool) → (get_or bytes i d == 10) ≡ feed
     → starts_behind i (drop i bytes) ≡ by_feed feed i (drop (i + 1) bytes)
 starts_more bytes i d lt feed is =
     ap (λ l. starts_behind i l) (drop_more bytes i d lt) ∙ ap (λ b. by_feed b i (drop (i + 1) bytes)) is
+
+pub starts_yes : (bytes : List ℕ) (i d : ℕ) → i < length bytes → get_or bytes i d ≡ 10
+    → starts_behind i (drop i bytes) ≡ (i + 1) ∷ starts_behind (i + 1) (drop (i + 1) bytes)
+starts_yes bytes i d lt is = starts_more bytes i d lt true (ap (λ b. b == 10) is)
+
+pub starts_no : (bytes : List ℕ) (i d : ℕ) → i < length bytes → (get_or bytes i d ≡ 10 → ⊥)
+    → starts_behind i (drop i bytes) ≡ starts_behind (i + 1) (drop (i + 1) bytes)
+starts_no bytes i d lt isnt = lead (get_or bytes i d == 10) refl
+  where
+    lead : (feed : Bool) → (get_or bytes i d == 10) ≡ feed → starts_behind i (drop i bytes) ≡ starts_behind (i + 1) (drop (i + 1) bytes)
+    lead true is = absurd (isnt (eqb-true (get_or bytes i d) 10 is))
+    lead false is = starts_more bytes i d lt false is
 
 -- ---- along the starts
 

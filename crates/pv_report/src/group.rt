@@ -58,14 +58,14 @@ impl Group {
     }
 
     /// Puts the line of a cell's value behind a text.
-    fn push_line(self, text: &mut Vec<u8>, cell: &Cell, value: i128) -> Result<(), AllocError>
-        ensures { OnOk result (text.new.items ≡ text.old.items ++ value_line (front_text self) cell.now value) }
+    fn push_line(self, text: &mut Vec<u8>, cell: &Cell, value: &i128) -> Result<(), AllocError>
+        ensures { OnOk result (text.new.items ≡ text.old.items ++ value_line (front_text self) cell.now value.now) }
     {
         let mut buffer = Buffer::new();
         self.push_front(text)?;
         text.extend_from_slice(cell.path.bytes())?;
         text.extend_from_slice(b" = ")?;
-        text.extend_from_slice(buffer.format(value).as_bytes())?;
+        text.extend_from_slice(buffer.format(*value).as_bytes())?;
         text.push(b'\n')?;
         Ok(())
     }
@@ -86,7 +86,7 @@ impl Group {
                 let Some(value) = values.get(next) else {
                     return Ok(());
                 };
-                self.push_line(text, cell, *value)?;
+                self.push_line(text, cell, value)?;
                 next += 1;
             }
         }

@@ -1,7 +1,7 @@
 use Rattle.std.proofs.Common.{◌≡◌, ◌+◌, ◌++◌, ◌∷◌, [], length, drop, true, false, sym, ap, ◌∙◌, arith, rules}
 use Rattle.pv_report.specs.Places.{starts_behind}
 use Rattle.pv_report.proofs.Values.{whole, stepped, all_dropped}
-use Rattle.pv_report.proofs.Starts.{starts_more}
+use Rattle.pv_report.proofs.Starts.{starts_yes, starts_no}
 use Rattle.pv_report.proofs.places.add_starts.Goals as goal
 use Rattle.pv_report.proofs.places.add_starts.Goals.{then-byte-eq10+in-Ok+in_ok-push-in-Ok, else-byte-eq10}
 
@@ -17,9 +17,9 @@ loop-at-preserved c =
           ∙ ap (λ s. s ++ rest) w.in_ok-push-in-Ok.ensures.items
           ∙ ap (λ n. (l.starts.items ++ n ∷ []) ++ rest) start
           ∙ stepped l.starts.items ((l.at + 1) ∷ []) (starts_behind l.at (drop l.at bytes)) rest _ l.invariant
-          (starts_more bytes l.at 0 c.loop-at-test.true true w.if-byte-eq10.true)
+          (starts_yes bytes l.at 0 c.loop-at-test.true w.if-byte-eq10.true)
       | else-byte-eq10 w ↦ ap (λ s. s.items ++ rest) w.starts-is
-          ∙ ap (λ r. l.starts.items ++ r) (sym (starts_more bytes l.at 0 c.loop-at-test.true false w.if-byte-eq10.false)) ∙ l.invariant
+          ∙ ap (λ r. l.starts.items ++ r) (sym (starts_no bytes l.at 0 c.loop-at-test.true w.if-byte-eq10.false)) ∙ l.invariant
     ]
 
 pub returns : goal.returns
