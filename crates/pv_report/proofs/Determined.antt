@@ -1,12 +1,11 @@
 -- A report determines its verdict.
-use Rattle.std.proofs.Common.{◌≡◌, ℕ, ◌+◌, ◌<◌, ◌^◌, ◌==◌, List, [], ◌∷◌, ◌++◌, length, get_or, append_assoc, Bool, true, false, Option, Some, None, refl, sym, ap, subst, ◌∙◌, arith}
-use Rattle.std.specs.Prelude.{codes, decimal}
+use Rattle.std.proofs.Common.{◌≡◌, ℕ, ◌+◌, ◌==◌, List, [], ◌++◌, get_or, append_assoc, Bool, true, false, Option, Some, None, refl, sym, ap, subst, ◌∙◌, arith}
+use Rattle.std.specs.Prelude.{codes}
 use Rattle.std.proofs.lemmas.List.{append_cancel_left}
-use Rattle.pv_place.specs.declared.place.Place.{Place}
 use Rattle.pv_place.specs.declared.trap.TrapKind.{TrapKind}
 use Rattle.pv_place.specs.declared.trap.TrapKind.TheVariants.{DivideByZero, Index, Unset}
 use Rattle.pv_mean.specs.declared.cell.Cell.{Cell}
-use Rattle.pv_mean.specs.Frames.{stored_cells, free_cells, input_cells}
+use Rattle.pv_mean.specs.Frames.{stored_cells, free_cells}
 use Rattle.pv_case.specs.declared.case.PatternKind.{PatternKind}
 use Rattle.pv_case.specs.declared.case.PatternKind.TheVariants as kind
 use Rattle.pv_case.specs.declared.case.Limits.{Limits}
@@ -22,8 +21,8 @@ use Rattle.pv_cert.proofs.ForCallers.{cut-one}
 use Rattle.pv_report.specs.declared.verdict.Verdict.{Verdict}
 use Rattle.pv_report.specs.Words.{trap_word, head_text}
 use Rattle.pv_report.specs.Places.{Lines, place_text}
-use Rattle.pv_report.specs.Reports.{value_lines, image_lines, scan_lines, trace_lines, mark_word, prev_line, state_lines, ending_text, ending_line, query_line, numbered, claim_lines, shown_lines, report_text}
-use Rattle.pv_report.specs.Correct.{AreFiles, LiesIn, EndsIn, IsRun, IsMark, IsStretch, IsSome, IsTrap, IsOver, IsAsked, Shows, IsVerdictOf}
+use Rattle.pv_report.specs.Reports.{image_lines, scan_lines, trace_lines, mark_word, prev_line, state_lines, ending_text, ending_line, query_line, numbered, claim_lines, shown_lines, report_text}
+use Rattle.pv_report.specs.Correct.{AreFiles, EndsIn, IsRun, IsMark, IsStretch, IsSome, IsTrap, IsOver, IsAsked, Shows, IsVerdictOf}
 use Rattle.pv_report.proofs.Cuts.{both_without, place_feed, cut_front, numbered_cut, values_cut, scans_cut, same_place}
 
 -- ---- endings

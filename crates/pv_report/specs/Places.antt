@@ -1,6 +1,6 @@
 -- Places as reports print them, FILE:LINE:COLUMN, by where the lines of each file begin. Lines and columns count from 1, and a column is
 -- a byte.
-use Rattle.std.specs.Prelude.{ℕ, ◌+◌, ◌-◌, ◌==◌, nat_le, List, [], ◌∷◌, ◌++◌, filter, length, codes, decimal, Bool, true, false, Option, Some, None, slice_get, string_bytes}
+use Rattle.std.specs.Prelude.{ℕ, ◌+◌, ◌-◌, ◌==◌, nat_le, List, [], ◌∷◌, ◌++◌, filter, length, codes, decimal, true, false, Option, Some, None, slice_get, string_bytes}
 use Rattle.pv_place.specs.declared.place.Place.{Place}
 use Rattle.pv_report.specs.declared.places.FileLines.{FileLines}
 

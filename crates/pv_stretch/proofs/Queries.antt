@@ -1,10 +1,10 @@
 -- States and inputs by which a source's machine meets a query, as stretches.
-use Rattle.std.proofs.Common.{◌≡◌, ◌↔◌, ℕ, zero, suc, ◌+◌, ◌≤◌, Bool, true, false, List, [], ◌∷◌, ◌++◌, length, take, drop, Option, Some, None, is_some, refl, ap, sym, subst, ◌∙◌, arith}
+use Rattle.std.proofs.Common.{◌≡◌, ◌↔◌, ℕ, zero, suc, ◌+◌, Bool, true, false, List, [], ◌∷◌, ◌++◌, length, take, drop, Option, Some, None, is_some, refl, ap, sym, subst, ◌∙◌, arith}
 use Rattle.std.proofs.Math.Seq.{take-append_seam, drop-append_seam}
 use Rattle.std.proofs.lemmas.List.{length-map, length-take-le, length-append}
 use Rattle.pv_place.specs.Ranges.{Range, AreWithin}
-use Rattle.pv_machine.specs.Machines.{Values, done, IsState}
-use Rattle.pv_machine.specs.Queries.{IsGoodScan, FailsAtLast}
+use Rattle.pv_machine.specs.Machines.{Values, IsState}
+use Rattle.pv_machine.specs.Queries.{FailsAtLast}
 use Rattle.pv_mean.specs.Sources.{Source}
 use Rattle.pv_mean.specs.Frames.{Image, Input, Params, image_len, stored_cells, range_of_cell, image_ranges}
 use Rattle.pv_mean.specs.Endings.{ended, trapped, over as over_end}
@@ -15,12 +15,10 @@ use Rattle.pv_pattern.specs.Patterns.{Pattern, mark}
 use Rattle.pv_pattern.specs.Failing.{Cause, ends_as, mark_of, FailsFirstFrom}
 use Rattle.pv_pattern.specs.Sources.{looks_back, ranges_by, bits_of, bits_by, mark_in, state_of, image_in, prev_in, step_of, machine_of}
 use Rattle.pv_pattern.proofs.ForCallers.{ends_alike, fails_first}
-use Rattle.pv_cert.specs.declared.trace.Ending.{Ending}
 use Rattle.pv_stretch.specs.declared.ends.StretchEnd.{StretchEnd}
-use Rattle.pv_stretch.specs.declared.ends.StretchEnd.TheVariants.{Fails}
 use Rattle.pv_stretch.specs.declared.ends.Stretch.{Stretch}
 use Rattle.pv_stretch.specs.Stretches.{ending_of, stretch_of}
-use Rattle.pv_stretch.specs.Correct.{cause_of, EndsSo, fails_behind, FailsLast}
+use Rattle.pv_stretch.specs.Correct.{cause_of, EndsSo, FailsLast}
 use Rattle.pv_stretch.proofs.Stretching.{cause_back, is_stretch, first_told}
 
 -- ---- an image and a mark as a state: a step is the scan from the image, and fails where the scan does behind the mark

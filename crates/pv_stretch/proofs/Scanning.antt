@@ -6,8 +6,7 @@ use Rattle.pv_place.specs.declared.trap.TrapKind.{TrapKind}
 use Rattle.pv_place.specs.Ranges.{AreWithin}
 use Rattle.pv_mean.specs.Sources.{Source}
 use Rattle.pv_mean.specs.Frames.{Image, Input, input_ranges}
-use Rattle.pv_mean.specs.Endings.{trapped}
-use Rattle.pv_mean.specs.Scans.{Visible, Scan, ScanEnd, scan, next_image}
+use Rattle.pv_mean.specs.Scans.{Visible, ScanEnd, scan, next_image}
 use Rattle.pv_mean.specs.Runs.{after, run_from}
 use Rattle.pv_pattern.specs.declared.pattern.Pattern.{Pattern as Found}
 use Rattle.pv_pattern.specs.Patterns.{Pattern, judge, mark, asks_for_goal}

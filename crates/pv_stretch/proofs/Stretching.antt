@@ -1,5 +1,5 @@
 -- What a stretch says of a run's scans is so.
-use Rattle.std.proofs.Common.{◌≡◌, ℕ, zero, suc, ◌+◌, List, [], ◌∷◌, length, Bool, true, false, cond, Option, Some, None, refl, sym, ap, subst, ◌∙◌, arith}
+use Rattle.std.proofs.Common.{◌≡◌, ℕ, zero, suc, ◌+◌, List, [], ◌∷◌, Bool, true, false, cond, Option, Some, None, refl, sym, ap, subst, ◌∙◌, arith}
 use Rattle.std.proofs.lemmas.List.Sums.{sum_by-cons}
 use Rattle.pv_place.specs.declared.place.Place.{Place}
 use Rattle.pv_place.specs.declared.trap.TrapKind.{TrapKind}
@@ -9,7 +9,7 @@ use Rattle.pv_mean.specs.Endings.{ended, trapped, over as over_end}
 use Rattle.pv_mean.specs.Scans.{Visible, Scan, ScanEnd, scan, next_image}
 use Rattle.pv_mean.specs.Runs.{after, run_from}
 use Rattle.pv_pattern.specs.Patterns.{Pattern, mark, asks_for_goal}
-use Rattle.pv_pattern.specs.Failing.{Cause, pattern, trap, over, ends_by, ends_as, mark_of, NoneFailsFrom, FailsFirstFrom}
+use Rattle.pv_pattern.specs.Failing.{Cause, pattern, trap, over, ends_by, ends_as, mark_of, FailsFirstFrom}
 use Rattle.pv_cert.specs.declared.trace.Ending.{Ending}
 use Rattle.pv_cert.specs.declared.trace.Ending.TheVariants as ending
 use Rattle.pv_stretch.specs.declared.ends.StretchEnd.{StretchEnd}

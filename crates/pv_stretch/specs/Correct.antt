@@ -1,5 +1,5 @@
 -- What laws say of stretches: which scans fail first, and which states and inputs a query's machine meets it by.
-use Rattle.std.specs.Prelude.{◌≡◌, ℕ, ◌+◌, List, [], ◌∷◌, length, Bool, true, Option, Some, None}
+use Rattle.std.specs.Prelude.{◌≡◌, ℕ, ◌+◌, List, length, Bool, true, Option, Some, None}
 use Rattle.pv_mean.specs.Sources.{Source}
 use Rattle.pv_mean.specs.Frames.{Input}
 use Rattle.pv_mean.specs.Scans.{Scan}

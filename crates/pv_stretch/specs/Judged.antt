@@ -1,5 +1,5 @@
 -- How the scans of a replay are judged one by one. Private clauses cite this.
-use Rattle.std.specs.Prelude.{◌≡◌, Bool, true, false, not, Option, Some, None}
+use Rattle.std.specs.Prelude.{◌≡◌, Bool, true, false, Option, Some, None}
 use Rattle.pv_place.specs.declared.place.Place.{Place}
 use Rattle.pv_place.specs.declared.trap.TrapKind.{TrapKind}
 use Rattle.pv_mean.specs.Sources.{Source}

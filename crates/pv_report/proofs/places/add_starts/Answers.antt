@@ -1,4 +1,4 @@
-use Rattle.std.proofs.Common.{◌≡◌, ◌+◌, ◌++◌, ◌∷◌, [], length, drop, true, false, sym, ap, ◌∙◌, arith, rules}
+use Rattle.std.proofs.Common.{◌≡◌, ◌+◌, ◌++◌, ◌∷◌, [], drop, sym, ap, ◌∙◌, arith, rules}
 use Rattle.pv_report.specs.Places.{starts_behind}
 use Rattle.pv_report.proofs.Values.{whole, stepped, all_dropped}
 use Rattle.pv_report.proofs.Starts.{starts_yes, starts_no}

@@ -1,4 +1,4 @@
-use Rattle.std.proofs.Common.{◌≡◌, ◌+◌, length, take, true, false, sym, ap, ◌∙◌, arith}
+use Rattle.std.proofs.Common.{◌+◌, length, take, sym, ap, ◌∙◌, arith}
 use Rattle.pv_report.specs.Places.{begun_at, last_of}
 use Rattle.pv_report.proofs.Starts.{begun_more_yes, begun_more_no, begun_short, one_longer, last_is}
 use Rattle.pv_report.proofs.places.line_at.Goals as goal
