@@ -7,9 +7,9 @@ use Rattle.pv_case.specs.declared.case.PatternKind.TheVariants.{Invariant, Betwe
 use Rattle.pv_mean.specs.Endings.{ended, trapped, over}
 use Rattle.pv_mean.specs.Scans.{Scan, ScanEnd}
 use Rattle.pv_command_load.specs.Positions.{FileText}
+use Rattle.pv_stretch.specs.Scans.{done_in, last_trap}
 use Rattle.pv_command_replay.specs.declared.end.Cause.TheVariants.{Pattern, Trap}
 use Rattle.pv_command_replay.specs.declared.end.End.TheVariants.{Kept, Broken, Over, Reached, NotReached}
-use Rattle.pv_command_replay.specs.Ends.{done_in, last_trap}
 use Rattle.pv_command_replay.specs.Reports.{report_text}
 use Rattle.pv_command_replay.specs.Traces.{trace_line}
 

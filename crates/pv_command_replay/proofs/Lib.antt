@@ -1,7 +1,7 @@
 mod Examples
 pub mod OneEnd
 pub mod Ending
-pub mod Scanning
+pub mod Places
 pub mod Starts
 pub mod TraceLaws
 pub mod Saying

@@ -5,11 +5,12 @@ use Rattle.pv_mean.specs.Sources.{Source}
 use Rattle.pv_mean.specs.Scans.{Scan}
 use Rattle.pv_pattern.specs.Patterns.{Pattern, asks_for_goal}
 use Rattle.pv_pattern.specs.Failing.{Cause, pattern, trap, over, mark_of, NoneFailsFrom, FailsFirstFrom, NoneFails, FailsFirst}
+use Rattle.pv_stretch.specs.Scans.{done_in, last_trap}
 use Rattle.pv_command_replay.specs.declared.end.Cause.{Cause as EndCause}
 use Rattle.pv_command_replay.specs.declared.end.Cause.TheVariants as cause
 use Rattle.pv_command_replay.specs.declared.end.End.{End}
 use Rattle.pv_command_replay.specs.declared.end.End.TheVariants.{Kept, Broken, Over, Reached, NotReached}
-use Rattle.pv_command_replay.specs.Ends.{done_in, last_trap, cause_of, IsEnd}
+use Rattle.pv_command_replay.specs.Ends.{cause_of, IsEnd}
 
 -- where none fails no scan is the first that does
 fails_not : (source : Source) (p : Pattern) (prev : Option Bool) (scans : List Scan) (n : ℕ) (by : Cause) → NoneFailsFrom source p prev scans

@@ -1,11 +1,15 @@
--- What laws say of a replay's end and of its trace.
-use Rattle.std.specs.Prelude.{◌≡◌, ℕ, List, Some}
+-- What laws say of a replay's end, of its trace, and of the places in its report.
+use Rattle.std.specs.Prelude.{◌≡◌, ◌≤◌, ℕ, List, length, map, Some, IfSome, slice_get}
 use Rattle.pv_edge.specs.Files.{FileMap}
+use Rattle.pv_place.specs.declared.place.Place.{Place}
 use Rattle.pv_mean.specs.Sources.{Source}
 use Rattle.pv_mean.specs.Frames.{Input, Params}
 use Rattle.pv_mean.specs.Runs.{run}
 use Rattle.pv_pattern.specs.Patterns.{Pattern}
 use Rattle.pv_claims.specs.declared.trace.Trace.{Trace}
+use Rattle.pv_report.specs.Places as lines
+use Rattle.pv_report.specs.Places.{Lines, line_starts}
+use Rattle.pv_command_load.specs.Positions.{FileText, place_text}
 use Rattle.pv_command_replay.specs.declared.end.End.{End}
 use Rattle.pv_command_replay.specs.Ends.{IsEnd}
 use Rattle.pv_command_replay.specs.Traces.{HoldsTrace, HoldsNoTrace}
@@ -21,3 +25,13 @@ pub record FilesDecideOneTrace (files : FileMap) (file : List ℕ) (source : Sou
   pub one_trace : (t u : Trace) → HoldsTrace (Some files) file source t → HoldsTrace (Some files) file source u → t ≡ u
   pub one_line : (n m : ℕ) → HoldsNoTrace (Some files) file source n → HoldsNoTrace (Some files) file source m → n ≡ m
   pub apart : (t : Trace) (n : ℕ) → HoldsTrace (Some files) file source t → HoldsNoTrace (Some files) file source n → ⊥
+
+-- a source by where its lines begin
+abbrev pub lines_of : FileText → Lines
+lines_of text = record { file = text.file; starts = line_starts text.bytes }
+
+-- a place that doesn't lie behind the end of its source has one text in all reports
+abbrev pub PlaceHasOneText : List FileText → Place → Type 0
+PlaceHasOneText texts place =
+    IfSome (slice_get texts place.file) (λ text. place.offset ≤ length text.bytes)
+    → place_text texts place ≡ lines.place_text (map lines_of texts) place

@@ -1,43 +1,16 @@
 -- How a replay ends, by the scans of its run: no scan fails, or one is the first that does. Of a requirement that asks for a goal a scan
 -- fails where the goal is reached, and a trap ends the run without failing.
-use Rattle.std.specs.Prelude.{◌≡◌, ℕ, List, [], ◌∷◌, length, count_by, Bool, true, false, Option, Some, None}
-use Rattle.pv_place.specs.declared.place.Place.{Place}
-use Rattle.pv_place.specs.declared.trap.TrapKind.{TrapKind}
+use Rattle.std.specs.Prelude.{◌≡◌, List, length, true, false}
 use Rattle.pv_mean.specs.Sources.{Source}
-use Rattle.pv_mean.specs.Endings.{ended, trapped, over as over_end}
-use Rattle.pv_mean.specs.Scans.{Scan, ScanEnd}
+use Rattle.pv_mean.specs.Scans.{Scan}
 use Rattle.pv_pattern.specs.Patterns.{Pattern, asks_for_goal}
 use Rattle.pv_pattern.specs.Failing as failing
 use Rattle.pv_pattern.specs.Failing.{NoneFails, FailsFirst}
+use Rattle.pv_stretch.specs.Scans.{done_in, last_trap}
 use Rattle.pv_command_replay.specs.declared.end.Cause.{Cause}
 use Rattle.pv_command_replay.specs.declared.end.Cause.TheVariants as cause
 use Rattle.pv_command_replay.specs.declared.end.End.{End}
 use Rattle.pv_command_replay.specs.declared.end.End.TheVariants.{Kept, Broken, Over, Reached, NotReached}
-
--- ---- the scans of a run
-
-abbrev pub is_done : ScanEnd → Bool
-is_done (ended values) = true
-is_done (trapped kind place) = false
-is_done (over_end place) = false
-
--- how many of them are done
-abbrev pub done_in : List Scan → ℕ
-done_in scans = count_by (λ s. is_done s.end) scans
-
--- the trap by which a scan ends, if it does
-abbrev pub trap_of : ScanEnd → Option (TrapKind × Place)
-trap_of (ended values) = None
-trap_of (trapped kind place) = Some (kind, place)
-trap_of (over_end place) = None
-
--- that of the last one
-abbrev pub last_trap : List Scan → Option (TrapKind × Place)
-last_trap [] = None
-last_trap (s ∷ []) = trap_of s.end
-last_trap (s ∷ t ∷ more) = last_trap (t ∷ more)
-
--- ---- how a replay ends
 
 abbrev pub cause_of : Cause → failing.Cause
 cause_of cause.Pattern = failing.pattern

@@ -2,9 +2,8 @@
 use Rattle.std.specs.Prelude.{ℕ, List, ◌++◌, codes, decimal, Some, None}
 use Rattle.pv_place.specs.declared.place.Place.{Place}
 use Rattle.pv_place.specs.declared.trap.TrapKind.{TrapKind}
-use Rattle.pv_place.specs.declared.trap.TrapKind.TheVariants.{DivideByZero, Index, Unset}
 use Rattle.pv_case.specs.declared.case.PatternKind.{PatternKind}
-use Rattle.pv_case.specs.declared.case.PatternKind.TheVariants.{Invariant, Forbidden, Implication, Within, Between, Reach}
+use Rattle.pv_report.specs.Words.{trap_word, head_text}
 use Rattle.pv_command_load.specs.Positions.{FileText, place_text}
 use Rattle.pv_command_replay.specs.declared.end.Cause.{Cause}
 use Rattle.pv_command_replay.specs.declared.end.Cause.TheVariants.{Pattern, Trap}
@@ -19,27 +18,7 @@ end_status (Over n place) = 2
 end_status (Reached n) = 0
 end_status (NotReached n trap) = 1
 
--- ---- words
-
-abbrev pub pattern_word : PatternKind → List ℕ
-pattern_word Invariant = codes "invariant"
-pattern_word Forbidden = codes "forbidden"
-pattern_word Implication = codes "implication"
-pattern_word Within = codes "within"
-pattern_word Between = codes "between"
-pattern_word Reach = codes "reach"
-
-abbrev pub trap_word : TrapKind → List ℕ
-trap_word DivideByZero = codes "DivideByZero"
-trap_word Index = codes "Index"
-trap_word Unset = codes "Unset"
-
 -- ---- lines
-
--- the first three lines of each report
-abbrev pub head_text : List ℕ → PatternKind → List ℕ
-head_text name kind =
-    codes "PLCV 1\ncase " ++ (name ++ (codes "\npattern " ++ (pattern_word kind ++ codes "\n")))
 
 -- what a trap is, and where
 abbrev pub trap_text : List FileText → TrapKind → Place → List ℕ

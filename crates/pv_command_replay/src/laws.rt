@@ -4,7 +4,9 @@ ghost use Rattle.pv_edge.specs.Files.{FileMap};
 ghost use Rattle.pv_mean.specs.Sources.{Source};
 ghost use Rattle.pv_mean.specs.Frames.{Input, Params};
 ghost use Rattle.pv_pattern.specs.Patterns.{Pattern};
-ghost use Rattle.pv_command_replay.specs.Correct.{RunsEndInOneWay, FilesDecideOneTrace};
+ghost use Rattle.pv_place.specs.declared.place.Place.{Place};
+ghost use Rattle.pv_command_load.specs.Positions.{FileText};
+ghost use Rattle.pv_command_replay.specs.Correct.{RunsEndInOneWay, FilesDecideOneTrace, PlaceHasOneText};
 
 /// Each run ends in one way.
 pub fn runs_end_in_one_way()
@@ -16,4 +18,9 @@ pub fn runs_end_in_one_way()
 pub fn files_decide_one_trace()
     ensures { (files : FileMap) (file : List ℕ) (source : Source)
         → FilesDecideOneTrace files file source }
+{}
+
+/// A place has one text in all reports: by its source's bytes, and by where the lines of these begin.
+pub fn places_have_one_text()
+    ensures { (texts : List FileText) (place : Place) → PlaceHasOneText texts place }
 {}

@@ -3,38 +3,15 @@ ghost use Rattle.std.specs.Prelude.{◌≡◌, IfOk, map, string_bytes};
 ghost use Rattle.pv_command_load.specs.Positions as positions;
 ghost use Rattle.pv_command_load.specs.Stops.{text_tree};
 ghost use Rattle.pv_command_replay.specs.Reports as reports;
-ghost use Rattle.pv_command_replay.specs.Reports.{pattern_word, trap_word, head_text, end_text, report_text};
+ghost use Rattle.pv_command_replay.specs.Reports.{end_text, report_text};
 ghost use Rattle.pv_command_replay.specs.declared.end.End.TheVariants.{Broken, Over, NotReached};
 
 use crate::end::{Cause, End};
 use pv_case::PatternKind;
 use pv_command_load::{SourcePosition, SourceText};
 use pv_place::{Place, TrapKind};
+use pv_report::{head, trap_name};
 use std::alloc::{AllocError, Global};
-
-/// The name of a kind of requirements.
-fn name_of_kind(kind: PatternKind) -> &'static str
-    ensures { result.now ≡ pattern_word kind }
-{
-    match kind {
-        PatternKind::Invariant => "invariant",
-        PatternKind::Forbidden => "forbidden",
-        PatternKind::Implication => "implication",
-        PatternKind::Within => "within",
-        PatternKind::Between => "between",
-        PatternKind::Reach => "reach",
-    }
-}
-
-fn name_of_trap(kind: TrapKind) -> &'static str
-    ensures { result.now ≡ trap_word kind }
-{
-    match kind {
-        TrapKind::DivideByZero => "DivideByZero",
-        TrapKind::Index => "Index",
-        TrapKind::Unset => "Unset",
-    }
-}
 
 fn place_text(alloc: Global, sources: &[SourceText], place: Place) -> Result<String, AllocError>
     ensures { IfOk result (λ text. string_bytes text ≡ positions.place_text (map text_tree sources.now) place) }
@@ -52,7 +29,7 @@ fn trap_text(
 ) -> Result<String, AllocError>
     ensures { IfOk result (λ text. string_bytes text ≡ reports.trap_text (map text_tree sources.now) kind place) }
 {
-    let kind = name_of_trap(kind);
+    let kind = trap_name(kind);
     let at = place_text(alloc, sources, place)?;
     format!(in alloc; "trap {kind} {at}")
 }
@@ -120,14 +97,6 @@ fn end_lines(alloc: Global, sources: &[SourceText], end: End) -> Result<String, 
     }
 }
 
-/// The first lines of each report.
-fn head_lines(alloc: Global, case: &String, kind: PatternKind) -> Result<String, AllocError>
-    ensures { IfOk result (λ text. string_bytes text ≡ head_text (string_bytes case.now) kind) }
-{
-    let kind = name_of_kind(kind);
-    format!(in alloc; "PLCV 1\ncase {case}\npattern {kind}\n")
-}
-
 /// The report of a replay of the case of this name, with a requirement of this kind, over these sources.
 pub(crate) fn report(
     alloc: Global,
@@ -138,7 +107,7 @@ pub(crate) fn report(
 ) -> Result<String, AllocError>
     ensures { IfOk result (λ text. string_bytes text ≡ report_text (string_bytes case.now) kind (map text_tree sources.now) end) }
 {
-    let head = head_lines(alloc, case, kind)?;
+    let head = head(alloc, case, kind)?;
     let lines = end_lines(alloc, sources, end)?;
     format!(in alloc; "{head}{lines}")
 }

@@ -6,7 +6,7 @@ use Rattle.pv_machine.specs.Queries.{MeetsBase, MeetsStep}
 use Rattle.pv_cert.specs.declared.proof.Query.{Query}
 use Rattle.pv_cert.specs.declared.proof.Query.TheVariants.{Base, Step}
 use Rattle.pv_cert.specs.declared.proof.Proof.{Proof}
-use Rattle.pv_cert.specs.declared.trace.Trace.{Trace}
+use Rattle.pv_claims.specs.declared.trace.Trace.{Trace}
 use Rattle.pv_kind.specs.declared.decision.Limits.{Limits}
 use Rattle.pv_kind.specs.declared.decision.End.{End}
 use Rattle.pv_kind.specs.declared.decision.End.TheVariants.{Proved, Failed, Depth, SpentLemmas, SpentRegion}

@@ -7,7 +7,7 @@ use Rattle.pv_solver.specs.Answers.{Problem, Solving, HasSpentLemmas}
 use Rattle.pv_solver.specs.Costs.{words_of, past}
 use Rattle.pv_cert.specs.declared.proof.Query.{Query}
 use Rattle.pv_cert.specs.declared.proof.Query.TheVariants.{Base, Step}
-use Rattle.pv_cert.specs.declared.trace.Trace.{Trace}
+use Rattle.pv_claims.specs.declared.trace.Trace.{Trace}
 use Rattle.pv_cert.specs.declared.proof.Proof.{Proof}
 use Rattle.pv_kind.specs.declared.decision.Limits.{Limits}
 use Rattle.pv_kind.specs.declared.decision.End.{End}

@@ -7,7 +7,7 @@ use Rattle.pv_machine.specs.Queries.{MeetsBase, MeetsStep, MeetsReachableStep}
 use Rattle.pv_cert.specs.declared.proof.Query.{Query}
 use Rattle.pv_cert.specs.declared.proof.Query.TheVariants.{Base, Step}
 use Rattle.pv_cert.specs.declared.proof.Chain.{Chain}
-use Rattle.pv_cert.specs.declared.trace.Trace.{Trace}
+use Rattle.pv_claims.specs.declared.trace.Trace.{Trace}
 use Rattle.pv_kind.specs.declared.told.Told.{Told}
 use Rattle.pv_kind.specs.declared.told.Told.TheVariants.{Same, Differs}
 use Rattle.pv_kind.specs.declared.told.TheConstants.{LAST_QUERY}

@@ -1,5 +1,6 @@
 //! What is decided, and within which limits.
-use pv_cert::{Proofs, Trace};
+use pv_cert::Proofs;
+use pv_claims::Trace;
 use pv_log::Line;
 
 /// The limits of a decision.

@@ -1,5 +1,5 @@
 //! What an oracle answers.
-use pv_cert::Trace;
+use pv_claims::Trace;
 use pv_log::Numbers;
 use std::alloc::AllocError;
 use thiserror::Error;

@@ -3,7 +3,8 @@ ghost use Rattle.std.specs.Prelude.{◌≡◌, ◌≤◌, [], length};
 
 use crate::countdown::Countdown;
 use crate::lists::{push_all, without};
-use pv_cert::{CellValues, Chain, Query, ScanInputs, Trace};
+use pv_cert::{Chain, Query};
+use pv_claims::{CellValues, ScanInputs, Trace};
 use pv_cnf::{ClauseView, Clauses, Formula, PushFault, Values};
 use pv_kind::{Oracle, OracleFault, Told};
 use pv_log::Numbers;

@@ -1,0 +1,8 @@
+-- what public clauses cite
+pub mod Words
+pub mod Places
+pub mod Reports
+-- what laws say
+pub mod Correct
+-- what private clauses cite
+pub mod Groups

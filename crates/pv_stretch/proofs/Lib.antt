@@ -1,0 +1,4 @@
+pub mod Stretching
+pub mod Queries
+pub mod Scanning
+pub mod ForCallers
