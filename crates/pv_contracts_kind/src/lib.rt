@@ -1,5 +1,6 @@
 //! Contract tests of pv_kind: its call once more, with the clauses of the library.
 #![tactic(auto)]
+
 ghost use Rattle.std.specs.Prelude.{◌≡◌, ℕ, ◌≤◌, true, IfOk};
 ghost use Rattle.pv_machine.specs.Queries.{MeetsBase, MeetsStep};
 ghost use Rattle.pv_kind.specs.declared.told.TheConstants.{LAST_QUERY};

@@ -34,9 +34,11 @@ good_less v w lits le good = record { inside = has_less v w lits le good.inside;
 fit_on : (f g : Overflow) (there clauses : List (List ℕ)) (clause : List ℕ) → ((all : List (List ℕ)) → g all ≡ f all) → AllFit f there clauses
     → g ((there ++ clauses) ++ clause ∷ []) ≡ None → AllFit f there (clauses ++ clause ∷ [])
 fit_on f g there [] clause same fit one = (sym (same (there ++ clause ∷ [])) ∙ subst (λ (t : List (List ℕ)). g (t ++ clause ∷ []) ≡ None) (append-nil there) one, tt)
-fit_on f g there (c ∷ clauses) clause same fit one =
-    (fit.0, fit_on f g (there ++ c ∷ []) clauses clause same fit.1
-    (subst (λ (t : List (List ℕ)). g (t ++ clause ∷ []) ≡ None) (sym (append_assoc there (c ∷ []) clauses)) one))
+fit_on f g there (c ∷ clauses) clause same fit one = (
+  fit.0,
+  fit_on f g (there ++ c ∷ []) clauses clause same fit.1
+      (subst (λ (t : List (List ℕ)). g (t ++ clause ∷ []) ≡ None) (sym (append_assoc there (c ∷ []) clauses)) one),
+)
 
 pub pushed_one : (f g : Overflow) (front mid new : List (List ℕ)) (clause : List ℕ) → ((all : List (List ℕ)) → g all ≡ f all) → ArePushed f [] front mid
     → new ≡ mid ++ clause ∷ [] → g (mid ++ clause ∷ []) ≡ None → ArePushed f [] (front ++ clause ∷ []) new
