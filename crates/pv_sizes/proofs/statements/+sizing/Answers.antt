@@ -3,7 +3,7 @@ use denote.Param.Weighed.{most}
 use Rattle.pv_tree.specs.declared.stmt.Stmt.TheViews as form
 use Rattle.pv_tree.specs.View.{expr_tree, stmt_tree}
 use Rattle.pv_names.specs.InScope.{scope_of}
-use Rattle.pv_names.proofs.ForCallers.{stmt-if, stmt-case}
+use Rattle.pv_tree.proofs.ForCallers.{stmt-if, stmt-case}
 use Rattle.pv_sizes.specs.Checks.{checks_of}
 use Rattle.pv_sizes.specs.Sizes.{size_of_stmt, size_of_arms, size_of_branches, size_of_else}
 use Rattle.pv_sizes.specs.Steps.{arm_trees, branch_trees, other_tree}
