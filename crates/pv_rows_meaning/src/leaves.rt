@@ -16,7 +16,11 @@ fn tell_leaf(leaf: &Leaf, told: &mut Told) {
     told.words(&leaf.section);
 }
 
+/// Leaves with blanks between them, or `many` where they are more than 100.
 fn tell_each(leaves: &[Leaf], told: &mut Told) {
+    if leaves.len() > 100 {
+        return told.text("many");
+    }
     let mut between = "";
     for leaf in leaves {
         told.text(between);
@@ -33,20 +37,23 @@ fn add<'p>(types: &mut Types<'p>, named: &'p [Block]) -> Result<(), AllocError> 
     Ok(())
 }
 
-/// The leaves of the last block's variables, with the other blocks as types.
-fn tell_last(blocks: &[Block], told: &mut Told) {
-    let Some((block, named)) = blocks.split_last() else {
-        return;
-    };
-    let mut types = Types::new(told.alloc());
-    if add(&mut types, named).is_err() {
-        return told.lose();
-    }
-    match flatten(told.alloc(), block.interface.vars.as_slice(), &types) {
-        Ok(leaves) if leaves.as_slice().len() > 100 => told.text("many"),
+/// The leaves of a block's variables.
+fn tell_flat(block: &Block, types: &Types<'_>, told: &mut Told) {
+    match flatten(told.alloc(), block.interface.vars.as_slice(), types) {
         Ok(leaves) => tell_each(leaves.as_slice(), told),
         Err(FlattenFault::TooLarge) => told.text("TooLarge"),
         Err(FlattenFault::NoMemory) => told.lose(),
+    }
+}
+
+/// The leaves of the last block's variables, with the other blocks as types.
+fn tell_last(blocks: &[Block], told: &mut Told) {
+    if let Some((block, named)) = blocks.split_last() {
+        let mut types = Types::new(told.alloc());
+        match add(&mut types, named) {
+            Ok(()) => tell_flat(block, &types, told),
+            Err(_) => told.lose(),
+        }
     }
 }
 

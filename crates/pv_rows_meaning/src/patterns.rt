@@ -44,14 +44,16 @@ fn texts_of(alloc: Global, row: &str, from: usize) -> Result<Vec<String>, AllocE
 }
 
 /// The values of a text.
-pub fn values(alloc: Global, text: &str) -> Result<Vec<i128>, AllocError> {
-    let mut out = Vec::new(alloc);
+pub fn values(text: &str, told: &mut Told) -> Vec<i128> {
+    let mut out = Vec::new(told.alloc());
     for part in text.split(' ') {
         if let Ok(n) = part.parse::<i128>() {
-            out.push(n)?;
+            if out.push(n).is_err() {
+                told.lose();
+            }
         }
     }
-    Ok(out)
+    out
 }
 
 /// Whether 64 bits hold each of the values.
@@ -142,13 +144,11 @@ pub fn table_of(
     }
 }
 
-fn tell_over(row: Row<'_>, project: &Project, told: &mut Told) -> Result<(), AllocError> {
-    let alloc = told.alloc();
+fn tell_over(row: Row<'_>, project: &Project, texts: &[String], told: &mut Told) {
     let entry = number_of(said(row, "entry", told).as_str());
     let named = operands_of(said(row, "named", told).as_str(), told);
-    let begin = values(alloc, said(row, "begin", told).as_str())?;
-    let end = values(alloc, said(row, "end", told).as_str())?;
-    let texts = texts_of(alloc, row.text, 1)?;
+    let begin = values(said(row, "begin", told).as_str(), told);
+    let end = values(said(row, "end", told).as_str(), told);
     let (kind, _) = row.text.split_once('|').unwrap_or((row.text, ""));
     if let Some(table) = table_of(project, entry, named.as_slice(), told) {
         let scan = (begin.as_slice(), end.as_slice());
@@ -157,20 +157,20 @@ fn tell_over(row: Row<'_>, project: &Project, told: &mut Told) -> Result<(), All
             &table,
             entry,
             kind_of(kind.trim()),
-            texts.as_slice(),
+            texts,
             scan,
             told,
         );
     }
-    Ok(())
 }
 
 /// Whether the row's pattern holds at a scan with the values of its settings, where the scan before left a mark, and the cells that it reads;
 /// or the text at fault.
 pub fn tell_pattern(row: Row<'_>, told: &mut Told) {
     if let Some(project) = project_of(row, told) {
-        if tell_over(row, &project, told).is_err() {
-            told.lose();
+        match texts_of(told.alloc(), row.text, 1) {
+            Ok(texts) => tell_over(row, &project, texts.as_slice(), told),
+            Err(_) => told.lose(),
         }
         drop(project);
     }

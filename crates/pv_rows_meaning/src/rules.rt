@@ -2,7 +2,7 @@
 use crate::reading::{
     blocks_of, expression_of, number_of, project_of, said, tell_broken, type_word,
 };
-use pv_names::{Scope, Tables, Want, entries};
+use pv_names::{Entry, Scope, Tables, Want, entries};
 use pv_place::Place;
 use pv_rows_form::{Row, Told};
 use pv_rules_code::{
@@ -82,36 +82,46 @@ pub fn tell_checked(row: Row<'_>, told: &mut Told) {
 }
 
 /// A rule with its least place, where it is broken.
-fn tell_least(rule: i128, place: Option<Place>, told: &mut Told) {
-    if let Some(place) = place {
-        told.number(rule);
-        told.text(" at ");
-        told.number(i128::from(place.offset));
-        told.text(" ");
+fn tell_least(rule: i128, place: Result<Option<Place>, AllocError>, told: &mut Told) {
+    match place {
+        Ok(Some(place)) => {
+            told.number(rule);
+            told.text(" at ");
+            told.number(i128::from(place.offset));
+            told.text(" ");
+        }
+        Ok(None) => {}
+        Err(_) => told.lose(),
     }
 }
 
-/// The rules on statements and calls that blocks break, each with its least place.
-fn tell_rules(blocks: &[Block], told: &mut Told) -> Result<(), AllocError> {
+/// The rules on statements and calls that are broken, each with its least place.
+fn tell_rules(tables: &Tables, told: &mut Told) {
     let alloc = told.alloc();
-    let all = entries(alloc, blocks)?;
-    let tables = Tables::of(alloc, all.as_slice(), &[])?;
-    tell_least(5, wrong_condition(alloc, &tables)?, told);
-    tell_least(9, fixed_target(alloc, &tables)?, told);
-    tell_least(10, wrong_counter(alloc, &tables)?, told);
-    tell_least(11, wrong_step(alloc, &tables)?, told);
-    tell_least(12, outside_loop(alloc, &tables)?, told);
-    tell_least(13, wrong_case(alloc, &tables)?, told);
-    tell_least(17, wrong_argument(alloc, &tables)?, told);
-    tell_least(18, fixed_output(alloc, &tables)?, told);
-    Ok(())
+    tell_least(5, wrong_condition(alloc, tables), told);
+    tell_least(9, fixed_target(alloc, tables), told);
+    tell_least(10, wrong_counter(alloc, tables), told);
+    tell_least(11, wrong_step(alloc, tables), told);
+    tell_least(12, outside_loop(alloc, tables), told);
+    tell_least(13, wrong_case(alloc, tables), told);
+    tell_least(17, wrong_argument(alloc, tables), told);
+    tell_least(18, fixed_output(alloc, tables), told);
+}
+
+/// The same of entered blocks.
+fn tell_entered<'p>(all: &'p [Entry<'p>], told: &mut Told) {
+    match Tables::of(told.alloc(), all, &[]) {
+        Ok(tables) => tell_rules(&tables, told),
+        Err(_) => told.lose(),
+    }
 }
 
 /// The rules on statements and calls that the row's source breaks.
 pub fn tell_breaches(row: Row<'_>, told: &mut Told) {
     let blocks = blocks_of(row, told);
-    if tell_rules(blocks.as_slice(), told).is_err() {
-        told.lose();
+    match entries(told.alloc(), blocks.as_slice()) {
+        Ok(all) => tell_entered(all.as_slice(), told),
+        Err(_) => told.lose(),
     }
     drop(blocks);
 }

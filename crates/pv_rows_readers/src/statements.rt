@@ -66,20 +66,64 @@ fn tell_turns(
     told.text(" ");
 }
 
-#[cycle(listing)]
-fn tell_body(view: View, list: &[Stmt], told: &mut Told) {
-    told.text("{");
-    tell_list(view, list, told);
-    told.text("}");
+/// What stands before the statements in a statement, or the whole of one that has none.
+fn tell_front(view: View, stmt: &Stmt, told: &mut Told) {
+    match stmt {
+        Stmt::If { place, .. } => {
+            tell_word(view, "IF", *place, told);
+            told.text(" ");
+        }
+        Stmt::Case {
+            selector,
+            place,
+            ..
+        } => {
+            tell_head(view, "CASE", *place, selector, told);
+            told.text(" ");
+        }
+        Stmt::For {
+            var,
+            var_place,
+            first,
+            last,
+            by,
+            place,
+            ..
+        } => {
+            tell_word(view, "FOR", *place, told);
+            tell_turns(view, (var, *var_place), first, last, by, told);
+            told.text("{");
+        }
+        Stmt::While { cond, place, .. } => {
+            tell_head(view, "WHILE", *place, cond, told);
+            told.text("{");
+        }
+        Stmt::Repeat { place, .. } => {
+            tell_word(view, "REPEAT", *place, told);
+            told.text(" {");
+        }
+        _ => tell_plain(view, stmt, told),
+    }
 }
 
-#[cycle(listing)]
-fn tell_other(view: View, other: &Option<Vec<Stmt>>, told: &mut Told) {
-    told.text(" else ");
-    match other {
-        Some(list) => tell_body(view, list.as_slice(), told),
-        None => told.text("-"),
+/// What stands behind the statements in a loop.
+fn tell_back(view: View, stmt: &Stmt, told: &mut Told) {
+    told.text("}");
+    if let Stmt::Repeat { cond, .. } = stmt {
+        told.text(" ");
+        tell_expr(view, cond, told);
     }
+}
+
+/// The condition of an arm of IF.
+fn tell_arm(view: View, arm: &(Expr, Vec<Stmt>), told: &mut Told) {
+    tell_expr(view, &arm.0, told);
+    told.text("{");
+}
+
+/// The values of a branch of CASE.
+fn tell_branch(view: View, branch: &(Vec<(Choice, Option<Choice>)>, Vec<Stmt>), told: &mut Told) {
+    tell_label(view, branch.0.as_slice(), told);
 }
 
 /// Statements, each with a blank behind it.
@@ -93,56 +137,55 @@ pub fn tell_list(view: View, list: &[Stmt], told: &mut Told) {
 
 #[cycle(listing)]
 fn tell_stmt(view: View, stmt: &Stmt, told: &mut Told) {
+    tell_front(view, stmt, told);
     match stmt {
-        Stmt::If { arms, other, place } => {
-            tell_word(view, "IF", *place, told);
-            told.text(" ");
-            for arm in arms.as_slice() {
-                tell_expr(view, &arm.0, told);
-                tell_body(view, arm.1.as_slice(), told);
+        Stmt::If { arms, other, .. } => {
+            for arm in arms {
+                tell_arm(view, arm, told);
+                tell_list(view, arm.1.as_slice(), told);
+                told.text("}");
             }
-            tell_other(view, other, told);
+            match other {
+                Some(list) => {
+                    told.text(" else {");
+                    tell_list(view, list.as_slice(), told);
+                    told.text("}");
+                }
+                None => told.text(" else -"),
+            }
         }
         Stmt::Case {
-            selector,
             branches,
             other,
-            place,
+            ..
         } => {
-            tell_head(view, "CASE", *place, selector, told);
-            told.text(" ");
-            for branch in branches.as_slice() {
-                tell_label(view, branch.0.as_slice(), told);
+            for branch in branches {
+                tell_branch(view, branch, told);
                 tell_list(view, branch.1.as_slice(), told);
                 told.text("]");
             }
-            tell_other(view, other, told);
+            match other {
+                Some(list) => {
+                    told.text(" else {");
+                    tell_list(view, list.as_slice(), told);
+                    told.text("}");
+                }
+                None => told.text(" else -"),
+            }
         }
-        Stmt::For {
-            var,
-            var_place,
-            first,
-            last,
-            by,
-            body,
-            place,
-        } => {
-            tell_word(view, "FOR", *place, told);
-            tell_turns(view, (var, *var_place), first, last, by, told);
-            tell_body(view, body.as_slice(), told);
+        Stmt::For { body, .. } => {
+            tell_list(view, body.as_slice(), told);
+            tell_back(view, stmt, told);
         }
-        Stmt::While { cond, body, place } => {
-            tell_head(view, "WHILE", *place, cond, told);
-            tell_body(view, body.as_slice(), told);
+        Stmt::While { body, .. } => {
+            tell_list(view, body.as_slice(), told);
+            tell_back(view, stmt, told);
         }
-        Stmt::Repeat { body, cond, place } => {
-            tell_word(view, "REPEAT", *place, told);
-            told.text(" ");
-            tell_body(view, body.as_slice(), told);
-            told.text(" ");
-            tell_expr(view, cond, told);
+        Stmt::Repeat { body, .. } => {
+            tell_list(view, body.as_slice(), told);
+            tell_back(view, stmt, told);
         }
-        _ => tell_plain(view, stmt, told),
+        _ => {}
     }
 }
 

@@ -170,20 +170,22 @@ fn tell_step(view: View, step: &Step, told: &mut Told) {
         }
         Step::Index(index, place) => {
             told.text("[");
-            tell_more(view, *place, told);
             tell_expr(view, index, told);
             told.text("]");
+            tell_more(view, *place, told);
         }
     }
 }
 
 #[cycle(showing)]
 fn tell_each(view: View, list: &[Expr], told: &mut Told) {
-    let mut between = "";
+    let mut first = true;
     for e in list {
-        told.text(between);
+        if !first {
+            told.text(", ");
+        }
+        first = false;
         tell_expr(view, e, told);
-        between = ", ";
     }
 }
 
@@ -232,9 +234,9 @@ pub fn tell_expr(view: View, e: &Expr, told: &mut Told) {
         }
         Expr::Paren(place, inner) => {
             told.text("{");
-            tell_more(view, *place, told);
             tell_expr(view, inner, told);
             told.text("}");
+            tell_more(view, *place, told);
         }
     }
 }
