@@ -1,6 +1,5 @@
 //! The text of a row's case.
-use crate::settings::last;
-use crate::text::expanded;
+use pv_rows_form::{expanded, last};
 use std::alloc::{AllocError, Global};
 
 /// The members of each case. Of a doubled member the last one counts, so a row's own stand after these.

@@ -1,8 +1,7 @@
 //! The files and the sink of a row.
 use crate::case::case_of;
-use crate::settings::numbers;
-use crate::text::expanded;
 use pv_edge::{MemFiles, MemSink, Text, text};
+use pv_rows_form::{expanded, numbers};
 use std::alloc::{AllocError, Global};
 
 /// How many bytes a sink takes at each call, where the row doesn't say.

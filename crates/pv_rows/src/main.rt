@@ -6,19 +6,13 @@
 mod case;
 mod files;
 mod rows;
-mod settings;
-mod text;
 
-use rows::show_part;
+use pv_rows_form::show_all;
+use rows::{Cases, NAMES};
 use std::io::{self, BufReader};
 
 fn main(rt: HostRuntime) -> io::Result<()> {
     let alloc = rt.alloc();
     let text = io::read_to_string(alloc, BufReader::new(alloc, rt.reader())?)?;
-    for (i, part) in text.as_str().split("\npart ").enumerate() {
-        if i > 0 {
-            show_part(&rt, alloc, part)?;
-        }
-    }
-    Ok(())
+    show_all(&rt, alloc, text.as_str(), &NAMES, &Cases)
 }

@@ -1,9 +1,0 @@
-use Rattle.std.proofs.Common.{◌≡◌, length}
-use Rattle.pv_rows_base.proofs.cnf.formula_of.Given as goal
-
--- a clause has come for each list so far
-abbrev pub invariant-loop-lits : goal.invariant-loop-lits
-invariant-loop-lits l = record {
-  variables : l.formula.variables ≡ l.fn.variables;
-  count : length l.formula.clauses ≡ l.lits-index;
-}

@@ -1,0 +1,57 @@
+//! What answers a row.
+use crate::arithmetic::tell_arithmetic;
+use crate::certificates::{tell_certificate, tell_trace};
+use crate::clauses::{tell_flip, tell_formula, tell_solver, tell_values};
+use crate::logs::{tell_line, tell_verdict};
+use crate::texts::{tell_sample, tell_tokens};
+use pv_lex::Language;
+use pv_rows_form::{Calls, Row, Told, last};
+
+/// What may stand at the beginning of a line that is no row.
+pub const NAMES: [&str; 5] = ["#", "call ", "front", "back", "given"];
+
+/// The calls of the crates below trees.
+pub struct Base;
+
+/// The row's field of this number as a text.
+fn said(row: Row<'_>, number: u8, told: &mut Told) -> String {
+    let alloc = told.alloc();
+    String::from_utf8(row.bytes(number, told)).unwrap_or(String::new(alloc))
+}
+
+/// The row's first field between the texts of its settings.
+fn whole(row: Row<'_>, told: &mut Told) -> Vec<u8> {
+    let mut text = row.setting("front", told);
+    let mut middle = row.bytes(0, told);
+    let mut back = row.setting("back", told);
+    if text.append(&mut middle).is_err() || text.append(&mut back).is_err() {
+        told.lose();
+    }
+    text
+}
+
+impl Calls for Base {
+    fn answer(&self, row: Row<'_>, told: &mut Told) {
+        let given = last(row.head, "given").unwrap_or("");
+        match last(row.head, "call ").unwrap_or("") {
+            "tokens of SCL" => tell_tokens(Language::Scl, row.bytes(0, told).as_slice(), told),
+            "tokens of STL" => tell_tokens(Language::Stl, row.bytes(0, told).as_slice(), told),
+            "sample" => tell_sample(false, said(row, 0, told).as_str(), told),
+            "sample trace" => tell_sample(true, said(row, 0, told).as_str(), told),
+            "formula" => tell_formula(given, said(row, 0, told).as_str(), told),
+            "flip" => tell_flip(said(row, 0, told).as_str(), told),
+            "values" => tell_values(given, said(row, 0, told).as_str(), told),
+            "solver" => tell_solver(
+                said(row, 0, told).as_str(),
+                said(row, 1, told).as_str(),
+                told,
+            ),
+            "line" => tell_line(row.bytes(0, told).as_slice(), told),
+            "log" => tell_verdict(given, false, said(row, 0, told).as_str(), told),
+            "new log" => tell_verdict(given, true, said(row, 0, told).as_str(), told),
+            "certificate" => tell_certificate(whole(row, told).as_slice(), told),
+            "trace" => tell_trace(given, row.bytes(0, told).as_slice(), told),
+            call => tell_arithmetic(call, said(row, 0, told).as_str(), told),
+        }
+    }
+}

@@ -1,0 +1,87 @@
+//! The tokens of sources, and the recognizer on its sample language.
+use pv_lex::{Kind, Language, LexFault, MAX_SOURCE, Token, tokens};
+use pv_ll::recognize_sample;
+use pv_rows_form::Told;
+use std::alloc::{AllocError, Global};
+
+/// The letter of a kind.
+fn letter(kind: Kind) -> &'static str {
+    match kind {
+        Kind::Word => "W",
+        Kind::Quoted => "Q",
+        Kind::Number => "N",
+        Kind::Real => "R",
+        Kind::Address => "A",
+        Kind::Sign => "S",
+        Kind::End => "E",
+    }
+}
+
+/// A token: its kind and offset, its length but at the end, and a number's value.
+fn tell_token(token: &Token, told: &mut Told) {
+    told.text(letter(token.kind));
+    told.number(i128::from(token.place.offset));
+    if token.kind != Kind::End {
+        told.text("+");
+        told.number(i128::from(token.len));
+    }
+    if token.kind == Kind::Number {
+        told.text("=");
+        told.number(token.value);
+    }
+}
+
+/// The tokens of a text, or its first fault with its offset.
+pub fn tell_tokens(language: Language, bytes: &[u8], told: &mut Told) {
+    if bytes.len() > MAX_SOURCE {
+        return;
+    }
+    match tokens(told.alloc(), 0, language, bytes) {
+        Ok(all) => {
+            let mut between = "";
+            for token in all.as_slice() {
+                told.text(between);
+                tell_token(token, told);
+                between = " ";
+            }
+        }
+        Err(LexFault::NoToken { kind, place }) => {
+            told.words(&kind);
+            told.number(i128::from(place.offset));
+        }
+        Err(LexFault::NoMemory) => told.lose(),
+    }
+}
+
+fn kinds_of(alloc: Global, said: &str) -> Result<Vec<u8>, AllocError> {
+    let mut kinds = Vec::new(alloc);
+    for word in said.split(' ') {
+        if let Ok(kind) = word.parse::<u8>() {
+            kinds.push(kind)?;
+        }
+    }
+    Ok(kinds)
+}
+
+/// Whether a text is one of the sample language, whose kinds are 0 for a name, 1 for `:=`, 2 for `;`, 3 and 4 for parentheses, 5 for OR and 6
+/// for AND: its trace where that is asked, else `-`; or the number of its first token at fault.
+pub fn tell_sample(traced: bool, said: &str, told: &mut Told) {
+    let Ok(kinds) = kinds_of(told.alloc(), said) else {
+        return told.lose();
+    };
+    match recognize_sample(told.alloc(), kinds.as_slice()) {
+        Ok(Ok(trace)) if traced => tell_trace(trace.as_slice(), told),
+        Ok(Ok(_)) => told.text("-"),
+        Ok(Err(at)) => told.number(at as i128),
+        Err(_) => told.lose(),
+    }
+}
+
+fn tell_trace(trace: &[u16], told: &mut Told) {
+    let mut between = "";
+    for alternative in trace {
+        told.text(between);
+        told.number(i128::from(*alternative));
+        between = " ";
+    }
+}

@@ -1,0 +1,127 @@
+//! Types of expressions, and the rules that sources break.
+use crate::reading::{
+    blocks_of, expression_of, number_of, project_of, said, tell_broken, type_word,
+};
+use pv_names::{Entry, Scope, Tables, Want, entries};
+use pv_place::Place;
+use pv_rows_form::{Row, Told};
+use pv_rules_code::{
+    fixed_output, fixed_target, outside_loop, wrong_argument, wrong_case, wrong_condition,
+    wrong_counter, wrong_step,
+};
+use pv_rules_decl::{check_expression, pattern_breach};
+use pv_tree::{Block, Expr, Project};
+use std::alloc::AllocError;
+
+/// An expression's type; else the number of the first rule that it breaks, with the offset.
+fn tell_in(scope: &Scope, e: &Expr, told: &mut Told) {
+    match pattern_breach(scope, told.alloc(), e) {
+        Ok(Some(breach)) => {
+            told.number(i128::from(breach.rule.number()));
+            told.text(" at ");
+            told.number(i128::from(breach.place.offset));
+        }
+        Ok(None) => match scope.type_of(told.alloc(), Want::Nothing, e) {
+            Ok(Some(ty)) => told.text(type_word(ty)),
+            Ok(None) => told.text("no type"),
+            Err(_) => told.lose(),
+        },
+        Err(_) => told.lose(),
+    }
+}
+
+/// The same over the names of the first block.
+fn tell_over(blocks: &[Block], e: &Expr, told: &mut Told) -> Result<(), AllocError> {
+    let all = entries(told.alloc(), blocks)?;
+    let tables = Tables::of(told.alloc(), all.as_slice(), &[])?;
+    if let Some(entry) = all.as_slice().first() {
+        let scope = Scope {
+            tables: &tables,
+            entry,
+        };
+        tell_in(&scope, e, told);
+    }
+    Ok(())
+}
+
+/// The type of the row's expression over the names of the first block of its source, or the first rule that it breaks as a requirement does.
+pub fn tell_type(row: Row<'_>, told: &mut Told) {
+    let text = said(row, "expression", told);
+    let blocks = blocks_of(row, told);
+    if let Some(e) = expression_of(text.as_str(), told) {
+        if tell_over(blocks.as_slice(), &e, told).is_err() {
+            told.lose();
+        }
+        drop(e);
+    }
+    drop(blocks);
+}
+
+/// What is answered of an expression over the names of the block of this number.
+fn tell_expression(project: &Project, entry: u32, e: &Expr, told: &mut Told) {
+    if entry as usize >= project.blocks().list.len() {
+        return;
+    }
+    match check_expression(told.alloc(), e, project, entry) {
+        Ok(ty) => told.text(type_word(ty)),
+        Err(fault) => tell_broken(fault, told),
+    }
+}
+
+/// The type of the row's expression in its project, or the first rule that it breaks.
+pub fn tell_checked(row: Row<'_>, told: &mut Told) {
+    let entry = number_of(said(row, "entry", told).as_str());
+    let text = said(row, "expression", told);
+    if let Some(project) = project_of(row, told) {
+        if let Some(e) = expression_of(text.as_str(), told) {
+            tell_expression(&project, entry, &e, told);
+            drop(e);
+        }
+        drop(project);
+    }
+}
+
+/// A rule with its least place, where it is broken.
+fn tell_least(rule: i128, place: Result<Option<Place>, AllocError>, told: &mut Told) {
+    match place {
+        Ok(Some(place)) => {
+            told.number(rule);
+            told.text(" at ");
+            told.number(i128::from(place.offset));
+            told.text(" ");
+        }
+        Ok(None) => {}
+        Err(_) => told.lose(),
+    }
+}
+
+/// The rules on statements and calls that are broken, each with its least place.
+fn tell_rules(tables: &Tables, told: &mut Told) {
+    let alloc = told.alloc();
+    tell_least(5, wrong_condition(alloc, tables), told);
+    tell_least(9, fixed_target(alloc, tables), told);
+    tell_least(10, wrong_counter(alloc, tables), told);
+    tell_least(11, wrong_step(alloc, tables), told);
+    tell_least(12, outside_loop(alloc, tables), told);
+    tell_least(13, wrong_case(alloc, tables), told);
+    tell_least(17, wrong_argument(alloc, tables), told);
+    tell_least(18, fixed_output(alloc, tables), told);
+}
+
+/// The same of entered blocks.
+fn tell_entered<'p>(all: &'p [Entry<'p>], told: &mut Told) {
+    match Tables::of(told.alloc(), all, &[]) {
+        Ok(tables) => tell_rules(&tables, told),
+        Err(_) => told.lose(),
+    }
+}
+
+/// The rules on statements and calls that the row's source breaks.
+pub fn tell_breaches(row: Row<'_>, told: &mut Told) {
+    let blocks = blocks_of(row, told);
+    match entries(told.alloc(), blocks.as_slice()) {
+        Ok(all) => tell_entered(all.as_slice(), told),
+        Err(_) => told.lose(),
+    }
+    drop(blocks);
+}
