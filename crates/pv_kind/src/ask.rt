@@ -19,7 +19,7 @@ use pv_solver::{Answer, MakeFault, Solver};
 use std::alloc::{AllocError, Global};
 
 /// What comes of a query.
-#[derive(Debug, Drop)]
+#[derive(Drop)]
 pub(crate) enum Reply {
     /// The machine meets it, by this trace.
     Met(Trace),

@@ -4,7 +4,7 @@ use pv_claims::Trace;
 use pv_log::Line;
 
 /// The limits of a decision.
-#[derive(Clone, Copy, Debug, PartialEq, Eq)]
+#[derive(Clone, Copy)]
 pub struct Limits {
     /// The number of the last base and the last step query, at most 64.
     pub depth: u32,
@@ -15,7 +15,7 @@ pub struct Limits {
 }
 
 /// How a decision ends.
-#[derive(Debug, Drop)]
+#[derive(Drop)]
 pub enum End {
     /// No run fails: base up to this number and its step query are refuted.
     Proved(u32),
@@ -32,7 +32,7 @@ pub enum End {
 
 /// What was decided, and the proofs of the queries that were refuted; where a limit was spent, the last is of the query for which it
 /// was, with its log so far.
-#[derive(Debug, Drop)]
+#[derive(Drop)]
 pub struct Decision {
     /// How it ended.
     pub end: End,

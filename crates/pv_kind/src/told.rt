@@ -30,7 +30,7 @@ impl From<AllocError> for OracleFault {
 }
 
 /// What values that make a query's clauses hold say of the machine.
-#[derive(Debug, Drop)]
+#[derive(Drop)]
 pub enum Told {
     /// The machine meets the query, by this trace.
     Same(Trace),
