@@ -1,5 +1,5 @@
 //! A trace, made and taken apart.
-use pv_cert::{CellValues, ScanInputs, Trace};
+use pv_claims::{CellValues, ScanInputs, Trace};
 use std::test::Fail;
 
 #[test]
