@@ -1,12 +1,12 @@
 -- Places by the bytes of sources, and by where their lines begin.
-use Rattle.std.proofs.Common.{◌≡◌, ℕ, ◌+◌, ◌-◌, ◌≤◌, List, length, map, take, option_map, Option, Some, None, refl, sym, ap, ◌∙◌}
+use Rattle.std.proofs.Common.{◌≡◌, ℕ, ◌+◌, ◌-◌, ◌≤◌, List, length, take, option_map, Option, Some, None, refl, sym, ap, ◌∙◌}
 use Rattle.std.specs.Prelude.{IfSome, slice_get}
 use Rattle.std.proofs.lemmas.Option.{slice_get-map}
 use Rattle.pv_place.specs.declared.place.Place.{Place}
 use Rattle.pv_report.specs.Places as lines
 use Rattle.pv_report.specs.Places.{Lines, line_starts, begun_at, last_of, printed}
 use Rattle.pv_report.proofs.ForCallers.{at_offset}
-use Rattle.pv_command_load.specs.Positions.{FileText, line_behind, position_text, position_where, place_text}
+use Rattle.pv_command_load.specs.Positions.{FileText, line_behind, position_text, position_where}
 use Rattle.pv_command_replay.specs.Correct.{lines_of, PlaceHasOneText}
 
 one_position : (text : FileText) (offset : ℕ) → offset ≤ length text.bytes → position_text text offset ≡ lines.position_text (lines_of text) offset
