@@ -16,7 +16,7 @@ ROOT = pathlib.Path(__file__).resolve().parent.parent
 PROGRAM = "plcv"
 # `rt` lists what lies below a crate by going down each way, many times a command, so a line that repeats what another brings along costs
 # with all that stand above it. (`rt ci` builds each crate once, whatever the ways.)
-PATHS = 25_000
+PATHS = 30_000
 COMMENTS = {".rt": re.compile(r"//.*"), ".antt": re.compile(r"--.*")}
 NAMED = {
     ".rt": re.compile(r"(?<![\w:])(\w+)::|^(?:pub )?use (\w+)|\bRattle\.(\w+)\.", re.M),
