@@ -8,6 +8,8 @@ mod edge;
 #[cfg(test)]
 mod gate;
 #[cfg(test)]
+mod gate_clauses;
+#[cfg(test)]
 mod slow;
 #[cfg(test)]
 mod step;
