@@ -1,12 +1,12 @@
 //! Formulas, and the solver. A literal is twice its variable, and one more where it is the complement; clauses have commas between them,
 //! and `-` is one without literals.
-ghost use Rattle.std.specs.Prelude.{◌≡◌, true, false, ◌-◌, length, slice_index_or, OnErr};
+ghost use Rattle.std.specs.Prelude.{◌≡◌, true, false, ◌-◌, length, slice_index_or};
 ghost use Rattle.std.specs.Option.{is_none};
 
 use pv_cnf::{ClauseView, Clauses, Formula, PushFault, Values, flip, holds, to_dimacs};
 use pv_log::{Checker, LogView};
 use pv_rows_form::Told;
-use pv_solver::{Answer, MakeFault, Solver};
+use pv_solver::{Answer, Solver};
 use std::alloc::{AllocError, Global};
 
 /// The numbers of a text, with blanks between them.
