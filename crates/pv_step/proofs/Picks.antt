@@ -13,7 +13,8 @@ use Rattle.pv_bool.specs.declared.program.BitRole.TheVariants.{Input, Kept}
 use Rattle.pv_bool.specs.Roles.{is_input, is_kept}
 use Rattle.pv_bool.specs.declared.program.Bit.{Bit}
 use Rattle.pv_bool.specs.Scans.{Bits, first, others, state_of, input_of, begin}
-use Rattle.pv_step.specs.Circuits.{Literals, first_literal, other_literals, picked, input_literals}
+use Rattle.pv_circuit.specs.Circuits.{Literals, input_literals}
+use Rattle.pv_step.specs.Circuits.{first_literal, other_literals, picked}
 
 -- ---- the loops that pick them
 
