@@ -17,7 +17,8 @@ use Rattle.pv_gate.specs.Build.{input_gate}
 use Rattle.pv_gate.specs.Value.{value_of, node_values, literal_value}
 use Rattle.pv_gate.proofs.ForCallers.{IsNetlist-push, node_values_at}
 use Rattle.pv_bool.specs.declared.program.Bit.{Bit}
-use Rattle.pv_step.specs.Circuits.{begin_nodes, input_literals, begin_literals}
+use Rattle.pv_circuit.specs.Circuits.{begin_nodes, input_literals}
+use Rattle.pv_step.specs.Circuits.{begin_literals}
 
 begin_nodes-more : (n : ℕ) → begin_nodes (n + 1) ≡ begin_nodes n ++ Input n ∷ []
 begin_nodes-more n = ap (λ (ns : List Node). True ∷ ns) (map-range_with_len_more (λ i. Input i) 0 n n (omega arith))

@@ -24,7 +24,8 @@ use Rattle.pv_gate.specs.Build.{Made, IsBeyond, present, share, shared_at, numbe
 use Rattle.pv_bool.specs.declared.program.Assignment.{Assignment}
 use Rattle.pv_bool.specs.Tree.{TermTree, constant, load, negation, conjunction, disjunction, AssignmentTree, assignment_tree}
 use Rattle.pv_bool.specs.Tree.{IsAssignmentOver}
-use Rattle.pv_step.specs.Circuits.{Literals, Wires, with_made, term_gate, assign_gate, body_gates, scan_gate}
+use Rattle.pv_circuit.specs.Circuits.{Literals}
+use Rattle.pv_step.specs.Circuits.{Wires, with_made, term_gate, assign_gate, body_gates, scan_gate}
 use Rattle.pv_step.specs.Wiring.{Gives}
 
 -- new has the nodes of old, and maybe gates after them

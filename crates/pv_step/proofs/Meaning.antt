@@ -19,8 +19,8 @@ use Rattle.pv_gate.proofs.ForCallers.{Names-neg, Names-more, Names-lower, Names-
 use Rattle.pv_gate.proofs.ForCallers.{value_of-neg, value_of-true, value_of-false, and_builds, or_builds}
 use Rattle.pv_bool.specs.Tree.{TermTree, constant, load, negation, conjunction, disjunction, AssignmentTree, IsTermOver, IsAssignmentOver}
 use Rattle.pv_bool.specs.Scans.{value_in, run_body}
-use Rattle.pv_step.specs.Circuits.{Literals, Wires, constant_literal, term_gate, assign_gate, body_gates}
-use Rattle.pv_step.specs.Correct.{values_of}
+use Rattle.pv_circuit.specs.Circuits.{Literals, values_of}
+use Rattle.pv_step.specs.Circuits.{Wires, constant_literal, term_gate, assign_gate, body_gates}
 use Rattle.pv_step.proofs.Growth.{Grows, length-grows, grows_term}
 
 -- ---- nodes in order

@@ -19,13 +19,13 @@ use Rattle.pv_gate.specs.Build.{Made, present, complemented, and_gate, or_gate}
 use Rattle.pv_gate.proofs.ForCallers.{int_eq-true}
 use Rattle.pv_bool.specs.declared.program.Bit.{Bit}
 use Rattle.pv_bool.specs.Tree.{AssignmentTree, ProgramTree}
-use Rattle.pv_step.specs.declared.made.StepCircuit.{StepCircuit}
-use Rattle.pv_step.specs.Circuits.{Circuit, Literals, Wires, kept_literals, taken_literals, begin_literals}
+use Rattle.pv_circuit.specs.declared.circuit.StepCircuit.{StepCircuit}
+use Rattle.pv_circuit.specs.Circuits.{Circuit, Literals, IsCircuit, begin_nodes}
+use Rattle.pv_circuit.specs.Made.{IsStepCircuit}
+use Rattle.pv_step.specs.Circuits.{Wires, kept_literals, taken_literals, begin_literals}
 use Rattle.pv_step.specs.Circuits.{term_gate, assign_gate, body_gates, scan_gate, with_made}
-use Rattle.pv_step.specs.Circuits.{trap_literal, over_literal, done_literal, fail_gate, ok_gate, begin_nodes, begin_wires, end_wires}
+use Rattle.pv_step.specs.Circuits.{trap_literal, over_literal, done_literal, fail_gate, ok_gate, begin_wires, end_wires}
 use Rattle.pv_step.specs.Circuits.{holds_gate, outcome, judged, circuit_of}
-use Rattle.pv_step.specs.Correct.{IsCircuit}
-use Rattle.pv_step.specs.Made.{IsStepCircuit}
 use Rattle.pv_step.specs.Wiring.{Gives}
 use Rattle.pv_step.proofs.Beginning.{length-begin_nodes, gate_count-begin}
 use Rattle.pv_step.proofs.Growth.{Grows, grows_twice, grows_body, grows_term, others-grows}

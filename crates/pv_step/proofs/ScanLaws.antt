@@ -1,6 +1,6 @@
 -- The laws that join the circuit with the scan.
-use Rattle.std.proofs.Common.{◌≡◌, ◌+◌, ◌<◌, ◌++◌, ℕ, zero, suc, ℤ, pos, neg_ℤ, List, length, Bool, true, false, not, sym, ◌∙◌, ap, subst}
-use Rattle.std.proofs.Common.{arith, get_or, All, [], ◌∷◌, cond}
+use Rattle.std.proofs.Common.{◌≡◌, ◌+◌, ◌<◌, ◌++◌, ℕ, zero, suc, ℤ, pos, neg_ℤ, List, length, Bool, false, not, sym, ◌∙◌, ap, subst}
+use Rattle.std.proofs.Common.{arith, get_or, All}
 use Rattle.std.specs.List.{AllByRecursion}
 use Rattle.std.specs.List.Sorted.{IsPermutation}
 use Rattle.std.proofs.lemmas.List.{length-map}
@@ -15,9 +15,10 @@ use Rattle.pv_bool.specs.declared.program.Bit.{Bit}
 use Rattle.pv_bool.specs.Tree.{ProgramTree, IsProgram, IsAssignmentOver, IsTermOver}
 use Rattle.pv_bool.specs.Scans.{Bits, state_len, input_len, begin, state_of, input_of, value_in, run_body, scan_end, keeps}
 use Rattle.pv_bool.proofs.ForCallers.{state_of-begin, input_of-begin}
-use Rattle.pv_step.specs.Circuits.{Circuit, Literals, begin_nodes, begin_literals, begin_wires}
-use Rattle.pv_step.specs.Circuits.{end_wires, holds_gate, kept_literals, taken_literals, input_literals, circuit_of}
-use Rattle.pv_step.specs.Correct.{IsCircuit, values_of, state_before, input_before, DoesTheScan, HaveLengths, StandFor}
+use Rattle.pv_circuit.specs.Circuits.{Circuit, Literals, begin_nodes, input_literals, IsCircuit, values_of}
+use Rattle.pv_step.specs.Circuits.{begin_literals, begin_wires}
+use Rattle.pv_step.specs.Circuits.{end_wires, holds_gate, kept_literals, taken_literals, circuit_of}
+use Rattle.pv_step.specs.Correct.{state_before, input_before, DoesTheScan, HaveLengths, StandFor}
 use Rattle.pv_step.proofs.Growth.{input_count-grows, grows_term}
 use Rattle.pv_step.proofs.Beginning.{length-begin_literals, input_count-begin, netlist_begin, begin_value, length-begin_nodes}
 use Rattle.pv_step.proofs.Picks.{state_of-picked, input_of-picked, length-picked, begin_parts, given_of, begin_given, picked_all, parts_all}

@@ -1,29 +1,16 @@
 -- The step circuit of a Boolean program: the gates of one scan. One literal stands beside each bit, as one value does in a frame.
-use Rattle.std.specs.Prelude.{ℕ, ◌+◌, ℤ, pos, neg_ℤ, Bool, true, false, List, [], ◌∷◌, length, map}
+use Rattle.std.specs.Prelude.{ℕ, ℤ, pos, neg_ℤ, Bool, true, false, List, [], ◌∷◌, length}
 use Rattle.std.specs.Prelude.{slice_index_or, slice_set, if◌then◌else◌}
-use Rattle.std.specs.List.{range_with_len}
 use Rattle.pv_gate.specs.declared.netlist.Node.{Node}
-use Rattle.pv_gate.specs.declared.netlist.Node.TheVariants.{True, Input}
 use Rattle.pv_gate.specs.Node.{true_literal, false_literal}
 use Rattle.pv_gate.specs.Build.{Made, present, complemented, and_gate, or_gate}
+use Rattle.pv_circuit.specs.Circuits.{Literals, Circuit, begin_nodes, input_literals}
 use Rattle.pv_bool.specs.declared.program.BitRole.{BitRole}
 use Rattle.pv_bool.specs.declared.program.Bit.{Bit}
 use Rattle.pv_bool.specs.Roles.{is_input, is_kept}
 use Rattle.pv_bool.specs.Tree.{TermTree, constant, load, negation, conjunction, disjunction, AssignmentTree, ProgramTree}
 
--- the literals of all bits, in their order
-abbrev pub Literals : Type 0
-Literals = List ℤ
-
 -- ---- the beginning
-
--- the nodes before the scan: constant true, and n inputs
-abbrev pub begin_nodes : ℕ → List Node
-begin_nodes n = True ∷ map (λ i. Input i) (range_with_len 0 n)
-
--- the literals of n input nodes, from input m on: input i is node 2 + i
-abbrev pub input_literals : ℕ → ℕ → Literals
-input_literals m n = map (λ i. pos (2 + i)) (range_with_len m n)
 
 -- the literals with which the scan begins: each bit takes the next input
 abbrev pub begin_literals : List Bit → Literals
@@ -118,23 +105,6 @@ fail_gate nodes p =
 -- it is done and doesn't fail
 abbrev pub ok_gate : List Node → ℤ → Made
 ok_gate nodes fail = and_gate nodes done_literal (neg_ℤ fail)
-
--- a step circuit, as a list of nodes and the literals that stand for a scan's begin, end and outcome
-pub record Circuit : Type 0 where
-  pub nodes : List Node
-  -- of the kept bits at the beginning
-  pub state_in : Literals
-  -- of the input bits
-  pub input : Literals
-  -- of the kept bits at the end
-  pub state_out : Literals
-  pub ok : ℤ
-  pub fail : ℤ
-
--- a circuit of these parts
-abbrev pub circuit_with : List Node → Literals → Literals → Literals → ℤ → ℤ → Circuit
-circuit_with nodes state_in input state_out ok fail =
-    record { nodes = nodes; state_in = state_in; input = input; state_out = state_out; ok = ok; fail = fail }
 
 abbrev pub begin_wires : List Bit → Wires
 begin_wires bits = record { nodes = begin_nodes (length bits); literals = begin_literals bits }

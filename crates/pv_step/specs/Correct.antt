@@ -1,30 +1,10 @@
--- What a circuit keeps, and how its literals and a scan of the program go together.
-use Rattle.std.specs.Prelude.{◌≡◌, ◌++◌, ℕ, Bool, not, List, length, map, All}
-use Rattle.std.specs.List.Sorted.{IsPermutation}
-use Rattle.pv_gate.specs.declared.netlist.Node.{Node}
-use Rattle.pv_gate.specs.Node.{Names, input_count}
+-- How a circuit's literals and a scan of the program go together.
+use Rattle.std.specs.Prelude.{◌≡◌, ℕ, Bool, not, length}
 use Rattle.pv_gate.specs.Value.{value_of}
-use Rattle.pv_gate.specs.Netlist.{IsNetlist, Extends}
+use Rattle.pv_circuit.specs.Circuits.{values_of}
 use Rattle.pv_bool.specs.Tree.{ProgramTree}
 use Rattle.pv_bool.specs.Scans.{Bits, state_len, input_len, next_state, keeps}
-use Rattle.pv_step.specs.Circuits.{Circuit, Literals, begin_nodes, input_literals, circuit_of}
-
--- the nodes are in order and the inputs stand first, each literal names a node, the state has as many literals after the scan as
--- before it, and those of the state and the input before it name the input nodes, each once
-pub record IsCircuit (c : Circuit) : Type 0 where
-  pub netlist : IsNetlist c.nodes
-  pub inputs_first : Extends (begin_nodes (input_count c.nodes)) c.nodes
-  pub state_in : All (Names (length c.nodes)) c.state_in
-  pub input : All (Names (length c.nodes)) c.input
-  pub state_out : All (Names (length c.nodes)) c.state_out
-  pub ok : Names (length c.nodes) c.ok
-  pub fail : Names (length c.nodes) c.fail
-  pub same_state : length c.state_out ≡ length c.state_in
-  pub all_inputs : IsPermutation (input_literals 0 (input_count c.nodes)) (c.state_in ++ c.input)
-
--- the values of literals
-abbrev pub values_of : (ℕ → Bool) → List Node → Literals → Bits
-values_of inputs nodes literals = map (value_of inputs nodes) literals
+use Rattle.pv_step.specs.Circuits.{circuit_of}
 
 -- the state and the input that the circuit's inputs stand for
 abbrev pub state_before : ProgramTree → (ℕ → Bool) → Bits

@@ -4,7 +4,8 @@ use Rattle.pv_gate.specs.declared.fault.GateFault.{GateFault}
 use Rattle.pv_gate.specs.declared.fault.GateFault.TheVariants.{Limit}
 use Rattle.pv_gate.specs.Netlist.{Netlist}
 use Rattle.pv_gate.specs.Build.{Made, IsBeyond}
-use Rattle.pv_step.specs.Circuits.{Literals, Wires}
+use Rattle.pv_circuit.specs.Circuits.{Literals}
+use Rattle.pv_step.specs.Circuits.{Wires}
 
 -- the nodes and the literals that there are
 abbrev pub wires : Netlist → Literals → Wires

@@ -3,8 +3,9 @@
 ghost use Rattle.std.specs.Prelude.{◌≡◌, ℕ, Bool, length};
 ghost use Rattle.pv_bool.specs.Tree.{ProgramTree, IsProgram};
 ghost use Rattle.pv_bool.specs.Scans.{Bits, state_len, input_len};
+ghost use Rattle.pv_circuit.specs.Circuits.{IsCircuit};
 ghost use Rattle.pv_step.specs.Circuits.{circuit_of};
-ghost use Rattle.pv_step.specs.Correct.{IsCircuit, DoesTheScan, HaveLengths, StandFor};
+ghost use Rattle.pv_step.specs.Correct.{DoesTheScan, HaveLengths, StandFor};
 
 /// Whatever the inputs are, they stand for a state and an input, and the circuit's literals have the
 /// values of the scan from there: `fail` is true exactly where the requirement isn't kept, `ok`

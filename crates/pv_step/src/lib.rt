@@ -9,8 +9,7 @@
 
 mod build;
 pub mod laws;
-mod made;
 mod step;
 
-pub use made::StepCircuit;
+pub use pv_circuit::StepCircuit;
 pub use step::circuit;

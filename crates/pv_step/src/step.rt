@@ -5,14 +5,13 @@ ghost use Rattle.pv_gate.specs.declared.fault.GateFault.TheVariants.{Limit, NoMe
 ghost use Rattle.pv_gate.specs.declared.netlist.Node.TheVariants.{True};
 ghost use Rattle.pv_gate.specs.Node.{Names, gate_count, input_count};
 ghost use Rattle.pv_bool.specs.Programs.{program_tree};
-ghost use Rattle.pv_step.specs.Circuits.{begin_nodes, input_literals};
-ghost use Rattle.pv_step.specs.Circuits.{kept_literals, taken_literals, circuit_with, circuit_of};
-ghost use Rattle.pv_step.specs.Correct.{IsCircuit};
-ghost use Rattle.pv_step.specs.Made.{IsStepCircuit};
+ghost use Rattle.pv_circuit.specs.Circuits.{begin_nodes, input_literals, circuit_with, IsCircuit};
+ghost use Rattle.pv_circuit.specs.Made.{IsStepCircuit};
+ghost use Rattle.pv_step.specs.Circuits.{kept_literals, taken_literals, circuit_of};
 
 use crate::build::scan;
-use crate::made::StepCircuit;
 use pv_bool::{Bit, Program};
+use pv_circuit::StepCircuit;
 use pv_gate::{GateFault, Gates, MAX_GATES, MAX_INPUTS, make};
 use std::alloc::Global;
 

@@ -1,5 +1,5 @@
 use Rattle.std.proofs.Common.{◌≡◌}
-use Rattle.pv_step.specs.Circuits.{begin_nodes, input_literals}
+use Rattle.pv_circuit.specs.Circuits.{begin_nodes, input_literals}
 use Rattle.pv_step.proofs.step.inputs.Given as goal
 
 -- the nodes and the literals of the inputs so far

@@ -1,7 +1,7 @@
 -- What the code has of a circuit.
 use Rattle.std.specs.Prelude.{◌≡◌, ℕ}
-use Rattle.pv_step.specs.declared.made.StepCircuit.{StepCircuit}
-use Rattle.pv_step.specs.Circuits.{Circuit}
+use Rattle.pv_circuit.specs.declared.circuit.StepCircuit.{StepCircuit}
+use Rattle.pv_circuit.specs.Circuits.{Circuit}
 
 -- the gates and the literals are those of the circuit, under this limit
 pub record IsStepCircuit (c : Circuit) (limit : ℕ) (made : StepCircuit) : Type 0 where

@@ -1,0 +1,7 @@
+//! Step circuits as data: the gates of one scan of a machine, with the literals of its beginning, its
+//! end and its outcome.
+#![tactic(auto)]
+
+mod circuit;
+
+pub use circuit::StepCircuit;
