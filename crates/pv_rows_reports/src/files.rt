@@ -54,10 +54,10 @@ pub fn values_of(alloc: Global, text: &str) -> Result<CellValues, AllocError> {
 /// The inputs of scans, with `;` behind each scan.
 pub fn scans_of(alloc: Global, row: &Row<'_>) -> Result<ScanInputs, AllocError> {
     let mut scans = ScanInputs::new(alloc);
-    let mut rest = row.scans;
-    while let Some((scan, more)) = rest.split_once(';') {
-        scans.push(values_of(alloc, scan)?)?;
-        rest = more;
+    if let Some((front, _)) = row.scans.rsplit_once(';') {
+        for scan in front.split(';') {
+            scans.push(values_of(alloc, scan)?)?;
+        }
     }
     Ok(scans)
 }
