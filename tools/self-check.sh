@@ -54,7 +54,7 @@ check "a line of crates.txt doesn't list what its crate names" python3 tools/che
 check "README.md is longer than two screens (10,000 bytes, 110 lines of 100 columns)" readme_is_short
 check "a file has a path of the machine on which it was made" is_nowhere '(^|[^[:alnum:]_.})/-])/(home|root|work|opt|tmp|mnt)/[[:alnum:]]' .
 check "a document tells of its making" is_nowhere 'fresh reader|two readers|the owner|rt plant|this session|later that day' '*.md'
-check "a document tells of its making" is_nowhere '\<helpers?\>' '*.md' ':!docs/PROVING.md' # (there it is a small function)
+check "a document tells of its making" is_nowhere '\<helpers?\>' '*.md'
 check "a document names a clause that isn't there" python3 tools/check-clauses.py
 check "a document names a file that isn't there" python3 tools/check-files.py
 check "a proof takes more of another crate's proofs than its module ForCallers" python3 tools/check-callers.py
