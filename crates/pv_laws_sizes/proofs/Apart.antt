@@ -125,17 +125,14 @@ params_apart how block a =
     lead (is_by_stl how && is_none (first_var block.vars value_key))
     (second (is_by_stl how) (is_none (first_var block.vars value_key))) block.value
   where
-    ps : List Param
-    ps = params_of_vars block.vars
-
-    its : Apart (keys_of_params ps)
+    its : Apart (keys_of_params (params_of_vars block.vars))
     its = vars_params block.vars a
 
-    alone : Apart (keys_of_params (ps ++ []))
-    alone = subst (λ l. Apart (keys_of_params l)) (sym (append-nil ps)) its
+    alone : Apart (keys_of_params (params_of_vars block.vars ++ []))
+    alone = subst (λ l. Apart (keys_of_params l)) (sym (append-nil (params_of_vars block.vars))) its
 
     lead : (t : Bool) → (t ≡ true → is_none (first_var block.vars value_key) ≡ true) → (o : Option Ty)
-        → Apart (keys_of_params (ps ++ (if t then (elim o [
+        → Apart (keys_of_params (params_of_vars block.vars ++ (if t then (elim o [
           | None ↦ []
           | Some ty ↦ record {
             key = value_key;
@@ -146,6 +143,6 @@ params_apart how block a =
         ]) else [])))
     lead true none None = alone
     lead true none (Some ty) =
-        apart_pushed ps (record { key = value_key; section = Output; ty = plain ty }) its
+        apart_pushed (params_of_vars block.vars) (record { key = value_key; section = Output; ty = plain ty }) its
         (λ h. true≢false (sym (none refl) ∙ ap not (found_var block.vars value_key (has_param block.vars value_key h))))
     lead false none o = alone

@@ -69,22 +69,17 @@ module _ (scope : Scope) (callee : BlockTree) where
       out (Some a) = refl
 
 -- a function's value is an output
+abbrev value_one : Ty → Param
+value_one ty = record { key = value_key; section = Output; ty = plain ty }
+
 value_each : (f g : Param → ℕ) (how : How) (block : BlockTree) → ((p : Param) → p.section ≡ Output → f p ≡ g p)
     → sum_of f (value_param how block) ≡ sum_of g (value_param how block)
 value_each f g how block same = lead (is_by_stl how && is_none (first_var block.vars value_key)) block.value
   where
-    one : Ty → Param
-    one ty = record {
-      key = value_key;
-      section = Output;
-      ty =
-          plain ty;
-    }
-
-    lead : (t : Bool) (o : Option Ty) → sum_of f (if t then (elim o [ None ↦ [] | Some ty ↦ one ty ∷ [] ]) else [])
-        ≡ sum_of g (if t then (elim o [ None ↦ [] | Some ty ↦ one ty ∷ [] ]) else [])
+    lead : (t : Bool) (o : Option Ty) → sum_of f (if t then (elim o [ None ↦ [] | Some ty ↦ value_one ty ∷ [] ]) else [])
+        ≡ sum_of g (if t then (elim o [ None ↦ [] | Some ty ↦ value_one ty ∷ [] ]) else [])
     lead true None = refl
-    lead true (Some ty) = ap (λ n. n + 0) (same (one ty) refl)
+    lead true (Some ty) = ap (λ n. n + 0) (same (value_one ty) refl)
     lead false o = refl
 
 -- ---- over all parameters

@@ -110,6 +110,12 @@ module _ (scope : Scope) (how : How) (callee : BlockTree) where
   args_summed [] = refl
   args_summed (a ∷ more) = ap (λ n. size_of_arg scope how callee a + n) (args_summed more)
 
+  abbrev pair : ArgTree → Param → ℕ
+  pair a p = cond (is_for how callee p.key a) (size_of_copy scope callee a.value p.section) 0
+
+  abbrev found : List ArgTree → Param → ℕ
+  found args p = of_found (λ a. size_of_copy scope callee a.value p.section) (find (is_for how callee p.key) args)
+
   pub paired : (args : List ArgTree) → Apart (keys_of_params (params_of how callee))
       → ((a : ArgTree) → IfSome (param_for how callee a) (Has (params_of how callee)))
       → ((key : List ℕ) → Once (is_for how callee key) args)
@@ -117,18 +123,11 @@ module _ (scope : Scope) (how : How) (callee : BlockTree) where
       ≡ sum_of (λ p. of_found (λ a. size_of_copy scope callee a.value p.section) (find (is_for how callee p.key) args)) (params_of how callee)
   paired args apart known once =
       args_summed args
-      ∙ (sum_each (size_of_arg scope how callee) (λ a. sum_of (pair a) params) args
-      (λ a. sym (by_params scope callee a.value (param_for how callee a) params (known a) apart))
-      ∙ (sum_swap pair args params
-      ∙ sum_each (λ p. sum_of (λ a. pair a p) args)
-      (λ p. of_found (λ a. size_of_copy scope callee a.value p.section) (find (is_for how callee p.key) args)) params
+      ∙ (sum_each (size_of_arg scope how callee) (λ a. sum_of (pair a) (params_of how callee)) args
+      (λ a. sym (by_params scope callee a.value (param_for how callee a) (params_of how callee) (known a) apart))
+      ∙ (sum_swap pair args (params_of how callee)
+      ∙ sum_each (λ p. sum_of (λ a. pair a p) args) (found args) (params_of how callee)
       (λ p. one_counts (is_for how callee p.key) (λ a. size_of_copy scope callee a.value p.section) args (once p.key))))
-    where
-      params : List Param
-      params = params_of how callee
-
-      pair : ArgTree → Param → ℕ
-      pair a p = cond (is_for how callee p.key a) (size_of_copy scope callee a.value p.section) 0
 
 -- ---- an argument is for one of the parameters
 
