@@ -33,8 +33,8 @@ Fresh keys [] = Unit {0}
 Fresh keys (n ∷ more) = (Has keys n.0.key → ⊥) × Fresh (keys ++ n.0.key ∷ []) more
 
 fresh : (keys : List (List ℕ)) (names : List PlacedName) → ((at : Place) → IsLaterBehind keys names at → ⊥) → Fresh keys names
-fresh keys [] no = tt
-fresh keys (n ∷ more) no = (λ h. no n.1 (inl (h, refl)), fresh (keys ++ n.0.key ∷ []) more (λ at h. no at (inr h)))
+fresh keys [] lacks = tt
+fresh keys (n ∷ more) lacks = (λ h. lacks n.1 (inl (h, refl)), fresh (keys ++ n.0.key ∷ []) more (λ at h. lacks at (inr h)))
 
 not_known : (keys : List (List ℕ)) (names : List PlacedName) → Fresh keys names → (k : List ℕ) → Has keys k → Has (keys_of names) k → ⊥
 not_known keys [] f k has h = absurd h
@@ -71,22 +71,23 @@ keys_of_params ps = map (λ p. p.key) ps
 
 has_param : (vars : List VarTree) (key : List ℕ) → Has (keys_of_params (params_of_vars vars)) key → Has (keys_of (names_of_vars vars)) key
 has_param [] key h = h
-has_param (var name section ty start place ∷ more) key h = lead (is_param section) h
+has_param (var name section ty start place ∷ more) key h = lead (is_param section) (has_param more key) h
   where
-    lead : (t : Bool) → Has (keys_of_params (if t then record { key = name.key; section = section; ty = ty } ∷ params_of_vars more else params_of_vars more)) key
+    lead : (t : Bool) → (Has (keys_of_params (params_of_vars more)) key → Has (keys_of (names_of_vars more)) key)
+        → Has (keys_of_params (if t then record { key = name.key; section = section; ty = ty } ∷ params_of_vars more else params_of_vars more)) key
         → Has (keys_of (names_of_vars (var name section ty start place ∷ more))) key
-    lead true (inl is) = inl is
-    lead true (inr k) = inr (has_param more key k)
-    lead false k = inr (has_param more key k)
+    lead true rest (inl is) = inl is
+    lead true rest (inr k) = inr (rest k)
+    lead false rest k = inr (rest k)
 
 vars_params : (vars : List VarTree) → Apart (keys_of (names_of_vars vars)) → Apart (keys_of_params (params_of_vars vars))
 vars_params [] a = tt
-vars_params (var name section ty start place ∷ more) a = lead (is_param section)
+vars_params (var name section ty start place ∷ more) a = lead (is_param section) (vars_params more a.1)
   where
-    lead : (t : Bool)
+    lead : (t : Bool) → Apart (keys_of_params (params_of_vars more))
         → Apart (keys_of_params (if t then record { key = name.key; section = section; ty = ty } ∷ params_of_vars more else params_of_vars more))
-    lead true = (λ h. a.0 (has_param more name.key h), vars_params more a.1)
-    lead false = vars_params more a.1
+    lead true rest = (λ h. a.0 (has_param more name.key h), rest)
+    lead false rest = rest
 
 -- a declared name is found
 found_var : (vars : List VarTree) (key : List ℕ) → Has (keys_of (names_of_vars vars)) key → is_some (first_var vars key) ≡ true
@@ -109,10 +110,10 @@ has_pushed (p ∷ ps) q key (inl is) = inl (inl is)
 has_pushed (p ∷ ps) q key (inr h) = elim (has_pushed ps q key h) [ inl k ↦ inl (inr k) | inr is ↦ inr is ]
 
 apart_pushed : (ps : List Param) (q : Param) → Apart (keys_of_params ps) → (Has (keys_of_params ps) q.key → ⊥) → Apart (keys_of_params (ps ++ q ∷ []))
-apart_pushed [] q a no = (λ h. absurd h, tt)
-apart_pushed (p ∷ ps) q a no = (
-  λ h. elim (has_pushed ps q p.key h) [ inl k ↦ a.0 k | inr is ↦ no (inl (sym is)) ],
-  apart_pushed ps q a.1 (λ h. no (inr h)),
+apart_pushed [] q a lacks = (λ h. absurd h, tt)
+apart_pushed (p ∷ ps) q a lacks = (
+  λ h. elim (has_pushed ps q p.key h) [ inl k ↦ a.0 k | inr is ↦ lacks (inl (sym is)) ],
+  apart_pushed ps q a.1 (λ h. lacks (inr h)),
 )
 
 second : (a b : Bool) → (a && b) ≡ true → b ≡ true

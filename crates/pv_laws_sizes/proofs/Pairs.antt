@@ -21,8 +21,8 @@ abbrev is_it : List ℕ → Option Param → Bool
 is_it key o = elim o [ None ↦ false | Some p ↦ bytes_eq key p.key ]
 
 not_true : (b : Bool) → (b ≡ true → ⊥) → b ≡ false
-not_true true no = absurd (no refl)
-not_true false no = refl
+not_true true lacks = absurd (lacks refl)
+not_true false lacks = refl
 
 zero_and : (a b c : ℕ) → a ≡ 0 → b ≡ c → a + b ≡ c
 zero_and a b c e f = omega (arith, e, f)
@@ -46,12 +46,12 @@ module _ (scope : Scope) (callee : BlockTree) (value : ExprTree) where
   for_none (p ∷ ps) = zero_and 0 (sum_of (counted None) ps) 0 refl (for_none ps)
 
   for_other : (q : Param) (ps : List Param) → (Has (keys_of_params ps) q.key → ⊥) → sum_of (counted (Some q)) ps ≡ 0
-  for_other q [] no = refl
-  for_other q (p ∷ ps) no =
+  for_other q [] lacks = refl
+  for_other q (p ∷ ps) lacks =
       zero_and (counted (Some q) p) (sum_of (counted (Some q)) ps) 0
       (ap (λ t. cond t (size_of_copy scope callee value p.section) 0)
-      (not_true (bytes_eq p.key q.key) (λ on. no (inl ((bytes_eq-Decides p.key q.key).0 on)))))
-      (for_other q ps (λ h. no (inr h)))
+      (not_true (bytes_eq p.key q.key) (λ on. lacks (inl ((bytes_eq-Decides p.key q.key).0 on)))))
+      (for_other q ps (λ h. lacks (inr h)))
 
   for_one : (q : Param) (ps : List Param) → Has ps q → Apart (keys_of_params ps)
       → sum_of (counted (Some q)) ps ≡ size_of_copy scope callee value q.section
@@ -142,12 +142,12 @@ found_in {X = X} t (x ∷ xs) = lead (t x) (find t xs) (found_in t xs)
 
 filtered_in : {X : Type 0} (t : X → Bool) (xs : List X) (y : X) → Has (filter t xs) y → Has xs y
 filtered_in t [] y h = h
-filtered_in {X = X} t (x ∷ xs) y h = lead (t x) h
+filtered_in {X = X} t (x ∷ xs) y h = lead (t x) (filtered_in t xs y) h
   where
-    lead : (b : Bool) → Has (cond b (x ∷ filter t xs) (filter t xs)) y → Has (x ∷ xs) y
-    lead true (inl is) = inl is
-    lead true (inr k) = inr (filtered_in t xs y k)
-    lead false k = inr (filtered_in t xs y k)
+    lead : (b : Bool) → (Has (filter t xs) y → Has xs y) → Has (cond b (x ∷ filter t xs) (filter t xs)) y → Has (x ∷ xs) y
+    lead true rest (inl is) = inl is
+    lead true rest (inr k) = inr (rest k)
+    lead false rest k = inr (rest k)
 
 only_in : (ps all : List Param) → ((p : Param) → Has ps p → Has all p) → IfSome (only ps) (Has all)
 only_in [] all f = tt
@@ -177,11 +177,12 @@ param_by how block o = elim o [ None ↦ only_input block | Some word ↦ first_
 
 found_key : (key other : List ℕ) (ps : List Param) → is_it key (find (λ p. bytes_eq other p.key) ps) ≡ true → other ≡ key
 found_key key other [] is = absurd (true≢false (sym is))
-found_key key other (p ∷ ps) is = lead (bytes_eq other p.key) (λ on. (bytes_eq-Decides other p.key).0 on) is
+found_key key other (p ∷ ps) is = lead (bytes_eq other p.key) (λ on. (bytes_eq-Decides other p.key).0 on) (found_key key other ps) is
   where
-    lead : (b : Bool) → (b ≡ true → other ≡ p.key) → is_it key (cond b (Some p) (find (λ q. bytes_eq other q.key) ps)) ≡ true → other ≡ key
-    lead true on it = on refl ∙ sym ((bytes_eq-Decides key p.key).0 it)
-    lead false on it = found_key key other ps it
+    lead : (b : Bool) → (b ≡ true → other ≡ p.key) → (is_it key (find (λ q. bytes_eq other q.key) ps) ≡ true → other ≡ key)
+        → is_it key (cond b (Some p) (find (λ q. bytes_eq other q.key) ps)) ≡ true → other ≡ key
+    lead true on rest it = on refl ∙ sym ((bytes_eq-Decides key p.key).0 it)
+    lead false on rest it = rest it
 
 word_for : (how : How) (block : BlockTree) (key : List ℕ) (a : ArgTree) (word : PlacedName) → a.name ≡ Some word
     → is_for how block key a ≡ true → word.0.key ≡ key
@@ -190,29 +191,33 @@ word_for how block key a word is on =
 
 none_named : (how : How) (block : BlockTree) (key : List ℕ) (args : List ArgTree) → AllByRecursion (λ a. IsTrue (is_some a.name)) args
     → (Has (keys_of (words_of_args args)) key → ⊥) → NoneOf (is_for how block key) args
-none_named how block key [] all no = tt
-none_named how block key (a ∷ more) all no = lead a.name refl all.0 no
+none_named how block key [] all lacks = tt
+none_named how block key (a ∷ more) all lacks = lead a.name refl all.0 (none_named how block key more all.1) lacks
   where
-    lead : (o : Option PlacedName) → a.name ≡ o → IsTrue (is_some o) → (Has (keys_of (cons_option o (words_of_args more))) key → ⊥)
+    lead : (o : Option PlacedName) → a.name ≡ o → IsTrue (is_some o)
+        → ((Has (keys_of (words_of_args more)) key → ⊥) → NoneOf (is_for how block key) more)
+        → (Has (keys_of (cons_option o (words_of_args more))) key → ⊥)
         → (is_for how block key a ≡ false) × NoneOf (is_for how block key) more
-    lead None is some never = absurd (true≢false (sym some))
-    lead (Some word) is some never = (
+    lead None is some rest never = absurd (true≢false (sym some))
+    lead (Some word) is some rest never = (
       not_true (is_for how block key a) (λ on. never (inl (word_for how block key a word is on))),
-      none_named how block key more all.1 (λ h. never (inr h)),
+      rest (λ h. never (inr h)),
     )
 
 once_named : (how : How) (block : BlockTree) (key : List ℕ) (args : List ArgTree) → AllByRecursion (λ a. IsTrue (is_some a.name)) args
     → Apart (keys_of (words_of_args args)) → Once (is_for how block key) args
 once_named how block key [] all apart = tt
-once_named how block key (a ∷ more) all apart = lead a.name refl all.0 apart
+once_named how block key (a ∷ more) all apart = lead a.name refl all.0 (once_named how block key more all.1) apart
   where
-    lead : (o : Option PlacedName) → a.name ≡ o → IsTrue (is_some o) → Apart (keys_of (cons_option o (words_of_args more)))
+    lead : (o : Option PlacedName) → a.name ≡ o → IsTrue (is_some o)
+        → (Apart (keys_of (words_of_args more)) → Once (is_for how block key) more)
+        → Apart (keys_of (cons_option o (words_of_args more)))
         → (is_for how block key a ≡ true → NoneOf (is_for how block key) more) × Once (is_for how block key) more
-    lead None is some its = absurd (true≢false (sym some))
-    lead (Some word) is some its = (
+    lead None is some rest its = absurd (true≢false (sym some))
+    lead (Some word) is some rest its = (
       λ on. none_named how block key more all.1
           (λ h. its.0 (subst (Has (keys_of (words_of_args more))) (sym (word_for how block key a word is on)) h)),
-      once_named how block key more all.1 its.1,
+      rest its.1,
     )
 
 once_few : (t : ArgTree → Bool) (args : List ArgTree) → length args ≤ 1 → Once t args
