@@ -1,5 +1,5 @@
 -- Keys no two of which are the same: those of names of which none stands behind one of its key, and those of parameters.
-use Rattle.std.proofs.Common.{◌≡◌, ℕ, List, [], ◌∷◌, ◌++◌, map, Bool, true, false, not, ◌&&◌, cond, Option, Some, None, is_some, is_none, bytes_eq, ◌⊎◌, inl, inr, true≢false, append-nil, refl, sym, ap, subst, ◌∙◌}
+use Rattle.std.proofs.Common.{◌≡◌, ℕ, List, [], ◌∷◌, ◌++◌, map, Bool, true, false, not, ◌&&◌, cond, Option, Some, None, is_some, is_none, ◌⊎◌, inl, inr, true≢false, append-nil, refl, sym, ap, subst, ◌∙◌}
 use Rattle.std.specs.Prelude.{if◌then◌else◌, Contains}
 use Rattle.std.proofs.lemmas.Slice.Eq.{bytes_eq-Decides}
 use Rattle.pv_word.specs.declared.types.Ty.{Ty}
@@ -9,12 +9,12 @@ use Rattle.pv_types.specs.Tree.{plain, VarTree, var}
 use Rattle.pv_types.specs.View.{name_of}
 use Rattle.pv_tree.specs.Tree.{PlacedName, BlockTree}
 use Rattle.pv_tree.specs.Scopes.{ProjectTree, has_key, first_var, value_key}
-use Rattle.pv_tree.specs.Callees.{How, is_by_stl, is_param, CallSite, runs, callee_of, Param, params_of_vars, value_param, params_of}
+use Rattle.pv_tree.specs.Callees.{How, is_by_stl, is_param, CallSite, runs, callee_of, Param, params_of_vars, params_of}
 use Rattle.pv_tree.specs.Parts.{calls_of}
 use Rattle.pv_tree.specs.Interfaces.{names_of_vars}
 use Rattle.pv_tree.specs.Rules.{KeepsRules, doubled_name, wrong_argument}
 use Rattle.pv_tree.specs.Rules.Arguments.{words_of_args}
-use Rattle.pv_rules_expr.specs.Members.{HasSome, Has, IsLaterBehind}
+use Rattle.pv_rules_expr.specs.Members.{Has, IsLaterBehind}
 use Rattle.pv_rules_expr.proofs.ForCallers.{has_front, has_behind, later_is}
 
 -- no two are the same

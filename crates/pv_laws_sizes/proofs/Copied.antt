@@ -1,5 +1,5 @@
 -- What is counted parameter by parameter goes in and out as a call's copies do; and arguments that tokens spell are ordinary.
-use Rattle.std.proofs.Common.{◌≡◌, ℕ, ◌+◌, List, [], ◌∷◌, ◌++◌, map, filter, find, Bool, true, false, ◌&&◌, ◌||◌, cond, Option, Some, None, is_some, is_none, Contains, IsTrue, inl, inr, refl, sym, ap, subst, ◌∙◌, arith}
+use Rattle.std.proofs.Common.{◌≡◌, ℕ, ◌+◌, List, [], ◌∷◌, map, filter, find, Bool, true, false, ◌&&◌, ◌||◌, cond, Option, Some, None, is_some, is_none, Contains, IsTrue, inl, inr, refl, sym, ap, subst, ◌∙◌, arith}
 use Rattle.std.specs.Prelude.{if◌then◌else◌}
 use Rattle.std.specs.List.{AllByRecursion}
 use Rattle.pv_word.specs.declared.types.Ty.{Ty}
@@ -15,11 +15,10 @@ use Rattle.pv_tree.specs.Parts.{calls_of}
 use Rattle.pv_tree.specs.Rules.{KeepsRules}
 use Rattle.pv_tree.proofs.ForCallers.{run_block_in}
 use Rattle.pv_mean.specs.Sources.{Source}
-use Rattle.pv_mean.specs.Spots.{Spot}
 use Rattle.pv_mean.specs.Activations.{Activation, scope_in, word_begins, spot_of}
 use Rattle.pv_mean.specs.Calls.{Passed, is_for, passed_in_sections, passed_in, passed_out, value_spot}
 use Rattle.pv_sizes.specs.Checks.{checks_of, one_if}
-use Rattle.pv_sizes.specs.Sizes.{checks_of_taker, size_of_copy, size_of_args, size_of_run, size_of_call}
+use Rattle.pv_sizes.specs.Sizes.{checks_of_taker, size_of_copy, size_of_run, size_of_call}
 use Rattle.pv_laws_sizes.specs.Copies.{AreOrdinary, sum_of, size_in, size_out, size_of_copies}
 use Rattle.pv_laws_sizes.proofs.Sums.{sum_both, sum_each, sum_append, sum_map, sum_filter}
 use Rattle.pv_laws_sizes.proofs.Apart.{vars_apart, words_apart, params_apart}

@@ -1,6 +1,6 @@
 -- What is counted argument by argument is what is counted parameter by parameter, where no two parameters have one key and no two
 -- arguments are for one: both are the sum over all pairs of an argument and the parameter that it is for.
-use Rattle.std.proofs.Common.{◌≡◌, ℕ, ◌+◌, ◌≤◌, List, [], ◌∷◌, ◌++◌, length, filter, find, Bool, true, false, ◌&&◌, cond, Option, Some, None, is_some, bytes_eq, IfSome, IsTrue, true≢false, inl, inr, refl, sym, ap, subst, ◌∙◌, arith}
+use Rattle.std.proofs.Common.{◌≡◌, ℕ, ◌+◌, ◌≤◌, List, [], ◌∷◌, length, filter, find, Bool, true, false, cond, Option, Some, None, is_some, bytes_eq, IfSome, IsTrue, true≢false, inl, inr, refl, sym, ap, subst, ◌∙◌, arith}
 use Rattle.std.specs.Prelude.{if◌then◌else◌}
 use Rattle.std.specs.List.{AllByRecursion, cons_option}
 use Rattle.std.proofs.lemmas.Slice.Eq.{bytes_eq-Decides}
@@ -9,7 +9,7 @@ use Rattle.pv_tree.specs.Scopes.{Scope, is_fc}
 use Rattle.pv_tree.specs.Callees.{How, is_input, Param, params_of_vars, value_param, params_of, first_param, only, only_input, param_for}
 use Rattle.pv_tree.specs.Rules.Arguments.{words_of_args}
 use Rattle.pv_mean.specs.Calls.{is_for}
-use Rattle.pv_rules_expr.specs.Members.{HasSome, Has}
+use Rattle.pv_rules_expr.specs.Members.{Has}
 use Rattle.pv_rules_expr.proofs.ForCallers.{has_front}
 use Rattle.pv_sizes.specs.Sizes.{size_of_copy, size_of_param, size_of_arg, size_of_args}
 use Rattle.pv_laws_sizes.specs.Copies.{AreOrdinary, sum_of}
