@@ -65,11 +65,11 @@ has_each P Q (x ∷ xs) f (inr h) = inr (has_each P Q xs f h)
 
 module _ (project : ProjectTree) where
   -- the block stands at this number; and this is the number of its name
-  record At (b : BlockTree) (i : ℕ) : Type 0 where
+  pub record At (b : BlockTree) (i : ℕ) : Type 0 where
     pub below : i < length project.blocks
     pub there : slice_index_or project.blocks i b ≡ b
 
-  record Numbered (b : BlockTree) (i : ℕ) : Type 0 where
+  pub record Numbered (b : BlockTree) (i : ℕ) : Type 0 where
     pub at : At b i
     pub number : number_of project b ≡ Some i
 
@@ -100,7 +100,7 @@ module _ (project : ProjectTree) where
         r.3,
       )
 
-  numbered : (b : BlockTree) → IsFirstBlock project b → (n : ℕ) × Numbered b n
+  pub numbered : (b : BlockTree) → IsFirstBlock project b → (n : ℕ) × Numbered b n
   numbered b is = let f = found_at b.name.key b project.blocks is in (
     f.0,
     record {
@@ -210,13 +210,13 @@ module _ (project : ProjectTree) where
         (a.0, a.1, a.2, a.3, from.is_run),
       )
 
-  leads_down : (x y : BlockTree) (i : ℕ) → Numbered x i → LeadsTo project x y → (j : ℕ) × Numbered y j × Leads all_steps i j
+  pub leads_down : (x y : BlockTree) (i : ℕ) → Numbered x i → LeadsTo project x y → (j : ℕ) × Numbered y j × Leads all_steps i j
   leads_down x _ i num here = (i, num, graph.here)
   leads_down x y i num (by calls rest) =
       let step = down x _ i num.at calls in
       let more = leads_down _ y step.0 step.1 rest in (more.0, more.1, graph.by step.2 more.2)
 
-  leads_up : (x : BlockTree) (i j : ℕ) → Numbered x i → Leads all_steps i j → (y : BlockTree) × Numbered y j × LeadsTo project x y
+  pub leads_up : (x : BlockTree) (i j : ℕ) → Numbered x i → Leads all_steps i j → (y : BlockTree) × Numbered y j × LeadsTo project x y
   leads_up x i _ num graph.here = (x, num, here)
   leads_up x i j num (graph.by has rest) =
       let step = up x i _ num.at has in
@@ -348,7 +348,7 @@ links_seen (l ∷ more) zero = refl
 links_seen (l ∷ more) (suc i) = links_seen more i
 
 module _ (project : ProjectTree) (all : List Links) (are : AreLinks project all) where
-  same_graph : links_graph all ≡ all_steps project
+  pub same_graph : links_graph all ≡ all_steps project
   same_graph = graph_seen all ∙ ap (map (λ ps. map (λ p. p.1) ps)) are
 
   same_length : length all ≡ length project.blocks

@@ -1,3 +1,4 @@
 pub mod CallGraph
 pub mod Gathering
 pub mod Linking
+pub mod ForCallers
