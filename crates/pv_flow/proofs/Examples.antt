@@ -20,10 +20,10 @@ abbrev pub yes_term : Term
 yes_term = constant Bool (pos 1)
 
 abbrev var : Variable
-var = record { ty = Bool; role = Kept; start = pos 0; bound = None }
+var = record { ty = Bool; role = Kept; start = pos 0; only = None }
 
 abbrev int_var : Variable
-int_var = record { ty = Int; role = Kept; start = pos 0; bound = None }
+int_var = record { ty = Int; role = Kept; start = pos 0; only = None }
 
 abbrev edge : ℕ → ℕ → Term → List Set → Edge
 edge from to guard sets = record { from = from; to = to; guard = guard; sets = sets }

@@ -124,10 +124,10 @@ edges_are = (
 
 -- ---- variables
 
-is_var : (v : Variable) → v.start ≡ pos 0 → v.bound ≡ None → IsVariable v
-is_var v start bound = record {
+is_var : (v : Variable) → v.start ≡ pos 0 → v.only ≡ None → IsVariable v
+is_var v start only = record {
   start = subst (λ (x : ℤ). InRange v.ty x) (sym start) (zero_fits v.ty);
-  bound = subst (λ (o : Option ℤ). IfSome o (λ value. InRange v.ty value)) (sym bound) tt;
+  only = subst (λ (o : Option ℤ). IfSome o (λ value. InRange v.ty value)) (sym only) tt;
 }
 
 vars_are : AllByRecursion IsVariable counted.vars
