@@ -144,14 +144,11 @@ caller = record {
 }
 
 abbrev blocks : Blocks
-blocks zero = Some caller
-blocks (suc zero) = Some (leaf (var ∷ var ∷ []))
-blocks (suc (suc zero)) = Some (leaf (var ∷ []))
-blocks (suc (suc (suc n))) = None
+blocks = Some caller ∷ Some (leaf (var ∷ var ∷ [])) ∷ Some (leaf (var ∷ [])) ∷ []
 
 -- the own variables of the first call's block lie behind the caller's one, those of the second's behind the first's two
-first_base : base_of blocks (entry_work caller 1) 0 ≡ 1
+first_base : base_of blocks (entry_work caller) 0 ≡ 1
 first_base = refl
 
-second_base : base_of blocks (entry_work caller 1) 1 ≡ 3
+second_base : base_of blocks (entry_work caller) 1 ≡ 3
 second_base = refl

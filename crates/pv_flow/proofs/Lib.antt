@@ -3,6 +3,9 @@ pub mod Checking
 pub mod ClosedWalks
 pub mod Examples
 pub mod ForCallers
+pub mod Lawful
 pub mod Steps
+pub mod TypedRuns
+pub mod Typing
 pub mod Untouched
 pub mod WellMadeExample
