@@ -322,7 +322,7 @@ none_any : {X : Type 0} (f : X → Bool) (xs : List X) → list_any f xs ≡ fal
 none_any f [] h = tt
 none_any f (x ∷ xs) h = let both = or_parts (f x) (list_any f xs) h in (both.0, none_any f xs both.1)
 
-any_at : {X : Type 0} (f : X → Bool) (xs : List X) (i : ℕ) (x : X) → slice_get xs i ≡ Some x → f x ≡ true → list_any f xs ≡ true
+pub any_at : {X : Type 0} (f : X → Bool) (xs : List X) (i : ℕ) (x : X) → slice_get xs i ≡ Some x → f x ≡ true → list_any f xs ≡ true
 any_at f [] i x e h = absurd (none-some x e)
 any_at f (y ∷ xs) zero x e h = or_left (f y) (list_any f xs) (ap f (same_Some y x e) ∙ h)
 any_at f (y ∷ xs) (suc i) x e h = or_right (f y) (list_any f xs) (any_at f xs i x e h)
