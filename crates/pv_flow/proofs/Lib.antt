@@ -1,10 +1,17 @@
+pub mod Advancing
 pub mod CallEnds
+pub mod CallRuns
 pub mod Checking
 pub mod ClosedWalks
+pub mod Depth
 pub mod Examples
 pub mod ForCallers
 pub mod Lawful
+pub mod Places
+pub mod RunEnds
+pub mod RunExamples
 pub mod Steps
+pub mod Sums
 pub mod TypedRuns
 pub mod Typing
 pub mod Untouched
