@@ -295,12 +295,12 @@ end_typed k types base q w is low have y = by (cases_lt y base)
 
 -- ---- call edges
 
-record IsCall (l : ℕ) (calls : List CallEdge) (c : Numbered) : Type 0 where
+record IsCall (l : ℕ) (listed : List CallEdge) (c : Numbered) : Type 0 where
   position : ℕ
-  stands : slice_get calls position ≡ Some c.call
+  stands : slice_get listed position ≡ Some c.call
   from : c.call.from ≡ l
 
-call_found : (l j : ℕ) (calls : List CallEdge) (c : Numbered) → call_from l j calls ≡ Some c → IsCall l calls c
+call_found : (l j : ℕ) (listed : List CallEdge) (c : Numbered) → call_from l j listed ≡ Some c → IsCall l listed c
 call_found l j [] c e = absurd (none-some c e)
 call_found l j (call ∷ more) c e = by (call.from == l) refl e (λ h. call_found l (suc j) more c h)
   where
@@ -315,7 +315,7 @@ call_found l j (call ∷ more) c e = by (call.from == l) refl e (λ h. call_foun
     by true from e go = here (same_Some (numbered j call) c e) (eqb-true call.from l from)
     by false from e go = later (go e)
 
-none_found : (l j : ℕ) (calls : List CallEdge) → call_from l j calls ≡ None → length (calls_from l calls) ≡ 0
+none_found : (l j : ℕ) (listed : List CallEdge) → call_from l j listed ≡ None → length (calls_from l listed) ≡ 0
 none_found l j [] e = refl
 none_found l j (call ∷ more) e = by (call.from == l) e (λ h. none_found l (suc j) more h)
   where

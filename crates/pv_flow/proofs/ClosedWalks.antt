@@ -327,7 +327,7 @@ any_at f [] i x e h = absurd (none-some x e)
 any_at f (y ∷ xs) zero x e h = or_left (f y) (list_any f xs) (ap f (same_Some y x e) ∙ h)
 any_at f (y ∷ xs) (suc i) x e h = or_right (f y) (list_any f xs) (any_at f xs i x e h)
 
-any_pub mapped : {X : Type 0} (f g : X → Bool) (xs : List X) → AllByRecursion (λ x. f x ≡ true → g x ≡ true) xs → list_any f xs ≡ true
+any_mapped : {X : Type 0} (f g : X → Bool) (xs : List X) → AllByRecursion (λ x. f x ≡ true → g x ≡ true) xs → list_any f xs ≡ true
     → list_any g xs ≡ true
 any_mapped f g [] all h = h
 any_mapped f g (x ∷ xs) all h = by (or_cases (f x) (list_any f xs) h) (λ e. any_mapped f g xs all.1 e)

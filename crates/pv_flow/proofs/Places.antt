@@ -44,17 +44,17 @@ AreCopies m (loop ∷ more) l js = IsCopy m loop l (js 0) × AreCopies m more l 
 
 -- a location lies before a loop, in it, or behind it
 data Lies (loop : Loop) (l : ℕ) : Type 0 where
-  before : l < loop.first → Lies loop l
-  within : loop.first ≤ l → l ≤ loop.last → Lies loop l
-  behind : loop.first ≤ l → loop.last < l → Lies loop l
+  lies_before : l < loop.first → Lies loop l
+  lies_within : loop.first ≤ l → l ≤ loop.last → Lies loop l
+  lies_behind : loop.first ≤ l → loop.last < l → Lies loop l
 
 lies : (loop : Loop) (l : ℕ) → Lies loop l
 lies loop l = by (cases_lt l loop.first) (cases_lt loop.last l)
   where
     by : (l < loop.first) ⊎ (loop.first ≤ l) → (loop.last < l) ⊎ (l ≤ loop.last) → Lies loop l
-    by (inl lt) x = before lt
-    by (inr le) (inl lt) = behind le lt
-    by (inr le) (inr high) = within le high
+    by (inl lt) x = lies_before lt
+    by (inr le) (inl lt) = lies_behind le lt
+    by (inr le) (inr high) = lies_within le high
 
 extra_before : (m : ℕ) (loop : Loop) (more : List Loop) (l j : ℕ) → l < loop.first → extra m loop more l j ≡ 0
 extra_before m loop more l j lt = cond-true (nat_lt l loop.first) 0
@@ -92,13 +92,13 @@ all_before m (loop ∷ more) l y js le from = by (lies loop l) (all_before m mor
 
     by : Lies loop l → copies (suc m) more y ≤ place m more l (λ i. js (suc i))
         → copies (suc m) (loop ∷ more) y ≤ place m more l (λ i. js (suc i)) + extra m loop more l (js 0)
-    by (before lt) rest =
+    by (lies_before lt) rest =
         plain (copies (suc m) (loop ∷ more) y) (copies (suc m) more y) (place m more l (λ i. js (suc i))) (extra m loop more l (js 0))
         (before_first m loop more y (omega (arith, le, lt))) rest
-    by (within low high) rest =
+    by (lies_within low high) rest =
         plain (copies (suc m) (loop ∷ more) y) (copies (suc m) more y) (place m more l (λ i. js (suc i))) (extra m loop more l (js 0))
         (before_first m loop more y (from.0 (holds_by loop l low high))) rest
-    by (behind low lt) rest =
+    by (lies_behind low lt) rest =
         full (copies (suc m) (loop ∷ more) y) (copies (suc m) more y) (place m more l (λ i. js (suc i))) (extra m loop more l (js 0))
         (m * inside (suc m) loop more) (once_more (suc m) loop more) (no_more_than m loop more y) rest (extra_behind m loop more l (js 0) low lt)
 
@@ -170,11 +170,11 @@ is_before m (loop ∷ more) l y js nested are lt ends =
     by : Lies loop l → suc (place m more l (λ i. js (suc i))) ≤ copies (suc m) more y
         → (loop.entry_turn ≡ false → l ≡ loop.first → suc (place m more l (λ i. js (suc i))) ≤ copies (suc m) more (suc l))
         → suc ((place m more l (λ i. js (suc i))) + extra m loop more l (js 0)) ≤ copies (suc m) (loop ∷ more) y
-    by (before below) go at_first =
+    by (lies_before below) go at_first =
         outside (place m more l (λ i. js (suc i))) (extra m loop more l (js 0)) (copies (suc m) more y) (copies (suc m) (loop ∷ more) y)
         (extra_before m loop more l (js 0) below) go (no_fewer_than m loop more y)
-    by (within low high) go at_first = held low high at_first go (are.0 (holds_by loop l low high))
-    by (behind low past) go at_first =
+    by (lies_within low high) go at_first = held low high at_first go (are.0 (holds_by loop l low high))
+    by (lies_behind low past) go at_first =
         full (place m more l (λ i. js (suc i))) (extra m loop more l (js 0)) (copies (suc m) more y) (copies (suc m) (loop ∷ more) y) (m * inside (suc m) loop more)
         (once_more (suc m) loop more) (equal (extra_behind m loop more l (js 0) low past)) go
         (behind_last m loop more y (omega (arith, past, lt)))
@@ -261,19 +261,19 @@ rises_forward m (loop ∷ more) l to js ks nested are lt rising =
         (extra_behind m loop more to (ks 0) far past)
 
     by : Lies loop l → Lies loop to → suc (place m more l (λ i. js (suc i))) ≤ (place m more to (λ i. ks (suc i))) → suc ((place m more l (λ i. js (suc i))) + extra m loop more l (js 0)) ≤ (place m more to (λ i. ks (suc i))) + extra m loop more to (ks 0)
-    by (before below) x go =
+    by (lies_before below) x go =
         up (place m more l (λ i. js (suc i))) (place m more to (λ i. ks (suc i))) (extra m loop more l (js 0)) (extra m loop more to (ks 0)) go
         (least (extra m loop more l (js 0)) (extra m loop more to (ks 0)) (extra_before m loop more l (js 0) below))
-    by (within low high) (before below) go = absurd (omega (arith, low, lt, below))
-    by (within low high) (within far near) go =
+    by (lies_within low high) (lies_before below) go = absurd (omega (arith, low, lt, below))
+    by (lies_within low high) (lies_within far near) go =
         up (place m more l (λ i. js (suc i))) (place m more to (λ i. ks (suc i))) (extra m loop more l (js 0)) (extra m loop more to (ks 0)) go
         (scaled (inside (suc m) loop more) (js 0) (ks 0) (extra m loop more l (js 0)) (extra m loop more to (ks 0))
         (extra_within m loop more l (js 0) low high) (extra_within m loop more to (ks 0) far near)
         (rising.0 (holds_by loop l low high) (holds_by loop to far near)))
-    by (within low high) (behind far past) go = left low high far past go (are.0 (holds_by loop l low high))
-    by (behind low past) (before below) go = absurd (omega (arith, low, lt, below))
-    by (behind low past) (within far near) go = absurd (omega (arith, past, lt, near))
-    by (behind low past) (behind far further) go =
+    by (lies_within low high) (lies_behind far past) go = left low high far past go (are.0 (holds_by loop l low high))
+    by (lies_behind low past) (lies_before below) go = absurd (omega (arith, low, lt, below))
+    by (lies_behind low past) (lies_within far near) go = absurd (omega (arith, past, lt, near))
+    by (lies_behind low past) (lies_behind far further) go =
         up (place m more l (λ i. js (suc i))) (place m more to (λ i. ks (suc i))) (extra m loop more l (js 0)) (extra m loop more to (ks 0)) go
         (same (extra m loop more l (js 0)) (extra m loop more to (ks 0)) (m * inside (suc m) loop more + once_more (suc m) loop more)
         (extra_behind m loop more l (js 0) low past) (extra_behind m loop more to (ks 0) far further))
@@ -328,8 +328,8 @@ rises_back m (loop ∷ more) l to js ks nested are rising (suc t) turned at low 
     scaled i j k x z a b le = subst (λ (v : ℕ). v ≤ z) (sym a) (subst (λ (v : ℕ). j * i ≤ v) (sym b) (mul-le-mul_right i le))
 
     by : Lies loop to → suc (place m more l (λ i. js (suc i))) ≤ (place m more to (λ i. ks (suc i))) → suc ((place m more l (λ i. js (suc i))) + extra m loop more l (js 0)) ≤ (place m more to (λ i. ks (suc i))) + extra m loop more to (ks 0)
-    by (before past) go = let x = below.from in absurd (omega (arith, x, past, first))
-    by (within far near) go =
+    by (lies_before past) go = let x = below.from in absurd (omega (arith, x, past, first))
+    by (lies_within far near) go =
         let reach : turned.last ≤ loop.last = below.within (omega (arith, near, first)) in
         let begin : loop.first ≤ l = omega (arith, below.from, low) in
         let end : l ≤ loop.last = omega (arith, reach, high) in
@@ -337,7 +337,7 @@ rises_back m (loop ∷ more) l to js ks nested are rising (suc t) turned at low 
         (scaled (inside (suc m) loop more) (js 0) (ks 0) (extra m loop more l (js 0)) (extra m loop more to (ks 0))
         (extra_within m loop more l (js 0) begin end) (extra_within m loop more to (ks 0) far near)
         (rising.0 (holds_by loop l begin end) (holds_by loop to far near)))
-    by (behind far past) go =
+    by (lies_behind far past) go =
         let begin : loop.first ≤ l = omega (arith, below.from, low) in
         let further : loop.last < l = omega (arith, past, first, low) in
         up (place m more l (λ i. js (suc i))) (place m more to (λ i. ks (suc i))) (extra m loop more l (js 0)) (extra m loop more to (ks 0)) go
