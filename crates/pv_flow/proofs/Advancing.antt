@@ -106,13 +106,13 @@ entered_fresh m loop to k turn first off e = by loop.entry_turn refl
     one : 0 + 1 ≡ 1
     one = refl
 
-    with : (k ≤ suc m) × (1 ≤ k + lead loop to) → IsCount m loop to k
-    with both = record { most = both.0; some = both.1 }
+    made : (k ≤ suc m) × (1 ≤ k + lead loop to) → IsCount m loop to k
+    made both = record { most = both.0; some = both.1 }
 
     by : (b : Bool) → loop.entry_turn ≡ b → IsCount m loop to k
-    by true entry = with (counted k (entry_count loop) (cond turn 1 0) (lead loop to) 1 e none (cond-true loop.entry_turn 1 0 entry)
+    by true entry = made (counted k (entry_count loop) (cond turn 1 0) (lead loop to) 1 e none (cond-true loop.entry_turn 1 0 entry)
         (ap (λ (x : ℕ). x + 1) (lead_off loop to entry) ∙ one))
-    by false entry = with (counted k (entry_count loop) (cond turn 1 0) (lead loop to) 0 e none (cond-false loop.entry_turn 1 0 entry)
+    by false entry = made (counted k (entry_count loop) (cond turn 1 0) (lead loop to) 0 e none (cond-false loop.entry_turn 1 0 entry)
         (ap (λ (x : ℕ). x + 0) (lead_on loop to entry first) ∙ one))
 
 -- within the loop, without a turn: the lead is 0 before, as from the first location each edge that stays starts a turn

@@ -458,10 +458,10 @@ stages_end blocks m k types on (suc n) l counts w stands have le =
 
     along : (way : Way Spot) (x : Spot) → Leads m k.parts l counts x → way.to ≡ x → HaveTypes types (assigned_in k way.sets w) → Next
         → Comes blocks (suc m) k types (running way.to (assigned_in k way.sets w))
-    along way (past place) (over_by place) e typed go =
+    along way (past place) over_by e typed go =
         subst (λ (x : Spot). Comes blocks (suc m) k types (running x (assigned_in k way.sets w))) (sym e)
         (passed blocks (suc m) k types place (assigned_in k way.sets w))
-    along way (at to next) (on_to to next is) e typed go =
+    along way (at to next) (on_to is) e typed go =
         subst (λ (x : Spot). Comes blocks (suc m) k types (running x (assigned_in k way.sets w))) (sym e)
         (go to next (assigned_in k way.sets w) is typed)
 

@@ -213,8 +213,8 @@ gone_on m p f w o l to counts next stands lt kept hops = record {
 
 -- a way leads past a loop's bound, or on
 pub data Leads (m : ℕ) (p : Parts) (l : ℕ) (counts : Counts) : Spot → Type 0 where
-  over_by : (place : Place) → Leads m p l counts (past place)
-  on_to : (to : ℕ) (next : Counts) → IsOn m p l counts to next → Leads m p l counts (at to next)
+  over_by : {place : Place} → Leads m p l counts (past place)
+  on_to : {to : ℕ} {next : Counts} → IsOn m p l counts to next → Leads m p l counts (at to next)
 
 pub record IsWayOn (m : ℕ) (p : Parts) (l : ℕ) (counts : Counts) (way : Way Spot) : Type 0 where
   pub leads : Leads m p l counts way.to
@@ -260,8 +260,8 @@ edge_leads m p f w l counts stands e edge at from = by (over_of (suc m) e counts
 
     by : (o : Option Place) → over_of (suc m) e counts 0 p.loops ≡ o
         → Leads m p l counts (past_or o (at edge.to (turned p.loops e (moved p.loops l edge.to counts))))
-    by (Some place) none = over_by place
-    by None none = on_to edge.to (turned p.loops e (moved p.loops l edge.to counts))
+    by (Some place) none = over_by
+    by None none = on_to
         (gone_on m p f w (Some e) l edge.to counts (turned p.loops e (moved p.loops l edge.to counts)) stands (edge_lies p f e edge at).0 kept
         (edge_hops m p e l edge.to counts kept none))
 
@@ -335,8 +335,8 @@ steps_end m p f made calls (suc n) l counts w stands are le e =
         passed (suc n) place v h = none-some (outcome_of (over place) v) (sym h)
 
         by : (x : Spot) → Leads m p l counts x → run (control_of p (suc m)) n x (assigned way.sets w) ≡ None → ⊥
-        by (past place) (over_by place) h = passed n place (assigned way.sets w) h
-        by (at to next) (on_to to next is) h =
+        by (past place) over_by h = passed n place (assigned way.sets w) h
+        by (at to next) (on_to is) h =
             go to next (assigned way.sets w) is (assigned_typed (length p.vars) (types_of p) way.sets w on.sets are) h
 
 starts_inside : (p : Parts) → IsFaultless p → 0 < p.locations
