@@ -97,7 +97,7 @@ entered_fresh : (m : ℕ) (loop : Loop) (to k : ℕ) (turn : Bool) → to ≡ lo
     → IsCount m loop to k
 entered_fresh m loop to k turn first off e = by loop.entry_turn refl
   where
-    none : cond turn 1 0 ≡ 0
+    none : ◌≡◌ {A = ℕ} (cond turn 1 0) 0
     none = cond-false turn 1 0 off
 
     counted : (k c t d x : ℕ) → k ≡ c + t → t ≡ 0 → c ≡ x → d + x ≡ 1 → (k ≤ suc m) × (1 ≤ k + d)
@@ -155,7 +155,7 @@ moves_by_turn m loop from to turn k next d f t d_is f_is low is le e one = recor
     rise k next t d f e one low = omega (arith, e, one, low)
 
     off : (k next t d f : ℕ) → next ≡ k + t → t ≡ 1 → d ≡ 0 → 1 ≤ k + d → suc (k + d - 1) ≤ next + f - 1
-    off k next t d f e one z some = omega (arith, e, one, z, some)
+    off k next t d f e one z least = omega (arith, e, one, z, least)
 
     on : (k next t d f : ℕ) → next ≡ k + t → t ≡ 1 → d ≤ 1 → f ≡ 1 → suc (k + d - 1) ≤ next + f - 1
     on k next t d f e one low z = omega (arith, e, one, low, z)
@@ -176,13 +176,13 @@ moves_plainly m loop from to turn k next t no_lead is none e zero_turns = record
     most k next t e z le = omega (arith, e, z, le)
 
     some : (k next t d f : ℕ) → next ≡ k + t → t ≡ 0 → d ≡ 0 → 1 ≤ k + d → 1 ≤ next + f
-    some k next t d f e z y some = omega (arith, e, z, y, some)
+    some k next t d f e z y least = omega (arith, e, z, y, least)
 
     rise : (k next t d f : ℕ) → next ≡ k + t → t ≡ 0 → d ≡ 0 → k + d - 1 ≤ next + f - 1
     rise k next t d f e z y = omega (arith, e, z, y)
 
     on : (k next t d f : ℕ) → next ≡ k + t → t ≡ 0 → d ≡ 0 → 1 ≤ k + d → f ≡ 1 → suc (k + d - 1) ≤ next + f - 1
-    on k next t d f e z y some x = omega (arith, e, z, y, some, x)
+    on k next t d f e z y least x = omega (arith, e, z, y, least, x)
 
     by : (b : Bool) → loop.entry_turn ≡ b → (loop.entry_turn ≡ true → turn ≡ true) → (loop.entry_turn ≡ false → to ≡ loop.first)
         → suc (index loop from k) ≤ index loop to next
@@ -234,21 +234,21 @@ moved_within m loop from to turn k next hop has below e on held =
 pub record Hops (m : ℕ) (loops : List Loop) (o : Option ℕ) (from to : ℕ) (counts next : Counts) : Type 0 where
   pub hops : (i : ℕ) → IfSome (slice_get loops i) (λ loop. IsHop loop from to (turns_by loop o))
   pub below : (i : ℕ) → IfSome (slice_get loops i) (λ loop. turns_by loop o ≡ true → counts i ≤ m)
-  pub next : (i : ℕ) → IfSome (slice_get loops i) (λ loop. next i ≡ next_count loop from to (turns_by loop o) (counts i))
+  pub becomes : (i : ℕ) → IfSome (slice_get loops i) (λ loop. next i ≡ next_count loop from to (turns_by loop o) (counts i))
 
 further : (m : ℕ) (loop : Loop) (more : List Loop) (o : Option ℕ) (from to : ℕ) (counts next : Counts) → Hops m (loop ∷ more) o from to counts next
     → Hops m more o from to (λ i. counts (suc i)) (λ i. next (suc i))
 further m loop more o from to counts next h = record {
   hops = λ i. h.hops (suc i);
   below = λ i. h.below (suc i);
-  next = λ i. h.next (suc i);
+  becomes = λ i. h.becomes (suc i);
 }
 
 pub have_counts : (m : ℕ) (loops : List Loop) (o : Option ℕ) (from to : ℕ) (counts next : Counts) → Hops m loops o from to counts next
     → HaveCounts m loops from counts → HaveCounts m loops to next
 have_counts m [] o from to counts next h have i = tt
 have_counts m (loop ∷ more) o from to counts next h have zero =
-    counted m loop from to (turns_by loop o) (counts 0) (next 0) (h.hops 0) (have 0) (h.below 0) (h.next 0)
+    counted m loop from to (turns_by loop o) (counts 0) (next 0) (h.hops 0) (have 0) (h.below 0) (h.becomes 0)
 have_counts m (loop ∷ more) o from to counts next h have (suc i) =
     have_counts m more o from to (λ i. counts (suc i)) (λ i. next (suc i)) (further m loop more o from to counts next h) (λ i. have (suc i)) i
 
@@ -256,7 +256,7 @@ are_rising : (m : ℕ) (loops : List Loop) (o : Option ℕ) (from to : ℕ) (cou
     → HaveCounts m loops from counts → AreRising loops from to (indexes loops from counts) (indexes loops to next)
 are_rising m [] o from to counts next h have = tt
 are_rising m (loop ∷ more) o from to counts next h have = (
-  (λ on held. (moved_within m loop from to (turns_by loop o) (counts 0) (next 0) (h.hops 0) (have 0) (h.below 0) (h.next 0) on held).rises),
+  (λ on held. (moved_within m loop from to (turns_by loop o) (counts 0) (next 0) (h.hops 0) (have 0) (h.below 0) (h.becomes 0) on held).rises),
   are_rising m more o from to (λ i. counts (suc i)) (λ i. next (suc i)) (further m loop more o from to counts next h) (λ i. have (suc i)),
 )
 
@@ -268,7 +268,7 @@ rises_at : (m : ℕ) (loops : List Loop) (o : Option ℕ) (from to : ℕ) (count
 rises_at m [] o from to counts next h have t loop at on held entry first = absurd (none-some loop at)
 rises_at m (one ∷ more) o from to counts next h have zero loop at on held entry first =
     let e : loop ≡ one = sym (same_Some one loop at) in
-    (moved_within m one from to (turns_by one o) (counts 0) (next 0) (h.hops 0) (have 0) (h.below 0) (h.next 0)
+    (moved_within m one from to (turns_by one o) (counts 0) (next 0) (h.hops 0) (have 0) (h.below 0) (h.becomes 0)
     (subst (λ (x : Loop). holds x from ≡ true) e on) (subst (λ (x : Loop). holds x to ≡ true) e held)).turns
     (subst (λ (x : Loop). x.entry_turn ≡ true → turns_by x o ≡ true) e entry) (subst (λ (x : Loop). x.entry_turn ≡ false → to ≡ x.first) e first)
 rises_at m (one ∷ more) o from to counts next h have (suc t) loop at on held entry first =
@@ -358,8 +358,8 @@ below_of loop other range range_too apart uncrossed = record {
 
         by : (holds_loop loop other ≡ true) ⊎ (holds_loop loop other ≡ false) → (holds_loop other loop ≡ true) ⊎ (holds_loop other loop ≡ false)
             → (holds_loop loop other ≡ true) ⊎ (holds_loop other loop ≡ true)
-        by (inl yes) x = inl yes
-        by (inr no) (inl yes) = inr yes
+        by (inl holding) x = inl holding
+        by (inr off) (inl holding) = inr holding
         by (inr a) (inr b) = absurd (both_ways (cross loop other) uncrossed (crossing a b))
 
     within : other.first ≤ loop.last → other.last ≤ loop.last
@@ -367,11 +367,11 @@ below_of loop other range range_too apart uncrossed = record {
       where
         by : (holds_loop loop other ≡ true) ⊎ (holds_loop other loop ≡ true)
             → (loop.first < other.first) ⊎ ((loop.first ≡ other.first) × (other.last ≤ loop.last)) → other.last ≤ loop.last
-        by (inl yes) x = leb-true other.last loop.last (and_parts (nat_le loop.first other.first) (nat_le other.last loop.last) yes).1
-        by (inr yes) (inl lt) =
-            let low : other.first ≤ loop.first = leb-true other.first loop.first (and_parts (nat_le other.first loop.first) (nat_le loop.last other.last) yes).0 in
+        by (inl holding) x = leb-true other.last loop.last (and_parts (nat_le loop.first other.first) (nat_le other.last loop.last) holding).1
+        by (inr holding) (inl lt) =
+            let low : other.first ≤ loop.first = leb-true other.first loop.first (and_parts (nat_le other.first loop.first) (nat_le loop.last other.last) holding).0 in
             absurd (omega (arith, low, lt))
-        by (inr yes) (inr same) = same.1
+        by (inr holding) (inr same) = same.1
 
     alone : loop.entry_turn ≡ false → loop.first < other.first
     alone entry = by order

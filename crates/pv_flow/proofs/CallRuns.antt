@@ -326,8 +326,8 @@ none_found l j (call ∷ more) e = by (call.from == l) e (λ h. none_found l (su
     by false e go = go e
 
 calls_lie : (p : Parts) → IsFaultless p → (i : ℕ) (call : CallEdge) → slice_get p.calls i ≡ Some call → call.to < p.locations
-calls_lie p f i call at = ltb-true call.to p.locations (and_parts (nat_lt call.from p.locations) (nat_lt call.to p.locations)
-    (at_some (λ (x : CallEdge). (nat_lt x.from p.locations && nat_lt x.to p.locations) ≡ true) (slice_get p.calls i) call at
+calls_lie p f i call it = ltb-true call.to p.locations (and_parts (nat_lt call.from p.locations) (nat_lt call.to p.locations)
+    (at_some (λ (x : CallEdge). (nat_lt x.from p.locations && nat_lt x.to p.locations) ≡ true) (slice_get p.calls i) call it
     (all_at (λ (x : CallEdge). nat_lt x.from p.locations && nat_lt x.to p.locations) p.calls i (calls_inside p f)))).1
 
 -- ---- runs
@@ -435,6 +435,11 @@ called_at blocks m k types l c on e = by (block_at blocks c.call.block) refl fit
       inside = calls_lie k.parts on.faultless it.position c.call it.stands;
     }
 
+-- what goes on behind a way or a call
+abbrev GoesOn : Blocks → ℕ → Work → Places → ℕ → Counts → Type 0
+GoesOn blocks m k types l counts = (to : ℕ) (next : Counts) (v : Valuation) → IsOn m k.parts l counts to next → HaveTypes types v
+    → Comes blocks (suc m) k types (running (at to next) v)
+
 stages_end : (blocks : Blocks) (m : ℕ) (k : Work) (types : Places) → Stage_of blocks m k types → (n l : ℕ) (counts : Counts) (w : Valuation)
     → Stands m k.parts l counts → HaveTypes types w → copies (suc m) k.parts.loops k.parts.locations ≤ come m k.parts.loops l counts + n
     → Comes blocks (suc m) k types (running (at l counts) w)
@@ -451,12 +456,7 @@ stages_end blocks m k types on (suc n) l counts w stands have le =
     left : (b c d : ℕ) → b ≤ c + suc n → suc c ≤ d → b ≤ d + n
     left b c d le further = omega (arith, le, further)
 
-    -- what goes on behind a way or a call
-    abbrev Next : Type 0
-    Next = (to : ℕ) (next : Counts) (v : Valuation) → IsOn m k.parts l counts to next → HaveTypes types v
-        → Comes blocks (suc m) k types (running (at to next) v)
-
-    along : (way : Way Spot) (x : Spot) → Leads m k.parts l counts x → way.to ≡ x → HaveTypes types (assigned_in k way.sets w) → Next
+    along : (way : Way Spot) (x : Spot) → Leads m k.parts l counts x → way.to ≡ x → HaveTypes types (assigned_in k way.sets w) → GoesOn blocks m k types l counts
         → Comes blocks (suc m) k types (running way.to (assigned_in k way.sets w))
     along way (past place) over_by e typed go =
         subst (λ (x : Spot). Comes blocks (suc m) k types (running x (assigned_in k way.sets w))) (sym e)
@@ -465,7 +465,7 @@ stages_end blocks m k types on (suc n) l counts w stands have le =
         subst (λ (x : Spot). Comes blocks (suc m) k types (running x (assigned_in k way.sets w))) (sym e)
         (go to next (assigned_in k way.sets w) is typed)
 
-    by_called : (c : Numbered) → Called blocks m k l c → end_at k.parts l ≡ None → call_from l 0 k.parts.calls ≡ Some c → Next
+    by_called : (c : Numbered) → Called blocks m k l c → end_at k.parts l ≡ None → call_from l 0 k.parts.calls ≡ Some c → GoesOn blocks m k types l counts
         → Comes blocks (suc m) k types (running (at l counts) w)
     by_called c it none call go =
         by_call blocks m k types l counts w c it.callee none call it.block
@@ -477,7 +477,7 @@ stages_end blocks m k types on (suc n) l counts w stands have le =
 
     by : (end : Option End) → end_at k.parts l ≡ end → (call : Option Numbered) → call_from l 0 k.parts.calls ≡ call
         → (way : Option (Way Spot)) → taken (seen k w) (ways_by k.parts.loops (suc m) l counts 0 k.parts.edges) ≡ way
-        → IfSome way (IsWayOn m k.parts l counts) → Next → Comes blocks (suc m) k types (running (at l counts) w)
+        → IfSome way (IsWayOn m k.parts l counts) → GoesOn blocks m k types l counts → Comes blocks (suc m) k types (running (at l counts) w)
     by (Some end) e call c way t is go =
         record { outcome = outcome_of end w; comes = ends (ap (λ (o : Option End). ended o w) e); typed = outcome_typed types end w have }
     by None e (Some c) call way t is go = by_called c (called_at blocks m k types l c on call) e call go
@@ -491,21 +491,21 @@ block_runs : (blocks : Blocks) (m : ℕ) → AreFitting blocks → AreSound bloc
 block_runs blocks m fit sound b = deep (RunsOf blocks m) blocks fit none step b
   where
     none : (n b : ℕ) → block_at blocks b ≡ None → RunsOf blocks m n b
-    none n b e k types w at is have = absurd (none-some k.parts (sym e ∙ at))
+    none n b e k types w there is have = absurd (none-some k.parts (sym e ∙ there))
 
     step : (n b : ℕ) (p : Parts) → block_at blocks b ≡ Some p → ((c : ℕ) → runs_block blocks b c ≡ true → RunsOf blocks m n c) → RunsOf blocks m (suc n) b
-    step n b p e below k types w at is have =
+    step n b p e below k types w there is have =
         stages_end blocks m k types (record {
           is = is;
           faultless = (sound_at).faultless;
           well_made = (sound_at).well_made;
           fits = recursion_from_All (FitsIn blocks k.parts) k.parts.calls
-              (at_some (λ (p : Parts). All (FitsIn blocks p) p.calls) (block_at blocks b) k.parts at (fit.calls b));
-          called = λ c any. below c (runs_of blocks b k.parts at c any);
+              (at_some (λ (p : Parts). All (FitsIn blocks p) p.calls) (block_at blocks b) k.parts there (fit.calls b));
+          called = λ c any. below c (runs_of blocks b k.parts there c any);
         }) (copies (suc m) k.parts.loops k.parts.locations) 0 (entered k.parts.loops 0) w (starts m k.parts (sound_at).faultless) have (omega arith)
       where
         sound_at : IsSound k.parts
-        sound_at = at_some IsSound (block_at blocks b) k.parts at (sound b)
+        sound_at = at_some IsSound (block_at blocks b) k.parts there (sound b)
 
 -- ---- the entry
 
@@ -525,19 +525,19 @@ entry_have p w are y =
 
 entry_comes : (blocks : Blocks) (m b : ℕ) (p : Parts) (w : Valuation) → AreFitting blocks → AreSound blocks → block_at blocks b ≡ Some p
     → HasValues p w → Comes blocks (suc m) (entry_work p) (entry_types p) (running (first_spot p) w)
-entry_comes blocks m b p w fit sound at are =
-    block_runs blocks m fit sound b (entry_work p) (entry_types p) w at (entry_is_at p) (entry_have p w are)
+entry_comes blocks m b p w fit sound there are =
+    block_runs blocks m fit sound b (entry_work p) (entry_types p) w there (entry_is_at p) (entry_have p w are)
 
 pub calls_end : (blocks : Blocks) (n b : ℕ) (p : Parts) (w : Valuation) → AreFitting blocks → AreSound blocks → 0 < n
     → block_at blocks b ≡ Some p → HasValues p w → (out : Outcome) × EndsAs blocks n p w out
-calls_end blocks zero b p w fit sound some at are = absurd (omega (arith, some))
-calls_end blocks (suc m) b p w fit sound some at are = let it = entry_comes blocks m b p w fit sound at are in (it.outcome, it.comes)
+calls_end blocks zero b p w fit sound some there are = absurd (omega (arith, some))
+calls_end blocks (suc m) b p w fit sound some there are = let it = entry_comes blocks m b p w fit sound there are in (it.outcome, it.comes)
 
 pub calls_keep_types : (blocks : Blocks) (n b : ℕ) (p : Parts) (w end : Valuation) → AreFitting blocks → AreSound blocks → 0 < n
     → block_at blocks b ≡ Some p → HasValues p w → EndsAs blocks n p w (done_with end) → HasValues p end
-calls_keep_types blocks zero b p w end fit sound some at are ends_so = absurd (omega (arith, some))
-calls_keep_types blocks (suc m) b p w end fit sound some at are ends_so =
-    let it = entry_comes blocks m b p w fit sound at are in
+calls_keep_types blocks zero b p w end fit sound some there are ends_so = absurd (omega (arith, some))
+calls_keep_types blocks (suc m) b p w end fit sound some there are ends_so =
+    let it = entry_comes blocks m b p w fit sound there are in
     let same : it.outcome ≡ done_with end =
     comes_to_one blocks (suc m) (entry_work p) (running (first_spot p) w) it.outcome (done_with end) it.comes ends_so in
     has_values (entry_work p) (entry_types p) end (entry_is_at p) (subst (λ (out : Outcome). EndsTyped (entry_types p) out) same it.typed)

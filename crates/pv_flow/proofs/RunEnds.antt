@@ -66,7 +66,8 @@ none_true : (loops : List Loop) (n l : ℕ) (counts : Counts) (w : Valuation) (e
 none_true loops n l counts w e [] h = refl
 none_true loops n l counts w e (edge ∷ edges) h = by (edge.from == l) h (λ g. none_true loops n l counts w (suc e) edges g)
   where
-    guard : (c : Bool) → elim c [ true ↦ Some (way_of loops n l counts e edge) | false ↦ taken w (ways_by loops n l counts (suc e) edges) ] ≡ None
+    guard : (c : Bool)
+        → ◌≡◌ {A = Option (Way Spot)} (elim c [ true ↦ Some (way_of loops n l counts e edge) | false ↦ taken w (ways_by loops n l counts (suc e) edges) ]) None
         → (taken w (ways_by loops n l counts (suc e) edges) ≡ None → true_guards w (edges_from l edges) ≡ 0)
         → cond c (1 + true_guards w (edges_from l edges)) (true_guards w (edges_from l edges)) ≡ 0
     guard true g go = absurd (none-some (way_of loops n l counts e edge) (sym g))
@@ -106,7 +107,7 @@ ways_all P loops n l counts e [] all = tt
 ways_all P loops n l counts e (edge ∷ edges) all =
     by (edge.from == l) refl
     (ways_all P loops n l counts (suc e) edges
-    (λ i other at from. subst (λ (k : ℕ). P (way_of loops n l counts k other)) (shift e i) (all (suc i) other at from)))
+    (λ i other it from. subst (λ (k : ℕ). P (way_of loops n l counts k other)) (shift e i) (all (suc i) other it from)))
   where
     shift : (e i : ℕ) → e + suc i ≡ suc e + i
     shift e i = omega arith
@@ -123,7 +124,7 @@ ways_all P loops n l counts e (edge ∷ edges) all =
     by false off rest = rest
 
 -- where no loop goes over, each that the edge turns has turns left
-over_here : (b c : Bool) (place : Place) (rest : Option Place) → elim (b && c) [ true ↦ Some place | false ↦ rest ] ≡ None
+over_here : (b c : Bool) (place : Place) (rest : Option Place) → ◌≡◌ {A = Option Place} (elim (b && c) [ true ↦ Some place | false ↦ rest ]) None
     → (rest ≡ None) × (b ≡ true → c ≡ false)
 over_here true true place rest none = absurd (none-some place (sym none))
 over_here true false place rest none = (none, (λ on. refl))
@@ -160,7 +161,7 @@ edge_hops : (m : ℕ) (p : Parts) (e : ℕ) (from to : ℕ) (counts : Counts) �
 edge_hops m p e from to counts kept none = record {
   hops = λ i. is_hop p (record { from = from; to = to; edge = Some e }) kept i;
   below = λ i. zero_shift (slice_get p.loops i) i (not_over m e counts p.loops 0 none i);
-  next = λ i. by (slice_get p.loops i) (counts i);
+  becomes = λ i. by (slice_get p.loops i) (counts i);
 }
   where
     zero_shift : (o : Option Loop) (i : ℕ) → IfSome o (λ loop. is_turn loop e ≡ true → counts (0 + i) ≤ m)
@@ -180,7 +181,7 @@ call_hops : (m : ℕ) (p : Parts) (from to : ℕ) (counts : Counts) → Keeps p 
 call_hops m p from to counts kept = record {
   hops = λ i. is_hop p (record { from = from; to = to; edge = None }) kept i;
   below = λ i. none (slice_get p.loops i) (counts i);
-  next = λ i. by (slice_get p.loops i) (counts i);
+  becomes = λ i. by (slice_get p.loops i) (counts i);
 }
   where
     none : (o : Option Loop) (k : ℕ) → IfSome o (λ loop. turns_by loop None ≡ true → k ≤ m)
@@ -223,12 +224,12 @@ pub record IsWayOn (m : ℕ) (p : Parts) (l : ℕ) (counts : Counts) (way : Way 
 
 edge_lies : (p : Parts) → IsFaultless p → (e : ℕ) (edge : Edge) → slice_get p.edges e ≡ Some edge
     → (edge.to < p.locations) × (list_all (λ set. nat_lt set.variable (length p.vars)) edge.sets ≡ true)
-edge_lies p f e edge at = (
+edge_lies p f e edge it = (
   ltb-true edge.to p.locations (and_parts (nat_lt edge.from p.locations) (nat_lt edge.to p.locations)
-  (at_some (λ (x : Edge). (nat_lt x.from p.locations && nat_lt x.to p.locations) ≡ true) (slice_get p.edges e) edge at
+  (at_some (λ (x : Edge). (nat_lt x.from p.locations && nat_lt x.to p.locations) ≡ true) (slice_get p.edges e) edge it
   (all_at (λ (x : Edge). nat_lt x.from p.locations && nat_lt x.to p.locations) p.edges e edges))).1,
   named edge.sets (and_parts (names_below (length p.vars) edge.guard) (list_all (set_below (length p.vars)) edge.sets)
-  (at_some (λ (x : Edge). edge_below (length p.vars) x ≡ true) (slice_get p.edges e) edge at
+  (at_some (λ (x : Edge). edge_below (length p.vars) x ≡ true) (slice_get p.edges e) edge it
   (all_at (edge_below (length p.vars)) p.edges e
   (and_parts (list_all (edge_below (length p.vars)) p.edges) (list_all (λ (call : CallEdge). nat_le call.instance (length p.vars)) p.calls) f.variables).0))).1,
 )
@@ -252,33 +253,33 @@ edge_lies p f e edge at = (
 
 edge_leads : (m : ℕ) (p : Parts) → IsFaultless p → IsWellMade p → (l : ℕ) (counts : Counts) → Stands m p l counts
     → (e : ℕ) (edge : Edge) → slice_get p.edges e ≡ Some edge → edge.from ≡ l → Leads m p l counts (led p.loops (suc m) e l edge.to counts)
-edge_leads m p f w l counts stands e edge at from = by (over_of (suc m) e counts 0 p.loops) refl
+edge_leads m p f w l counts stands e edge it from = by (over_of (suc m) e counts 0 p.loops) refl
   where
     kept : Keeps p (record { from = l; to = edge.to; edge = Some e })
     kept = keeps p f w (record { from = l; to = edge.to; edge = Some e })
-        (ap (λ (o : Option Edge). is_between l edge.to o) at ∙ and_from (edge.from == l) (edge.to == edge.to) (eq-eqb edge.from l from) (eq-eqb edge.to edge.to refl))
+        (ap (λ (o : Option Edge). is_between l edge.to o) it ∙ and_from (edge.from == l) (edge.to == edge.to) (eq-eqb edge.from l from) (eq-eqb edge.to edge.to refl))
 
     by : (o : Option Place) → over_of (suc m) e counts 0 p.loops ≡ o
         → Leads m p l counts (past_or o (at edge.to (turned p.loops e (moved p.loops l edge.to counts))))
     by (Some place) none = over_by
     by None none = on_to
-        (gone_on m p f w (Some e) l edge.to counts (turned p.loops e (moved p.loops l edge.to counts)) stands (edge_lies p f e edge at).0 kept
+        (gone_on m p f w (Some e) l edge.to counts (turned p.loops e (moved p.loops l edge.to counts)) stands (edge_lies p f e edge it).0 kept
         (edge_hops m p e l edge.to counts kept none))
 
 pub ways_on : (m : ℕ) (p : Parts) → IsFaultless p → IsWellMade p → (l : ℕ) (counts : Counts) → Stands m p l counts
     → AllByRecursion (IsWayOn m p l counts) (ways_by p.loops (suc m) l counts 0 p.edges)
 ways_on m p f w l counts stands = ways_all (IsWayOn m p l counts) p.loops (suc m) l counts 0 p.edges
-    (λ e edge at from. subst (λ (k : ℕ). IsWayOn m p l counts (way_of p.loops (suc m) l counts k edge)) (shift e) (one e edge at from))
+    (λ e edge it from. subst (λ (k : ℕ). IsWayOn m p l counts (way_of p.loops (suc m) l counts k edge)) (shift e) (one e edge it from))
   where
     shift : (e : ℕ) → e ≡ 0 + e
     shift e = omega arith
 
     one : (e : ℕ) (edge : Edge) → slice_get p.edges e ≡ Some edge → edge.from ≡ l → IsWayOn m p l counts (way_of p.loops (suc m) l counts e edge)
-    one e edge at from = record {
-      leads = edge_leads m p f w l counts stands e edge at from;
-      sets = at_some (IsEdgeWithin (length p.vars) (types_of p)) (slice_get p.edges e) edge at
+    one e edge it from = record {
+      leads = edge_leads m p f w l counts stands e edge it from;
+      sets = at_some (IsEdgeWithin (length p.vars) (types_of p)) (slice_get p.edges e) edge it
           (listed_at (IsEdgeWithin (length p.vars) (types_of p)) p.edges e (edges_are_within p f.variables w.edges));
-      below = (edge_lies p f e edge at).1;
+      below = (edge_lies p f e edge it).1;
     }
 
 -- where call edges begin and lead
