@@ -1,19 +1,19 @@
 -- Runs with calls keep types and end, where blocks fit. The places of the variables of all blocks at work have types; each block
 -- sees its own types there. A call adds the places of the callee's own variables, behind those of all callers.
-use Rattle.std.proofs.Common.{◌≡◌, ℕ, zero, suc, ◌+◌, ◌-◌, ◌<◌, ◌≤◌, ◌⊎◌, inl, inr, ℤ, pos, List, [], ◌∷◌, length, take, slice_get, Bool as Truth, true, false, not, ◌&&◌, ◌||◌, ◌==◌, nat_lt, nat_le, cond, Option, Some, None, IfSome, MatchOption, refl, sym, subst, ap, ◌∙◌, arith}
+use Rattle.std.proofs.Common.{◌≡◌, ℕ, zero, suc, ◌+◌, ◌-◌, ◌<◌, ◌≤◌, ◌⊎◌, inl, inr, ℤ, pos, List, [], ◌∷◌, length, slice_get, Bool as Truth, true, false, not, ◌&&◌, ◌==◌, nat_lt, nat_le, cond, Option, Some, None, IfSome, MatchOption, refl, sym, subst, ap, ◌∙◌, arith}
 use Rattle.std.specs.List.{All, AllByRecursion, list_any, list_all}
-use Rattle.std.proofs.lemmas.Bool.{true≢false, false≢true, cases_lt, cases_Bool, cond_both, cond-true, cond-false, lt-ltb, le-ltb, le-leb, lt-leb, ltb-true, eqb-true, eq-eqb, and_from, and_left, and_right, and_parts, or_left, or_right, not_from_false}
+use Rattle.std.proofs.lemmas.Bool.{cases_lt, cases_Bool, cond_both, cond-true, cond-false, lt-ltb, le-ltb, le-leb, lt-leb, ltb-true, eqb-true, eq-eqb, and_from, and_left, and_right, and_parts, or_left, not_from_false}
 use Rattle.std.proofs.lemmas.List.Elements.{recursion_from_All}
 use Rattle.std.proofs.lemmas.Option.{same_Some, none-some}
 use Rattle.pv_word.specs.declared.types.Ty.{Ty}
 use Rattle.pv_place.specs.declared.place.Place.{Place}
 use Rattle.pv_word.specs.Types.{InRange}
-use Rattle.pv_flow.specs.Terms.{Valuation, value_of, Types, type_of}
-use Rattle.pv_flow.specs.Automata.{Variable, Set, CallEdge, Loop, Parts, types_of, HasValues, calls_from}
+use Rattle.pv_flow.specs.Terms.{Valuation, value_of, type_of}
+use Rattle.pv_flow.specs.Automata.{Variable, Set, CallEdge, Parts, types_of, HasValues, calls_from}
 use Rattle.pv_flow.specs.Faults.{IsFaultless}
 use Rattle.pv_flow.specs.WellMade.{IsWellMade}
-use Rattle.pv_flow.specs.Runs.{put, End, done, trap, over, Outcome, done_with, trapped, gone_over, outcome_of, Way, taken, ended, Spot, at, past, Counts, moved, entered, end_at, exit_of, ways_by, ways_of, first_spot, copies}
-use Rattle.pv_flow.specs.Calls.{Blocks, block_at, own_count, needed_by_calls, needed, Work, entry_work, Numbered, numbered, call_from, call_of, base_of, place_in, callee_work, seen, set_through, assigned_in, is_brief, begins_anew, cleared_from, cleared, Stage, running, finished, back_at, returned, ComesTo, stays, ends, goes, calls, EndsAs}
+use Rattle.pv_flow.specs.Runs.{put, End, done, trap, over, Outcome, done_with, trapped, gone_over, outcome_of, Way, taken, ended, Spot, at, past, Counts, moved, entered, end_at, ways_by, first_spot, copies}
+use Rattle.pv_flow.specs.Calls.{Blocks, block_at, own_count, Work, entry_work, Numbered, numbered, call_from, base_of, place_in, callee_work, seen, set_through, assigned_in, is_brief, begins_anew, cleared_from, cleared, Stage, running, ComesTo, stays, ends, goes, calls, EndsAs}
 use Rattle.pv_flow.specs.Fitting.{IsFit, FitsIn, runs_block, AreFitting, IsSound, AreSound}
 use Rattle.pv_flow.proofs.Typing.{zero_fits, fits_in, typed_value}
 use Rattle.pv_flow.proofs.TypedRuns.{IsSetWithin}

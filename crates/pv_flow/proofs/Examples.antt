@@ -1,5 +1,5 @@
 -- Small automata: which faults they have, and how they run.
-use Rattle.std.proofs.Common.{◌≡◌, ℕ, zero, suc, ℤ, pos, Bool as Truth, true, false, List, [], ◌∷◌, Option, Some, None, refl}
+use Rattle.std.proofs.Common.{◌≡◌, ℕ, ℤ, pos, Bool as Truth, true, false, List, [], ◌∷◌, Option, Some, None, refl}
 use Rattle.pv_word.specs.declared.types.Ty.TheVariants.{Bool, Int}
 use Rattle.pv_word.specs.Wrap.{wrap_at}
 use Rattle.pv_word.specs.Bits.{pattern_at}

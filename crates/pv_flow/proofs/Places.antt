@@ -1,6 +1,6 @@
 -- How far a run has come: how many copies of locations stand before the one where it is, if loops are unrolled. The copy is told by
 -- the location and, for each loop that holds it, how many of its copies come before.
-use Rattle.std.proofs.Common.{◌≡◌, ℕ, zero, suc, ◌+◌, ◌*◌, ◌<◌, ◌≤◌, ◌⊎◌, inl, inr, List, [], ◌∷◌, slice_get, Bool, true, false, not, ◌&&◌, ◌==◌, nat_lt, nat_le, cond, Option, Some, None, refl, sym, subst, ap, ◌∙◌, arith}
+use Rattle.std.proofs.Common.{◌≡◌, ℕ, zero, suc, ◌+◌, ◌*◌, ◌<◌, ◌≤◌, ◌⊎◌, inl, inr, List, [], ◌∷◌, slice_get, true, false, not, ◌==◌, nat_lt, nat_le, cond, Some, refl, sym, subst, ap, ◌∙◌, arith}
 use Rattle.std.specs.List.{AllByRecursion}
 use Rattle.std.proofs.Math.Nat.{mul-le-mul_right}
 use Rattle.std.proofs.lemmas.Bool.{cases_lt, lt-ltb, le-ltb, lt-leb, le-leb, cond-true, cond-false, and_parts, not-true, eqb-true}
@@ -213,7 +213,7 @@ end_within : (loop : Loop) (more : List Loop) (l : ℕ) → l ≤ loop.last → 
 end_within loop [] l high all = tt
 end_within loop (other ∷ more) l high all = (
   (λ held.
-  let x : other.first ≤ l = holds_first other l held in let y : other.last ≤ loop.last = (all.0).within (omega (arith, x, high)) in omega (arith, y)),
+      let x : other.first ≤ l = holds_first other l held in let y : other.last ≤ loop.last = (all.0).within (omega (arith, x, high)) in omega (arith, y)),
   end_within loop more l high all.1,
 )
 

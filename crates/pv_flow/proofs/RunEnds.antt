@@ -1,22 +1,21 @@
 -- A run of a well-made automaton ends: where it isn't at an end some guard is true, and each way leads on to a later copy of a location.
-use Rattle.std.proofs.Common.{◌≡◌, ◌≢◌, ℕ, zero, suc, ◌+◌, ◌<◌, ◌≤◌, ◌⊎◌, inl, inr, List, [], ◌∷◌, ◌++◌, length, map, slice_get, Bool, true, false, ◌&&◌, ◌||◌, ◌==◌, nat_lt, nat_le, cond, Option, Some, None, IfSome, refl, sym, subst, ap, ◌∙◌, arith}
-use Rattle.std.specs.List.{All, AllByRecursion, list_any, list_all}
+use Rattle.std.proofs.Common.{◌≡◌, ◌≢◌, ℕ, zero, suc, ◌+◌, ◌<◌, ◌≤◌, List, [], ◌∷◌, ◌++◌, length, map, slice_get, Bool, true, false, ◌&&◌, ◌||◌, ◌==◌, nat_lt, nat_le, cond, Option, Some, None, IfSome, refl, sym, subst, ap, ◌∙◌, arith}
+use Rattle.std.specs.List.{AllByRecursion, list_any, list_all}
 use Rattle.std.proofs.lemmas.Bool.{false≢true, eqb-true, eq-eqb, ltb-true, leb-false, and_from, and_parts, or_from}
-use Rattle.std.proofs.lemmas.List.Elements.{recursion_from_All}
 use Rattle.std.proofs.lemmas.List.Folds.{list_any-append}
-use Rattle.std.proofs.lemmas.Option.{same_Some, none-some}
+use Rattle.std.proofs.lemmas.Option.{none-some}
 use Rattle.pv_place.specs.declared.place.Place.{Place}
 use Rattle.pv_flow.specs.Terms.{Valuation, holds_in, names_below}
-use Rattle.pv_flow.specs.Automata.{Set, Edge, CallEdge, Loop, TrapEnd, OverEnd, Parts, types_of, HasValues, edges_from, calls_from, ends_of, holds, is_turn}
+use Rattle.pv_flow.specs.Automata.{Set, Edge, CallEdge, Loop, TrapEnd, OverEnd, Parts, types_of, HasValues, edges_from, calls_from, holds, is_turn}
 use Rattle.pv_flow.specs.Faults.{set_below, edge_below, has_ends, IsFaultless}
 use Rattle.pv_flow.specs.WellMade.{true_guards, is_end, turns_by, IsWellMade}
-use Rattle.pv_flow.specs.Runs.{assigned, End, done, trap, over, Outcome, outcome_of, Way, taken, ended_or, run, Spot, at, past, Counts, over_of, past_or, kept_in, turn_in, turned, moved, led, way_of, ways_by, trap_at, over_at, or_else, end_at, control_of, first_spot, entered, copies}
-use Rattle.pv_flow.specs.Walks.{Hop, is_between, leads_by}
+use Rattle.pv_flow.specs.Runs.{assigned, End, done, trap, over, outcome_of, Way, taken, ended_or, run, Spot, at, past, Counts, over_of, past_or, kept_in, turn_in, turned, moved, led, way_of, ways_by, trap_at, over_at, or_else, end_at, control_of, first_spot, entered, copies}
+use Rattle.pv_flow.specs.Walks.{is_between}
 use Rattle.pv_flow.specs.Machines.{IsInlined, IsAcyclic}
 use Rattle.pv_flow.proofs.TypedRuns.{IsSetWithin, IsEdgeWithin, edges_are_within, assigned_typed}
 use Rattle.pv_flow.proofs.ClosedWalks.{all_at, listed_at, at_some, Keeps, keeps}
 use Rattle.pv_flow.proofs.Sums.{copies_without}
-use Rattle.pv_flow.proofs.Advancing.{HaveCounts, IsHop, next_count, Hops, have_counts, come, goes_on, are_nested, ranges_of, is_hop, begins, comes_no_further}
+use Rattle.pv_flow.proofs.Advancing.{HaveCounts, next_count, Hops, have_counts, come, goes_on, are_nested, ranges_of, is_hop, begins, comes_no_further}
 
 -- ---- ends
 
@@ -226,12 +225,12 @@ edge_lies : (p : Parts) → IsFaultless p → (e : ℕ) (edge : Edge) → slice_
     → (edge.to < p.locations) × (list_all (λ set. nat_lt set.variable (length p.vars)) edge.sets ≡ true)
 edge_lies p f e edge it = (
   ltb-true edge.to p.locations (and_parts (nat_lt edge.from p.locations) (nat_lt edge.to p.locations)
-  (at_some (λ (x : Edge). (nat_lt x.from p.locations && nat_lt x.to p.locations) ≡ true) (slice_get p.edges e) edge it
-  (all_at (λ (x : Edge). nat_lt x.from p.locations && nat_lt x.to p.locations) p.edges e edges))).1,
+      (at_some (λ (x : Edge). (nat_lt x.from p.locations && nat_lt x.to p.locations) ≡ true) (slice_get p.edges e) edge it
+      (all_at (λ (x : Edge). nat_lt x.from p.locations && nat_lt x.to p.locations) p.edges e edges))).1,
   named edge.sets (and_parts (names_below (length p.vars) edge.guard) (list_all (set_below (length p.vars)) edge.sets)
-  (at_some (λ (x : Edge). edge_below (length p.vars) x ≡ true) (slice_get p.edges e) edge it
-  (all_at (edge_below (length p.vars)) p.edges e
-  (and_parts (list_all (edge_below (length p.vars)) p.edges) (list_all (λ (call : CallEdge). nat_le call.instance (length p.vars)) p.calls) f.variables).0))).1,
+      (at_some (λ (x : Edge). edge_below (length p.vars) x ≡ true) (slice_get p.edges e) edge it
+      (all_at (edge_below (length p.vars)) p.edges e
+      (and_parts (list_all (edge_below (length p.vars)) p.edges) (list_all (λ (call : CallEdge). nat_le call.instance (length p.vars)) p.calls) f.variables).0))).1,
 )
   where
     edges : list_all (λ (edge : Edge). nat_lt edge.from p.locations && nat_lt edge.to p.locations) p.edges ≡ true

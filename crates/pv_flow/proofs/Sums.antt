@@ -1,9 +1,9 @@
 -- Sums over the first so many numbers, and copies of locations as such sums: what a loop adds to the copies before a location.
 use Rattle.std.proofs.Common.{◌≡◌, ℕ, zero, suc, ◌+◌, ◌*◌, ◌<◌, ◌≤◌, ◌⊎◌, inl, inr, List, [], ◌∷◌, Bool, true, false, not, ◌&&◌, ◌==◌, nat_le, cond, refl, sym, subst, ap, ◌∙◌, arith}
 use Rattle.std.proofs.Math.Nat.{mul-le-mul_left}
-use Rattle.std.proofs.lemmas.Bool.{and_left, and_right, and_from, and_parts, le-leb, lt-leb, leb-true, cases_lt, eq-eqb, ne_eqb, not_from_false, not_from_true, cond-true, cond-false}
+use Rattle.std.proofs.lemmas.Bool.{and_left, and_right, and_from, and_parts, le-leb, lt-leb, leb-true, cases_lt, eq-eqb, ne_eqb, not_from_false, cond-true, cond-false}
 use Rattle.pv_flow.specs.Automata.{Loop, holds}
-use Rattle.pv_flow.specs.Runs.{copies_in, copies_at, copies}
+use Rattle.pv_flow.specs.Runs.{copies_at, copies}
 
 -- ---- sums
 

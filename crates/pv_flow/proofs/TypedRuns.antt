@@ -1,5 +1,5 @@
 -- Runs keep the types of variables.
-use Rattle.std.proofs.Common.{◌≡◌, ℕ, zero, suc, ◌<◌, ℤ, Bool as Truth, true, false, ◌&&◌, cond, List, [], ◌∷◌, length, Option, Some, None, sym, subst, ◌==◌, nat_lt, nat_le}
+use Rattle.std.proofs.Common.{◌≡◌, ℕ, zero, suc, ℤ, Bool as Truth, true, false, cond, List, [], ◌∷◌, length, Option, Some, None, sym, subst, ◌==◌, nat_lt, nat_le}
 use Rattle.std.specs.List.{All, AllByRecursion, list_all}
 use Rattle.std.proofs.lemmas.List.Elements.{recursion_from_All}
 use Rattle.std.proofs.lemmas.Bool.{eqb-true, cond_both, and_parts}
@@ -34,8 +34,7 @@ pub edges_within : (k : ℕ) (types : Types) (edges : List Edge) → AllByRecurs
     → AllByRecursion (IsEdgeWithin k types) edges
 edges_within k types [] all below = tt
 edges_within k types (edge ∷ edges) all below =
-    let both = and_parts (edge_below k edge) (list_all (edge_below k) edges) below in
-    (
+    let both = and_parts (edge_below k edge) (list_all (edge_below k) edges) below in (
       sets_within k types edge.sets (recursion_from_All (IsSet types) edge.sets (all.0).sets)
           (and_parts (names_below k edge.guard) (list_all (set_below k) edge.sets) both.0).1,
       edges_within k types edges all.1 both.1,
