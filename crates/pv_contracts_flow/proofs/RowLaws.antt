@@ -15,7 +15,8 @@ use Rattle.pv_flow.specs.Automata.{Variable, Edge, CallEdge, Loop, TrapEnd, Over
 use Rattle.pv_flow.specs.Faults.{set_below, edge_below, cross, enters_well, IsFaultless}
 use Rattle.pv_flow.specs.WellMade.{is_end, IsWellMade}
 use Rattle.pv_flow.specs.Machines.{IsInlined, IsAcyclic}
-use Rattle.pv_flow.specs.View.{terms_of, variable_of, set_of, edge_of, call_of, loop_of, trap_of, over_of, parts_of}
+use Rattle.pv_flow.specs.View.{terms_of, variable_of, set_of, edge_of, call_edge_of, loop_of, trap_end_of, over_end_of, parts_of}
+use Rattle.pv_flow.specs.Tables.{are_ordered, has_terms, AreTabled}
 use Rattle.pv_flow.specs.AutomatonView.{automaton_of}
 use Rattle.pv_contracts_flow.specs.Rows.{IsBare, IsLoopOf, edge, AreLoopsOf, IsEdgePast, BeginWith, IsSetPast, IsCrossing, IsEnteredWithin}
 
@@ -146,14 +147,21 @@ seen p is =
     ∙ ap (λ (x : ℕ). let r : Parts = record { vars = []; bound = 0; shared = x; locations = q.locations; edges = q.edges; calls = q.calls; loops = q.loops; done = q.done; traps = q.traps; overs = q.overs } in r) is.shared
     ∙ ap (λ (x : ℕ). let r : Parts = record { vars = []; bound = 0; shared = 0; locations = x; edges = q.edges; calls = q.calls; loops = q.loops; done = q.done; traps = q.traps; overs = q.overs } in r) is.locations
     ∙ ap (λ (x : List Edge). let r : Parts = record { vars = []; bound = 0; shared = 0; locations = 1; edges = x; calls = q.calls; loops = q.loops; done = q.done; traps = q.traps; overs = q.overs } in r) (ap (map (edge_of (terms_of p.nodes.items) p.deeds.items)) is.edges)
-    ∙ ap (λ (x : List CallEdge). let r : Parts = record { vars = []; bound = 0; shared = 0; locations = 1; edges = []; calls = x; loops = q.loops; done = q.done; traps = q.traps; overs = q.overs } in r) (ap (map call_of) is.calls)
+    ∙ ap (λ (x : List CallEdge). let r : Parts = record { vars = []; bound = 0; shared = 0; locations = 1; edges = []; calls = x; loops = q.loops; done = q.done; traps = q.traps; overs = q.overs } in r) (ap (map call_edge_of) is.calls)
     ∙ ap (λ (x : List Loop). let r : Parts = record { vars = []; bound = 0; shared = 0; locations = 1; edges = []; calls = []; loops = x; done = q.done; traps = q.traps; overs = q.overs } in r) (ap (map loop_of) is.loops)
     ∙ ap (λ (x : ℕ). let r : Parts = record { vars = []; bound = 0; shared = 0; locations = 1; edges = []; calls = []; loops = []; done = x; traps = q.traps; overs = q.overs } in r) is.done
-    ∙ ap (λ (x : List TrapEnd). let r : Parts = record { vars = []; bound = 0; shared = 0; locations = 1; edges = []; calls = []; loops = []; done = 0; traps = x; overs = q.overs } in r) (ap (map trap_of) is.traps)
-    ∙ ap (λ (x : List OverEnd). let r : Parts = record { vars = []; bound = 0; shared = 0; locations = 1; edges = []; calls = []; loops = []; done = 0; traps = []; overs = x } in r) (ap (map over_of) is.overs)
+    ∙ ap (λ (x : List TrapEnd). let r : Parts = record { vars = []; bound = 0; shared = 0; locations = 1; edges = []; calls = []; loops = []; done = 0; traps = x; overs = q.overs } in r) (ap (map trap_end_of) is.traps)
+    ∙ ap (λ (x : List OverEnd). let r : Parts = record { vars = []; bound = 0; shared = 0; locations = 1; edges = []; calls = []; loops = []; done = 0; traps = []; overs = x } in r) (ap (map over_end_of) is.overs)
 
 pub one_is_well_made : (p : CodeParts) → IsBare 1 0 p → IsFaultless (parts_of p) → IsWellMade (parts_of p)
 one_is_well_made p is h = subst (λ (q : Parts). IsWellMade q) (sym (seen p is)) is_well_made
+
+pub one_is_tabled : (p : CodeParts) → IsBare 1 0 p → IsFaultless (parts_of p) → AreTabled p
+one_is_tabled p is h = record {
+  nodes = ap (are_ordered 0) is.nodes;
+  deeds = ap (list_all (has_terms (length p.nodes.items))) is.deeds;
+  edges = ap (list_all (λ (edge : CodeEdge). nat_lt edge.deed (length p.deeds.items))) is.edges;
+}
 
 pub one_is_inlined : (a : Automaton) (p : CodeParts) → IsBare 1 0 p → automaton_of a ≡ parts_of p → IsInlined (automaton_of a) 16
 one_is_inlined a p is e = subst (λ (q : Parts). IsInlined q 16) (sym (e ∙ seen p is)) (refl, omega arith)

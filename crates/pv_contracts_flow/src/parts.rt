@@ -71,7 +71,7 @@ pub fn set_past(alloc: Global) -> Result<Parts, AllocError>
         ty: Ty::Bool,
         role: Role::Kept,
         start: 0,
-        bound: None,
+        only: None,
     };
     parts.vars.push(var)?;
     parts.vars.push(var)?;

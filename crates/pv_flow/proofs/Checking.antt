@@ -18,7 +18,7 @@ use Rattle.pv_flow.specs.Terms.{Term, names_below}
 use Rattle.pv_flow.specs.Automata.{Edge, CallEdge, Loop, TrapEnd, OverEnd}
 use Rattle.pv_flow.specs.Faults.{has_locations, set_below, edge_below, has_variables, cross, enters_well, is_loop, has_loops}
 use Rattle.pv_flow.specs.Machines.{state_ranges, input_ranges}
-use Rattle.pv_flow.specs.View.{term_at, term_of, terms_after, terms_of, variable_of, set_of, guard_of, sets_of, edge_of, call_of, loop_of, trap_of, over_of, parts_of}
+use Rattle.pv_flow.specs.View.{term_at, term_of, terms_after, terms_of, variable_of, set_of, guard_of, sets_of, edge_of, call_edge_of, loop_of, trap_end_of, over_end_of, parts_of}
 use Rattle.pv_flow.specs.Checks.{locations_lie, mark_at, node_mark, marks_after, set_mark, deed_mark, edge_mark, variables_lie, loop_lies, loops_lie, stored_in, taken_in}
 
 both : {a b c d : Bool} → a ≡ c → b ≡ d → (a && b) ≡ (c && d)
@@ -33,11 +33,11 @@ locations_seen p =
     (both
     (both
     (sym (list_all-map (λ (edge : Edge). nat_lt edge.from n && nat_lt edge.to n) (edge_of (terms_of p.nodes.items) p.deeds.items) p.edges.items))
-    (sym (list_all-map (λ (call : CallEdge). nat_lt call.from n && nat_lt call.to n) call_of p.calls.items)))
+    (sym (list_all-map (λ (call : CallEdge). nat_lt call.from n && nat_lt call.to n) call_edge_of p.calls.items)))
     (sym (list_all-map (λ (loop : Loop). nat_lt loop.first n && nat_lt loop.last n) loop_of p.loops.items)))
     (both
-    (both refl (sym (list_all-map (λ (end : TrapEnd). nat_lt end.location n) trap_of p.traps.items)))
-    (sym (list_all-map (λ (end : OverEnd). nat_lt end.location n) over_of p.overs.items)))
+    (both refl (sym (list_all-map (λ (end : TrapEnd). nat_lt end.location n) trap_end_of p.traps.items)))
+    (sym (list_all-map (λ (end : OverEnd). nat_lt end.location n) over_end_of p.overs.items)))
 
 -- ---- variables
 
@@ -89,7 +89,7 @@ variables_below p =
     both
     (ap (λ (marks : List Bool). list_all (edge_mark (map (deed_mark k marks) p.deeds.items)) p.edges.items) (nodes_seen k [] p.nodes.items)
     ∙ edges_seen k (terms_of p.nodes.items) p.deeds.items p.edges.items)
-    (sym (list_all-map (λ (call : CallEdge). nat_le call.instance k) call_of p.calls.items))
+    (sym (list_all-map (λ (call : CallEdge). nat_le call.instance k) call_edge_of p.calls.items))
 
 pub variables_seen : (p : CodeParts) → variables_lie p ≡ has_variables (parts_of p)
 variables_seen p = variables_below p ∙ ap (below p) (sym (length-map p.vars.items variable_of))
@@ -108,7 +108,7 @@ loop_seen p l =
     (sym (list_all-map (λ (other : Loop). not (cross (loop_of l) other)) loop_of p.loops.items)))
     (both
     (sym (list_all-map (λ (edge : Edge). enters_well (loop_of l) edge.from edge.to) (edge_of (terms_of p.nodes.items) p.deeds.items) p.edges.items))
-    (sym (list_all-map (λ (call : CallEdge). enters_well (loop_of l) call.from call.to) call_of p.calls.items)))
+    (sym (list_all-map (λ (call : CallEdge). enters_well (loop_of l) call.from call.to) call_edge_of p.calls.items)))
 
 each_seen : (p : CodeParts) (loops : List CodeLoop) → list_all (loop_lies p) loops ≡ list_all (is_loop (parts_of p)) (map loop_of loops)
 each_seen p [] = refl
@@ -121,7 +121,7 @@ loops_seen p = each_seen p p.loops.items
 
 -- the variable with another role
 abbrev as_role : CodeVariable → Role → CodeVariable
-as_role v role = record { ty = v.ty; role = role; start = v.start; bound = v.bound }
+as_role v role = record { ty = v.ty; role = role; start = v.start; only = v.only }
 
 abbrev Stored : List CodeVariable → Type 0
 Stored vars = stored_in vars ≡ length (state_ranges (map variable_of vars))

@@ -1,21 +1,21 @@
 -- Automata as plain data: locations by number, the first of which is 0, and edges between them, each with a guard and with what it
 -- assigns. A call edge runs another block's automaton. A loop is a range of locations with the edges that start its turns.
-use Rattle.std.specs.Prelude.{ℕ, ℤ, List, [], ◌∷◌, ◌++◌, map, slice_get, Bool as Truth, ◌&&◌, ◌==◌, nat_le, cond, Option, Some, None}
+use Rattle.std.specs.Prelude.{ℕ, ℤ, List, [], ◌∷◌, ◌++◌, map, length, slice_get, Bool as Truth, ◌&&◌, ◌==◌, nat_le, cond, Option, Some, None}
 use Rattle.std.specs.List.{list_any}
 use Rattle.pv_word.specs.declared.types.Ty.{Ty}
 use Rattle.pv_word.specs.declared.types.Ty.TheVariants.{Bool}
 use Rattle.pv_place.specs.declared.place.Place.{Place}
 use Rattle.pv_place.specs.declared.trap.TrapKind.{TrapKind}
 use Rattle.pv_place.specs.declared.role.Role.{Role}
-use Rattle.pv_flow.specs.Terms.{Term, Types}
+use Rattle.pv_flow.specs.Terms.{Term, Valuation, Types, AreTyped}
 
 pub record Variable : Type 0 where
   pub ty : Ty
   pub role : Role
   -- its value before the first scan, or, of a brief one, at each scan's beginning
   pub start : ℤ
-  -- of a parameter, the one value that it may have
-  pub bound : Option ℤ
+  -- of a parameter, the one value that it may have, if the case binds it
+  pub only : Option ℤ
 
 -- a variable takes the value of a term
 pub record Set : Type 0 where
@@ -61,6 +61,7 @@ pub record OverEnd : Type 0 where
 -- blocks have, and the block's own. Of the entry's automaton bound and shared ones are the visible cells in the order of the table.
 pub record Parts : Type 0 where
   pub vars : List Variable
+  -- how many are bound, and how many shared
   pub bound : ℕ
   pub shared : ℕ
   pub locations : ℕ
@@ -83,6 +84,10 @@ type_at vars n = type_in (slice_get vars n)
 
 abbrev pub types_of : Parts → Types
 types_of p = type_at p.vars
+
+-- the automaton's variables have values of their types
+abbrev pub HasValues : Parts → Valuation → Type 0
+HasValues p w = AreTyped (length p.vars) (types_of p) w
 
 -- the edges that begin at a location, in the order of their numbers
 abbrev pub edges_from : ℕ → List Edge → List Edge

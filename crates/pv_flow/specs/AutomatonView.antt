@@ -1,5 +1,5 @@
 -- The code's automata, and what is attached to them, as plain data.
-use Rattle.std.specs.Prelude.{List, Option, Some, None}
+use Rattle.std.specs.Prelude.{ℕ, List, length, Option, Some, None}
 use Rattle.pv_flow.specs.declared.automaton.Automaton.{Automaton}
 use Rattle.pv_flow.specs.declared.attached.Looking.{Looking as CodeLooking}
 use Rattle.pv_flow.specs.declared.attached.Guarding.{Guarding as CodeGuarding}
@@ -11,6 +11,10 @@ use Rattle.pv_flow.specs.View.{term_at, terms_of, parts_of}
 
 abbrev pub automaton_of : Automaton → Parts
 automaton_of automaton = parts_of automaton.parts
+
+-- how many terms its table has
+abbrev pub terms_in : Automaton → ℕ
+terms_in automaton = length automaton.parts.nodes.items
 
 abbrev pub looking_of : List Term → Option CodeLooking → Option Looking
 looking_of terms None = None

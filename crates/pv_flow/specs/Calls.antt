@@ -2,16 +2,19 @@
 -- two names of one cell are one place. The entry's variables lie at their own numbers. A callee's bound variable x lies where the
 -- caller's variable `instance` + x does, a shared one where the caller's does, and its own ones at the numbers that copying the
 -- call's block gives them: behind the caller's, call edge by call edge, each with all that its calls need.
-use Rattle.std.specs.Prelude.{◌≡◌, ℕ, zero, suc, ◌+◌, ◌-◌, pos, List, [], ◌∷◌, length, take, Bool, true, false, not, ◌&&◌, ◌||◌, ◌==◌, nat_lt, cond, Option, Some, None}
+use Rattle.std.specs.Prelude.{◌≡◌, ℕ, zero, suc, ◌+◌, ◌-◌, pos, List, [], ◌∷◌, length, take, slice_index_or, Bool, true, false, not, ◌&&◌, ◌||◌, ◌==◌, nat_lt, cond, Option, Some, None}
 use Rattle.pv_place.specs.declared.role.Role.{Role}
 use Rattle.pv_place.specs.declared.role.Role.TheVariants.{Input, Param, Kept, Brief}
 use Rattle.pv_flow.specs.Terms.{Valuation, value_of}
 use Rattle.pv_flow.specs.Automata.{Variable, Set, CallEdge, Loop, Parts}
 use Rattle.pv_flow.specs.Runs.{Outcome, done_with, trapped, gone_over, Way, taken, ended, put, Spot, at, past, moved, exit_of, ways_of, first_spot}
 
--- the automaton of each block that has one, by its number
+-- the automata of blocks, by the blocks' numbers; a block without code has none
 abbrev pub Blocks : Type 0
-Blocks = ℕ → Option Parts
+Blocks = List (Option Parts)
+
+abbrev pub block_at : Blocks → ℕ → Option Parts
+block_at blocks b = slice_index_or blocks b None
 
 -- ---- where variables lie
 
@@ -28,20 +31,22 @@ needed_in needed None = 0
 needed_in needed (Some p) = own_count p + needed_by_calls needed p.calls
 
 -- how many variables a call of the block adds: its own, and those that its calls add, down so many levels
-abbrev pub needed : Blocks → ℕ → ℕ → ℕ
-needed blocks zero b = 0
-needed blocks (suc levels) b = needed_in (λ c. needed blocks levels c) (blocks b)
+abbrev pub needed_within : Blocks → ℕ → ℕ → ℕ
+needed_within blocks zero b = 0
+needed_within blocks (suc levels) b = needed_in (λ c. needed_within blocks levels c) (block_at blocks b)
 
--- a block at work: its automaton, where its variables lie, the first number that neither it nor its callers use, and how many levels
--- of calls may follow
+-- down to the last: where no block calls itself, there are no more levels than blocks
+abbrev pub needed : Blocks → ℕ → ℕ
+needed blocks b = needed_within blocks (length blocks) b
+
+-- a block at work: its automaton, where its variables lie, and the first number that neither it nor its callers use
 pub record Work : Type 0 where
   pub parts : Parts
   pub place : ℕ → ℕ
   pub free : ℕ
-  pub levels : ℕ
 
-abbrev pub entry_work : Parts → ℕ → Work
-entry_work p levels = record { parts = p; place = λ x. x; free = length p.vars; levels = levels }
+abbrev pub entry_work : Parts → Work
+entry_work p = record { parts = p; place = λ x. x; free = length p.vars }
 
 -- a call edge with its number
 pub record Numbered : Type 0 where
@@ -56,25 +61,25 @@ abbrev pub call_from : ℕ → ℕ → List CallEdge → Option Numbered
 call_from l j [] = None
 call_from l j (call ∷ more) = cond (call.from == l) (Some (numbered j call)) (call_from l (suc j) more)
 
+-- the call edge where a run stands
 abbrev pub call_of : Parts → Spot → Option Numbered
 call_of p (at l counts) = call_from l 0 p.calls
 call_of p (past place) = None
 
 -- the first number that the own variables of the callee of call edge j take
 abbrev pub base_of : Blocks → Work → ℕ → ℕ
-base_of blocks k j = k.free + needed_by_calls (needed blocks k.levels) (take j k.parts.calls)
+base_of blocks k j = k.free + needed_by_calls (needed blocks) (take j k.parts.calls)
 
 abbrev pub place_in : Work → CallEdge → Parts → ℕ → ℕ → ℕ
 place_in k call p base x = cond (nat_lt x p.bound) (k.place (call.instance + x))
     (cond (nat_lt x (p.bound + p.shared)) (k.place (k.parts.bound + (x - p.bound))) (base + (x - (p.bound + p.shared))))
 
--- the callee at work, so many levels of calls below it
-abbrev pub callee_work : Blocks → Work → Numbered → Parts → ℕ → Work
-callee_work blocks k c p levels = record {
+-- the callee at work
+abbrev pub callee_work : Blocks → Work → Numbered → Parts → Work
+callee_work blocks k c p = record {
   parts = p;
   place = place_in k c.call p (base_of blocks k c.number);
   free = base_of blocks k c.number + own_count p;
-  levels = levels;
 }
 
 -- ---- values
@@ -135,11 +140,11 @@ pub data ComesTo (blocks : Blocks) (n : ℕ) : Work → Stage → Outcome → Ty
   goes : {k : Work} {x : Spot} {w : Valuation} {out : Outcome} (way : Way Spot)
       → exit_of k.parts x ≡ None → call_of k.parts x ≡ None → taken (seen k w) (ways_of k.parts n x) ≡ Some way
       → ComesTo blocks n k (running way.to (assigned_in k way.sets w)) out → ComesTo blocks n k (running x w) out
-  calls : {k : Work} {x : Spot} {w : Valuation} {out : Outcome} (c : Numbered) (p : Parts) (levels : ℕ) (middle : Outcome)
-      → exit_of k.parts x ≡ None → call_of k.parts x ≡ Some c → blocks c.call.block ≡ Some p → k.levels ≡ suc levels
-      → ComesTo blocks n (callee_work blocks k c p levels) (running (first_spot p) (cleared (callee_work blocks k c p levels) w)) middle
+  calls : {k : Work} {x : Spot} {w : Valuation} {out : Outcome} (c : Numbered) (p : Parts) (middle : Outcome)
+      → exit_of k.parts x ≡ None → call_of k.parts x ≡ Some c → block_at blocks c.call.block ≡ Some p
+      → ComesTo blocks n (callee_work blocks k c p) (running (first_spot p) (cleared (callee_work blocks k c p) w)) middle
       → ComesTo blocks n k (returned k.parts.loops c.call x middle) out → ComesTo blocks n k (running x w) out
 
--- the entry's run with this valuation, with as many levels of calls
-abbrev pub EndsAs : Blocks → ℕ → ℕ → Parts → Valuation → Outcome → Type 0
-EndsAs blocks n levels p w out = ComesTo blocks n (entry_work p levels) (running (first_spot p) w) out
+-- the entry's run with this valuation
+abbrev pub EndsAs : Blocks → ℕ → Parts → Valuation → Outcome → Type 0
+EndsAs blocks n p w out = ComesTo blocks n (entry_work p) (running (first_spot p) w) out

@@ -1,16 +1,17 @@
 -- What is so of all automata and their runs: the statements of the laws.
-use Rattle.std.specs.Prelude.{◌≡◌, ℕ, ◌≤◌, Bool as Truth, false, List, ◌∷◌, Option, Some, IfSome, All, ◌==◌}
+use Rattle.std.specs.Prelude.{◌≡◌, ◌≢◌, ℕ, ◌≤◌, ◌<◌, Bool as Truth, true, false, List, ◌∷◌, length, Option, Some, None, IfSome, All, ◌==◌}
 use Rattle.std.specs.List.{list_any}
 use Rattle.pv_word.specs.Types.{InRange}
 use Rattle.pv_machine.specs.Machines.{IsLawful}
-use Rattle.pv_flow.specs.Terms.{Term, Valuation, value_of, Types, type_of, IsTyped, AreTyped}
-use Rattle.pv_flow.specs.Automata.{Edge, Parts, types_of}
-use Rattle.pv_flow.specs.Faults.{IsFaultless}
+use Rattle.pv_flow.specs.Terms.{Term, Valuation, value_of, Types, type_of, IsTyped, AreTyped, names_below}
+use Rattle.pv_flow.specs.Automata.{Edge, Parts, types_of, HasValues}
+use Rattle.pv_flow.specs.Faults.{has_variables, IsFaultless}
 use Rattle.pv_flow.specs.WellMade.{IsVariable, IsEdge, IsWellMade}
-use Rattle.pv_flow.specs.Runs.{Outcome, done_with, run, control_of, first_spot}
-use Rattle.pv_flow.specs.Calls.{Blocks, Work, Stage, ComesTo}
+use Rattle.pv_flow.specs.Runs.{Outcome, done_with, run, control_of, first_spot, copies}
+use Rattle.pv_flow.specs.Calls.{Blocks, block_at, needed_within, needed, Work, Stage, ComesTo, EndsAs}
+use Rattle.pv_flow.specs.Fitting.{AreFitting, AreSound}
 use Rattle.pv_flow.specs.Walks.{Hop, IsClosedWalk, TakesTurn}
-use Rattle.pv_flow.specs.Machines.{Attached, IsAttached, machine_of}
+use Rattle.pv_flow.specs.Machines.{Attached, IsAttached, IsInlined, IsAcyclic, machine_of}
 
 -- the edge sets variable x
 abbrev pub sets_variable : ℕ → Edge → Truth
@@ -18,7 +19,8 @@ sets_variable x edge = list_any (λ set. set.variable == x) edge.sets
 
 -- a typed term over variables that have values of their types has a value of its type
 abbrev pub TermsAreTyped : Type 0
-TermsAreTyped = (types : Types) (w : Valuation) (t : Term) → AreTyped types w → IsTyped types t → InRange (type_of types t) (value_of w t)
+TermsAreTyped = (n : ℕ) (types : Types) (w : Valuation) (t : Term) → AreTyped n types w → names_below n t ≡ true → IsTyped types t
+    → InRange (type_of types t) (value_of w t)
 
 -- the outcome of an automaton's run, with a loop bound and so many steps
 abbrev pub Ends : Parts → ℕ → ℕ → Valuation → Outcome → Type 0
@@ -26,8 +28,8 @@ Ends p n steps w out = run (control_of p n) steps (first_spot p) w ≡ Some out
 
 -- a run whose edges are typed leaves typed variables
 abbrev pub RunsKeepTypes : Type 0
-RunsKeepTypes = (p : Parts) (n steps : ℕ) (w end : Valuation) → All (IsEdge (types_of p)) p.edges → AreTyped (types_of p) w
-    → Ends p n steps w (done_with end) → AreTyped (types_of p) end
+RunsKeepTypes = (p : Parts) (n steps : ℕ) (w end : Valuation) → has_variables p ≡ true → All (IsEdge (types_of p)) p.edges
+    → HasValues p w → Ends p n steps w (done_with end) → HasValues p end
 
 -- with more steps the outcome stays
 abbrev pub MoreStepsChangeNothing : Type 0
@@ -38,19 +40,48 @@ MoreStepsChangeNothing = (p : Parts) (n steps more : ℕ) (w : Valuation) (out :
 abbrev pub RunsEndOnce : Type 0
 RunsEndOnce = (p : Parts) (n steps others : ℕ) (w : Valuation) (a b : Outcome) → Ends p n steps w a → Ends p n others w b → a ≡ b
 
--- and so has a run with calls
-abbrev pub CallsEndOnce : Type 0
-CallsEndOnce = (blocks : Blocks) (n : ℕ) (k : Work) (s : Stage) (a b : Outcome) → ComesTo blocks n k s a → ComesTo blocks n k s b → a ≡ b
+-- a run ends within as many steps as there are copies of locations
+abbrev pub RunsEnd : Type 0
+RunsEnd = (p : Parts) (n : ℕ) (w : Valuation) → IsFaultless p → IsWellMade p → IsInlined p n → HasValues p w
+    → run (control_of p n) (copies n p.loops p.locations) (first_spot p) w ≢ None
+
+-- one of an acyclic automaton within as many as there are locations
+abbrev pub AcyclicRunsEnd : Type 0
+AcyclicRunsEnd = (p : Parts) (w : Valuation) → IsFaultless p → IsWellMade p → IsAcyclic p → HasValues p w
+    → run (control_of p 1) p.locations (first_spot p) w ≢ None
 
 -- a variable that no edge sets keeps its value
 abbrev pub UntouchedStay : Type 0
 UntouchedStay = (p : Parts) (n steps x : ℕ) (w end : Valuation) → All (λ edge. sets_variable x edge ≡ false) p.edges
     → Ends p n steps w (done_with end) → end x ≡ w x
 
+-- ---- runs with calls
+
+-- a run with calls has one outcome at most
+abbrev pub CallsEndOnce : Type 0
+CallsEndOnce = (blocks : Blocks) (n : ℕ) (k : Work) (s : Stage) (a b : Outcome) → ComesTo blocks n k s a → ComesTo blocks n k s b → a ≡ b
+
+-- where no block calls itself, levels of calls beyond the number of blocks add no variables
+abbrev pub MoreLevelsChangeNothing : Type 0
+MoreLevelsChangeNothing = (blocks : Blocks) (levels b : ℕ) → AreFitting blocks → length blocks ≤ levels
+    → needed_within blocks levels b ≡ needed blocks b
+
+-- a run of a block of blocks that fit has an outcome
+abbrev pub CallsEnd : Type 0
+CallsEnd = (blocks : Blocks) (n b : ℕ) (p : Parts) (w : Valuation) → AreFitting blocks → AreSound blocks → 0 < n
+    → block_at blocks b ≡ Some p → HasValues p w → (out : Outcome) × EndsAs blocks n p w out
+
+-- and leaves typed variables
+abbrev pub CallsKeepTypes : Type 0
+CallsKeepTypes = (blocks : Blocks) (n b : ℕ) (p : Parts) (w end : Valuation) → AreFitting blocks → AreSound blocks → 0 < n
+    → block_at blocks b ≡ Some p → HasValues p w → EndsAs blocks n p w (done_with end) → HasValues p end
+
+-- ---- machines, walks
+
 -- the machine of an automaton with typed parts is lawful
 abbrev pub MachinesAreLawful : Type 0
-MachinesAreLawful = (p : Parts) (n steps : ℕ) (attached : Option Attached) → All IsVariable p.vars → All (IsEdge (types_of p)) p.edges
-    → IfSome attached (IsAttached p) → IsLawful (machine_of p n steps attached)
+MachinesAreLawful = (p : Parts) (n steps : ℕ) (attached : Option Attached) → has_variables p ≡ true → All IsVariable p.vars
+    → All (IsEdge (types_of p)) p.edges → IfSome attached (IsAttached p) → IsLawful (machine_of p n steps attached)
 
 -- a closed walk takes a turn edge of a loop whose range holds it
 abbrev pub ClosedWalksTakeTurns : Type 0

@@ -5,14 +5,13 @@ pub mod Faults
 pub mod WellMade
 pub mod Runs
 pub mod Calls
+pub mod Fitting
 pub mod Machines
 pub mod Walks
 pub mod Correct
 pub mod View
+pub mod Tables
 pub mod AutomatonView
+pub mod Kept
 -- what the code computes of them
 pub mod Checks
--- why the machines are lawful
-pub mod Typing
-pub mod TypedRuns
-pub mod Lawful

@@ -6,7 +6,7 @@ use Rattle.std.proofs.Props.{props}
 use Rattle.pv_word.specs.declared.types.Ty.{Ty}
 use Rattle.pv_word.specs.declared.types.Ty.TheVariants.{Bool}
 use Rattle.pv_place.specs.declared.role.Role.TheVariants.{Input, Param, Kept, Brief}
-use Rattle.pv_place.specs.Ranges.{Range, range_of, range_at}
+use Rattle.pv_place.specs.Ranges.{Range, AreWithin, range_of, range_at}
 use Rattle.pv_machine.specs.Machines as m
 use Rattle.pv_flow.specs.Terms.{Term, Types, Valuation, number_of, is_true, value_of, holds_in, type_of, IsTyped, IsTyped-prop, names_below, reads}
 use Rattle.pv_flow.specs.Automata.{Variable, Edge, Parts, types_of}
@@ -14,15 +14,16 @@ use Rattle.pv_flow.specs.Runs.{Outcome, done_with, trapped, gone_over, put, run,
 
 -- ---- states and inputs
 
-abbrev pub bound_range : Ty → Option ℤ → Range
-bound_range ty None = range_of ty
-bound_range ty (Some v) = range_at v
+-- of a parameter, which may have one value alone
+abbrev pub param_range : Ty → Option ℤ → Range
+param_range ty None = range_of ty
+param_range ty (Some v) = range_at v
 
 abbrev pub state_ranges : List Variable → List Range
 state_ranges [] = []
 state_ranges (v ∷ vars) = elim v.role [
   | Input ↦ state_ranges vars
-  | Param ↦ bound_range v.ty v.bound ∷ state_ranges vars
+  | Param ↦ param_range v.ty v.only ∷ state_ranges vars
   | Kept ↦ range_of v.ty ∷ state_ranges vars
   | Brief ↦ state_ranges vars
 ]
@@ -40,7 +41,7 @@ abbrev pub param_ranges : List Variable → List Range
 param_ranges [] = []
 param_ranges (v ∷ vars) = elim v.role [
   | Input ↦ param_ranges vars
-  | Param ↦ bound_range v.ty v.bound ∷ param_ranges vars
+  | Param ↦ param_range v.ty v.only ∷ param_ranges vars
   | Kept ↦ param_ranges vars
   | Brief ↦ param_ranges vars
 ]
@@ -106,12 +107,13 @@ pub record Guarding : Type 0 where
 pub record Attached : Type 0 where
   -- whether `holds` is a goal, which a scan reaches by failing
   pub reach : Truth
-  -- over the variables at the end, and, numbered on, the variables at the beginning
+  -- Over the variables at the end, and, numbered on, the variables at the beginning. Attached bits have at the end the values that they
+  -- have at the beginning: no edge sets them, and what the scan leaves in them is no part of what is judged.
   pub holds : Term
   pub looking : Option Looking
   pub guarding : Option Guarding
 
--- the valuations at a scan's end and at its beginning as one, of n variables each
+-- the valuations at a scan's end, before attached bits are set, and at its beginning as one, of n variables each
 abbrev pub end_and_begin : ℕ → Valuation → Valuation → Valuation
 end_and_begin n end begin = λ x. cond (nat_lt x n) (end x) (begin (x - n))
 
@@ -238,6 +240,15 @@ pub record IsAttached (p : Parts) (a : Attached) : Type 0 where
   pub different : IfSome a.looking (λ l. IfSome a.guarding (λ g. ((l.has == g.blocked) ≡ false) × ((l.was == g.blocked) ≡ false)))
 
 -- ---- facts that a struct may keep have one proof at most
+
+AreWithin-prop : (ranges : List Range) (values : List ℤ) → IsProp (AreWithin ranges values)
+AreWithin-prop [] [] = hlevel props
+AreWithin-prop [] (v ∷ values) = hlevel props
+AreWithin-prop (range ∷ ranges) [] = hlevel props
+AreWithin-prop (range ∷ ranges) (v ∷ values) = hlevel (props, AreWithin-prop ranges values)
+
+pub IsLawful-prop : (machine : m.Machine) → IsProp (m.IsLawful machine)
+IsLawful-prop machine = hlevel (props, AreWithin-prop)
 
 IsCondition-prop : (types : Types) (n : ℕ) (t : Term) → IsProp (IsCondition types n t)
 IsCondition-prop types n t = hlevel (props, IsTyped-prop types t)

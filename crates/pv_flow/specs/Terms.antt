@@ -1,11 +1,11 @@
 -- Terms: expressions over the variables of an automaton. A term has a value in every valuation, also by a divisor that is 0: what
 -- traps there is an edge of its own, which is taken before the value is used.
-use Rattle.std.specs.Prelude.{◌≡◌, ℕ, ℤ, pos, neg_ℤ, ◌+ℤ◌, ◌-ℤ◌, ◌*ℤ◌, int_lt, Bool as Truth, true, false, not, ◌&&◌, ◌||◌, ◌==◌, nat_lt, if◌then◌else◌}
+use Rattle.std.specs.Prelude.{◌≡◌, ℕ, ◌<◌, ℤ, pos, neg_ℤ, ◌+ℤ◌, ◌-ℤ◌, ◌*ℤ◌, int_lt, Bool as Truth, true, false, not, ◌&&◌, ◌||◌, ◌==◌, nat_lt, if◌then◌else◌}
 use Rattle.std.specs.Ordering.{int_eq}
 use Rattle.std.proofs.Props.{props}
 use Rattle.pv_word.specs.declared.types.Ty.{Ty}
 use Rattle.pv_word.specs.declared.types.Ty.TheVariants.{Bool, Int}
-use Rattle.pv_word.specs.Types.{InRange, wrap_of, and_of, or_of, xor_of, not_of, shl_of, shr_of}
+use Rattle.pv_word.specs.Types.{InRange, is_signed_of, wrap_of, and_of, or_of, xor_of, not_of, shl_of, shr_of}
 use Rattle.pv_word.specs.Quotients.{quotient_of, remainder_of}
 use Rattle.pv_flow.specs.declared.op.UnaryOp.{UnaryOp}
 use Rattle.pv_flow.specs.declared.op.UnaryOp.TheVariants.{Not, Negate, Left, Right, Convert}
@@ -96,7 +96,8 @@ FitsUnary (Left n) ty a = a ≡ ty
 FitsUnary (Right n) ty a = a ≡ ty
 FitsUnary Convert ty a = Unit {0}
 
--- by the result's type and the operands': a comparison is of two values of one type, and an overflow one of the type that is left
+-- by the result's type and the operands': a comparison is of two values of one type; overflow is asked of operands of a signed type,
+-- which has sums and differences, of products of INT
 abbrev pub FitsBinary : BinaryOp → Ty → Ty → Ty → Type 0
 FitsBinary And ty a b = (a ≡ ty) × (b ≡ ty)
 FitsBinary Or ty a b = (a ≡ ty) × (b ≡ ty)
@@ -108,8 +109,8 @@ FitsBinary Divide ty a b = (a ≡ ty) × (b ≡ ty)
 FitsBinary Remainder ty a b = (a ≡ ty) × (b ≡ ty)
 FitsBinary Less ty a b = (ty ≡ Bool) × (a ≡ b)
 FitsBinary Equal ty a b = (ty ≡ Bool) × (a ≡ b)
-FitsBinary (SumOverflow of) ty a b = (ty ≡ Bool) × (a ≡ of) × (b ≡ of)
-FitsBinary (DifferenceOverflow of) ty a b = (ty ≡ Bool) × (a ≡ of) × (b ≡ of)
+FitsBinary (SumOverflow of) ty a b = (ty ≡ Bool) × (a ≡ of) × (b ≡ of) × (is_signed_of of ≡ true)
+FitsBinary (DifferenceOverflow of) ty a b = (ty ≡ Bool) × (a ≡ of) × (b ≡ of) × (is_signed_of of ≡ true)
 FitsBinary ProductOverflow ty a b = (ty ≡ Bool) × (a ≡ Int) × (b ≡ Int)
 
 -- each operator has operands of the types that its circuit takes, and each constant lies in its type
@@ -122,9 +123,9 @@ IsTyped types (select ty c s t) =
     IsTyped types c × IsTyped types s × IsTyped types t
     × (type_of types c ≡ Bool) × (type_of types s ≡ ty) × (type_of types t ≡ ty)
 
--- each variable has a value of its type
-abbrev pub AreTyped : Types → Valuation → Type 0
-AreTyped types w = (n : ℕ) → InRange (types n) (w n)
+-- each of the first n variables has a value of its type. Of other numbers nothing is said: at a call other blocks' variables lie there.
+abbrev pub AreTyped : ℕ → Types → Valuation → Type 0
+AreTyped n types w = (x : ℕ) → x < n → InRange (types x) (w x)
 
 -- ---- variables
 

@@ -42,7 +42,7 @@ terms_of nodes = terms_after [] nodes
 -- ---- parts
 
 abbrev pub variable_of : CodeVariable → Variable
-variable_of v = record { ty = v.ty; role = v.role; start = v.start; bound = v.bound }
+variable_of v = record { ty = v.ty; role = v.role; start = v.start; only = v.only }
 
 abbrev pub set_of : List Term → CodeSet → Set
 set_of terms set = record { variable = set.variable; value = term_at terms set.value }
@@ -63,17 +63,17 @@ edge_of terms deeds edge = record {
   sets = sets_of terms (slice_get deeds edge.deed);
 }
 
-abbrev pub call_of : CodeCallEdge → CallEdge
-call_of call = record { from = call.from; to = call.to; block = call.block; instance = call.instance; place = call.place }
+abbrev pub call_edge_of : CodeCallEdge → CallEdge
+call_edge_of call = record { from = call.from; to = call.to; block = call.block; instance = call.instance; place = call.place }
 
 abbrev pub loop_of : CodeLoop → Loop
 loop_of loop = record { first = loop.first; last = loop.last; entry_turn = loop.entry_turn; turns = loop.turns.items; place = loop.place }
 
-abbrev pub trap_of : CodeTrapEnd → TrapEnd
-trap_of end = record { location = end.location; kind = end.kind; place = end.place }
+abbrev pub trap_end_of : CodeTrapEnd → TrapEnd
+trap_end_of end = record { location = end.location; kind = end.kind; place = end.place }
 
-abbrev pub over_of : CodeOverEnd → OverEnd
-over_of end = record { location = end.location; place = end.place }
+abbrev pub over_end_of : CodeOverEnd → OverEnd
+over_end_of end = record { location = end.location; place = end.place }
 
 abbrev pub parts_of : CodeParts → Parts
 parts_of p = record {
@@ -82,9 +82,9 @@ parts_of p = record {
   shared = p.shared;
   locations = p.locations;
   edges = map (edge_of (terms_of p.nodes.items) p.deeds.items) p.edges.items;
-  calls = map call_of p.calls.items;
+  calls = map call_edge_of p.calls.items;
   loops = map loop_of p.loops.items;
   done = p.done;
-  traps = map trap_of p.traps.items;
-  overs = map over_of p.overs.items;
+  traps = map trap_end_of p.traps.items;
+  overs = map over_end_of p.overs.items;
 }

@@ -6,14 +6,14 @@ use Rattle.std.specs.List.{list_any, list_all}
 use Rattle.std.proofs.Props.{props}
 use Rattle.pv_word.specs.declared.types.Ty.TheVariants.{Bool}
 use Rattle.pv_word.specs.Types.{InRange}
-use Rattle.pv_flow.specs.Terms.{Types, Valuation, type_of, IsTyped, IsTyped-prop, AreTyped, holds_in}
-use Rattle.pv_flow.specs.Automata.{Variable, Set, Edge, Loop, Parts, types_of, edges_from, calls_from, ends_of, holds, holds_loop, is_turn}
+use Rattle.pv_flow.specs.Terms.{Types, Valuation, type_of, IsTyped, IsTyped-prop, holds_in}
+use Rattle.pv_flow.specs.Automata.{Variable, Set, Edge, Loop, Parts, types_of, HasValues, edges_from, calls_from, ends_of, holds, holds_loop, is_turn}
 
 -- ---- parts
 
 pub record IsVariable (v : Variable) : Type 0 where
   pub start : InRange v.ty v.start
-  pub bound : IfSome v.bound (λ value. InRange v.ty value)
+  pub only : IfSome v.only (λ value. InRange v.ty value)
 
 -- the set's term is of its variable's type
 pub record IsSet (types : Types) (set : Set) : Type 0 where
@@ -30,9 +30,9 @@ abbrev pub true_guards : Valuation → List Edge → ℕ
 true_guards w [] = 0
 true_guards w (edge ∷ more) = cond (holds_in w edge.guard) (1 + true_guards w more) (true_guards w more)
 
--- at a location with edges exactly one guard is true, whatever values the variables have
+-- at a location with edges exactly one guard is true, whatever values of their types the variables have
 abbrev pub OneIsTrue : Parts → Type 0
-OneIsTrue p = (l : ℕ) (w : Valuation) → AreTyped (types_of p) w → 0 < length (edges_from l p.edges)
+OneIsTrue p = (l : ℕ) (w : Valuation) → HasValues p w → 0 < length (edges_from l p.edges)
     → true_guards w (edges_from l p.edges) ≡ 1
 
 -- the location is one where a scan ends

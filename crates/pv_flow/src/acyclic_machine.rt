@@ -1,8 +1,10 @@
 //! Automata without call edges and loops, as machines.
-ghost use Rattle.std.specs.Prelude.{◌≡◌, IfSome};
+ghost use Rattle.std.specs.Prelude.{◌≡◌, true, IfSome};
 ghost use Rattle.std.proofs.Props.{props};
-ghost use Rattle.pv_flow.specs.Machines.{IsAcyclic, IsAttached, IsAttached-prop};
-ghost use Rattle.pv_flow.specs.AutomatonView.{automaton_of, attached_to};
+ghost use Rattle.pv_machine.specs.Machines.{IsLawful};
+ghost use Rattle.pv_flow.specs.Machines.{IsAcyclic, IsAttached, acyclic_machine, IsAttached-prop, IsLawful-prop};
+ghost use Rattle.pv_flow.specs.Tables.{is_tabled};
+ghost use Rattle.pv_flow.specs.AutomatonView.{automaton_of, attached_to, terms_in};
 
 use crate::attached::Attached;
 use crate::automaton::Automaton;
@@ -16,6 +18,8 @@ pub struct Acyclic {
     pub(crate) attached: Option<Attached>,
     ghost acyclic: { IsAcyclic (automaton_of automaton) },
     ghost fits: { IfSome (attached_to automaton attached) (IsAttached (automaton_of automaton)) } by { Prim.hlevel (props, IsAttached-prop) },
+    ghost tabled: { is_tabled (terms_in automaton) attached ≡ true },
+    ghost lawful: { IsLawful (acyclic_machine (automaton_of automaton) (attached_to automaton attached)) } by { IsLawful-prop (acyclic_machine (automaton_of automaton) (attached_to automaton attached)) },
 }
 
 impl Acyclic {
@@ -37,9 +41,6 @@ impl Acyclic {
 }
 
 impl Machine for Acyclic {
-    ghost use Rattle.pv_flow.specs.Machines.{acyclic_machine};
-    ghost use Rattle.pv_flow.specs.Lawful.{acyclic_is_lawful};
-
     ghost machine = { λ m. acyclic_machine (automaton_of m.automaton) (attached_to m.automaton m.attached) };
 
     fn state_len(&self) -> usize {
@@ -50,5 +51,5 @@ impl Machine for Acyclic {
         taken(self.automaton.parts.vars.as_slice())
     }
 
-    ghost lawful = { λ m. acyclic_is_lawful (automaton_of m.automaton) (attached_to m.automaton m.attached) m.automaton.well_made m.fits };
+    ghost lawful = { λ m. m.lawful };
 }

@@ -1,7 +1,8 @@
 //! Automata as machines.
-ghost use Rattle.std.specs.Prelude.{◌≡◌, IfSome};
+ghost use Rattle.std.specs.Prelude.{◌≡◌, true, IfSome};
 ghost use Rattle.pv_flow.specs.Machines.{IsInlined, IsAcyclic, IsAttached};
-ghost use Rattle.pv_flow.specs.AutomatonView.{automaton_of, attached_to};
+ghost use Rattle.pv_flow.specs.Tables.{is_tabled};
+ghost use Rattle.pv_flow.specs.AutomatonView.{automaton_of, attached_to, terms_in};
 
 use crate::acyclic_machine::Acyclic;
 use crate::attached::Attached;
@@ -21,6 +22,7 @@ pub fn inlined(automaton: Automaton, bound: u32) -> Inlined
 pub fn acyclic(automaton: Automaton, attached: Option<Attached>) -> Acyclic
     requires acyclic { IsAcyclic (automaton_of automaton) }
     requires fits { IfSome (attached_to automaton attached) (IsAttached (automaton_of automaton)) }
+    requires tabled { is_tabled (terms_in automaton) attached ≡ true }
     ensures automaton { result.automaton ≡ automaton }
     ensures attached { result.attached ≡ attached }
 {

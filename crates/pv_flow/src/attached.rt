@@ -17,7 +17,7 @@ pub struct Guarding {
 }
 
 /// A pattern, by the numbers of its terms. In `holds` a variable below the number n of variables is read where the scan ends, and n + v
-/// is variable v where it begins.
+/// is variable v where it begins. An attached bit has its value of the beginning there too: it is set behind what is judged.
 #[derive(Clone, Copy)]
 pub struct Attached {
     /// Whether `holds` is a goal, so that a scan that reaches it fails.

@@ -3,15 +3,17 @@ ghost use Rattle.std.specs.Prelude.{◌≡◌};
 ghost use Rattle.pv_flow.specs.Faults.{IsFaultless};
 ghost use Rattle.pv_flow.specs.WellMade.{IsWellMade, IsWellMade-prop};
 ghost use Rattle.pv_flow.specs.View.{parts_of};
+ghost use Rattle.pv_flow.specs.Tables.{AreTabled};
 
 use crate::parts::Parts;
 
-/// An automaton: parts whose numbers name something, whose loops nest, and that are well made.
+/// An automaton: parts whose numbers name something, also those within their tables, whose loops nest, and that are well made.
 #[derive(Drop)]
 pub struct Automaton {
     pub(crate) parts: Parts,
     ghost faultless: { IsFaultless (parts_of parts) },
     ghost well_made: { IsWellMade (parts_of parts) } by { IsWellMade-prop (parts_of parts) },
+    ghost tabled: { AreTabled parts },
 }
 
 impl Automaton {

@@ -3,6 +3,7 @@ ghost use Rattle.std.specs.Prelude.{◌≡◌, IfOk, IfErr, OnOk};
 ghost use Rattle.pv_flow.specs.Faults.{IsFaultless, IsFaultOf};
 ghost use Rattle.pv_flow.specs.WellMade.{IsWellMade};
 ghost use Rattle.pv_flow.specs.View.{parts_of};
+ghost use Rattle.pv_flow.specs.Tables.{AreTabled};
 ghost use Rattle.pv_flow.specs.AutomatonView.{automaton_of};
 
 use crate::automaton::Automaton;
@@ -30,9 +31,11 @@ fn look(alloc: Global, parts: &Parts) -> Result<(), FlowFault>
     Ok(())
 }
 
-/// The automaton of these parts, which are well made if they have no fault, or their first fault.
+/// The automaton of these parts, or their first fault. If they have none, they are well made, and the numbers within their tables name
+/// something.
 pub fn build(alloc: Global, parts: Parts) -> Result<Automaton, FlowFault>
-    requires { IsFaultless (parts_of parts) → IsWellMade (parts_of parts) }
+    requires well_made { IsFaultless (parts_of parts) → IsWellMade (parts_of parts) }
+    requires tabled { IsFaultless (parts_of parts) → AreTabled parts }
     ensures ok { IfOk result (λ automaton. automaton_of automaton ≡ parts_of parts) }
     ensures faultless { IfOk result (λ _. IsFaultless (parts_of parts)) }
     ensures fault { IfErr result (IsFaultOf (parts_of parts)) }

@@ -1,6 +1,7 @@
 //! Automata without call edges, as machines.
 ghost use Rattle.std.specs.Prelude.{◌≡◌};
-ghost use Rattle.pv_flow.specs.Machines.{IsInlined};
+ghost use Rattle.pv_machine.specs.Machines.{IsLawful};
+ghost use Rattle.pv_flow.specs.Machines.{IsInlined, inlined_machine, IsLawful-prop};
 ghost use Rattle.pv_flow.specs.AutomatonView.{automaton_of};
 
 use crate::automaton::Automaton;
@@ -13,6 +14,7 @@ pub struct Inlined {
     pub(crate) automaton: Automaton,
     pub(crate) bound: u32,
     ghost inlined: { IsInlined (automaton_of automaton) bound },
+    ghost lawful: { IsLawful (inlined_machine (automaton_of automaton) bound) } by { IsLawful-prop (inlined_machine (automaton_of automaton) bound) },
 }
 
 impl Inlined {
@@ -32,9 +34,6 @@ impl Inlined {
 }
 
 impl Machine for Inlined {
-    ghost use Rattle.pv_flow.specs.Machines.{inlined_machine};
-    ghost use Rattle.pv_flow.specs.Lawful.{inlined_is_lawful};
-
     ghost machine = { λ m. inlined_machine (automaton_of m.automaton) m.bound };
 
     fn state_len(&self) -> usize {
@@ -45,5 +44,5 @@ impl Machine for Inlined {
         taken(self.automaton.parts.vars.as_slice())
     }
 
-    ghost lawful = { λ m. inlined_is_lawful (automaton_of m.automaton) m.bound m.automaton.well_made };
+    ghost lawful = { λ m. m.lawful };
 }

@@ -13,7 +13,7 @@ pub struct Variable {
     /// Its value before the first scan; of a brief one its value where each scan begins.
     pub start: i128,
     /// Of a parameter the one value that it may have, where the case binds it.
-    pub bound: Option<i128>,
+    pub only: Option<i128>,
 }
 
 /// The variable of this number takes the value of the term of that number.
@@ -31,7 +31,8 @@ pub struct Deed {
     pub sets: SmallVec<Set, 2>,
 }
 
-/// An edge between two locations, with the number of its deed. A number that names none has the guard FALSE.
+/// An edge between two locations, with the number of its deed. In parts that are no automaton a number that names none has the guard
+/// FALSE.
 #[derive(Clone, Copy)]
 pub struct Edge {
     pub from: u32,

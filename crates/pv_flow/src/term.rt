@@ -3,8 +3,8 @@
 use crate::op::{BinaryOp, UnaryOp};
 use pv_word::Ty;
 
-/// A node of a table of terms. Its operands are numbers of nodes that stand before it; a number that names none of these is read as
-/// the constant FALSE. Each operator has the type of its result.
+/// A node of a table of terms. Its operands are numbers of nodes that stand before it, in an automaton; in other parts a number that
+/// names none of these is read as the constant FALSE. Each operator has the type of its result.
 #[derive(Clone, Copy)]
 pub enum Node {
     Constant(Ty, i128),
