@@ -7,6 +7,7 @@ use std::alloc::{AllocError, Global};
 /// a row's own stand last.
 const FRONT: &str = "{\"version\":1,\"name\":\"t\",\"entry\":\"Demo\",\"loopBound\":16,\"depth\":3,\
 \"lemmas\":100000,\"regionWords\":1000000,\"reduce\":[],\"sources\":[{\"file\":\"";
+
 const BEHIND: &str = "\",\"language\":\"scl\"}],";
 
 /// The text of a case whose source is in this file, with these members.

@@ -74,11 +74,7 @@ fn tell_stretch(stretch: &Stretch, told: &mut Told) {
 fn places_of(sources: &[SourceText], told: &mut Told) -> Places {
     let mut files = Vec::new(told.alloc());
     for source in sources {
-        match FileLines::of(
-            told.alloc(),
-            source.file.as_str(),
-            source.bytes.as_slice(),
-        ) {
+        match FileLines::of(told.alloc(), source.file.as_str(), source.bytes.as_slice()) {
             Ok(lines) => {
                 if files.push(lines).is_err() {
                     told.lose();
