@@ -1,5 +1,5 @@
 -- The calls of a decision one after another. What no call changes is `F`; each call says what it does over what it was before it.
-use Rattle.std.proofs.Common.{◌≡◌, ℕ, ◌+◌, List, None, sym, subst}
+use Rattle.std.proofs.Common.{◌≡◌, ℕ, ◌+◌, List, None, sym, subst, ◌∙◌}
 use Rattle.pv_machine.specs.Machines.{Machine}
 use Rattle.pv_cert.specs.declared.proof.Query.{Query}
 use Rattle.pv_cert.specs.declared.proof.Query.TheVariants.{Base, Step}
@@ -20,6 +20,11 @@ module _ (F : Type 0) (enc : F → Encoding) (f g : F) (is : g ≡ f) (r s t : S
       → IsRefinedBy (enc f).tells (λ (asked : Query). asked ≡ q) r t
   once_more q a b =
       by_on (enc f).tells (λ (asked : Query). asked ≡ q) r s t a (by_once (enc f) q s t (subst (λ (x : F). IsRefinedOnce (enc x) q s t) is b))
+
+-- two calls one after another
+pub refined_twice : (F : Type 0) (enc : F → Encoding) (f g h : F) → g ≡ f → h ≡ g → (r s t u : Stage) → IsRefined (enc f).tells r s
+    → IsRefined (enc g).tells s t → IsRefined (enc h).tells t u → IsRefined (enc f).tells r u
+refined_twice F enc f g h is then r s t u a b c = refined_from F enc f h (then ∙ is) r t u (refined_from F enc f g is r s t a b) c
 
 module _ (F : Type 0) (mach : F → Machine) (enc : F → Encoding) (f g : F) (is : g ≡ f) (first s t : Stage) (limits : Limits) (old new : List Proof) where
   abbrev Turn : F → Query → Type 0
