@@ -1,6 +1,7 @@
 //! What answers a row.
 use crate::arithmetic::tell_arithmetic;
 use crate::certificates::{tell_certificate, tell_trace};
+use crate::circuits::tell_circuit;
 use crate::clauses::{tell_flip, tell_formula, tell_solver, tell_values};
 use crate::logs::{tell_line, tell_verdict};
 use crate::texts::{tell_sample, tell_tokens};
@@ -42,6 +43,11 @@ impl Calls for Base {
             "flip" => tell_flip(said(row, 0, told).as_str(), told),
             "values" => tell_values(given, said(row, 0, told).as_str(), told),
             "solver" => tell_solver(
+                said(row, 0, told).as_str(),
+                said(row, 1, told).as_str(),
+                told,
+            ),
+            "circuit" => tell_circuit(
                 said(row, 0, told).as_str(),
                 said(row, 1, told).as_str(),
                 told,

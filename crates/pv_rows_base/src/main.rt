@@ -6,6 +6,7 @@
 mod arithmetic;
 mod calls;
 mod certificates;
+mod circuits;
 mod clauses;
 mod logs;
 mod texts;
