@@ -4,6 +4,7 @@ use crate::certificates::{tell_certificate, tell_trace};
 use crate::circuits::tell_circuit;
 use crate::clauses::{tell_flip, tell_formula, tell_solver, tell_values};
 use crate::logs::{tell_line, tell_verdict};
+use crate::memory::{tell_files, tell_sink};
 use crate::texts::{tell_sample, tell_tokens};
 use pv_lex::Language;
 use pv_rows_form::{Calls, Row, Told, last};
@@ -48,6 +49,16 @@ impl Calls for Base {
                 told,
             ),
             "circuit" => tell_circuit(
+                said(row, 0, told).as_str(),
+                said(row, 1, told).as_str(),
+                told,
+            ),
+            "files" => tell_files(
+                said(row, 0, told).as_str(),
+                said(row, 1, told).as_str(),
+                told,
+            ),
+            "sink" => tell_sink(
                 said(row, 0, told).as_str(),
                 said(row, 1, told).as_str(),
                 told,

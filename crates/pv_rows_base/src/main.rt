@@ -9,6 +9,7 @@ mod certificates;
 mod circuits;
 mod clauses;
 mod logs;
+mod memory;
 mod texts;
 
 use calls::{Base, NAMES};
