@@ -5,7 +5,9 @@ use Rattle.std.proofs.lemmas.Result.{IfOk-weaker}
 use Rattle.std.proofs.Math.Seq.{drop-cons}
 use Rattle.pv_place.specs.declared.place.Place.{Place}
 use Rattle.pv_tree.specs.declared.stmt.Choice.{Choice}
+use Rattle.pv_tree.specs.declared.stmt.Stmt.{size-Stmt, the_lemmas}
 use Rattle.pv_tree.specs.declared.stmt.Stmt.TheViews as form
+use denote.Param.Weighed.{most}
 use Rattle.pv_tree.specs.Tree.{ExprTree, Choices, StmtTree, StmtTrees, if_, case_, ArmTrees, BranchTrees, ElseTree}
 use Rattle.pv_tree.specs.View.{stmts_of, arms_of, branches_of}
 use Rattle.pv_tree.specs.Parts.{Loop, Spot, spots_of, spots_of_stmts, spots_of_arms, spots_of_branches, spots_of_else, conditions_of}
@@ -22,6 +24,11 @@ conditions_seen g [] = refl
 conditions_seen g (x ∷ xs) = ap (λ l. (g x).0 ∷ l) (conditions_seen g xs)
 
 -- ---- the walk
+
+-- the statements of branches are less deep than their CASE
+pub case_deeper : (selector : _) (all : _) (other : _) (place : Place)
+    → most (λ b. most size-Stmt b.1.items) all.items < size-Stmt (form.Case selector all other place)
+case_deeper selector all other place = grind (arith, the_lemmas)
 
 -- a statement's own place is looked at first
 begun_by : (f : Spot → Option Place) (loops : List Loop) (s t : StmtTree) (n m : Option Place) → s ≡ t → m ≡ nearer_of n (f (spot loops s))
