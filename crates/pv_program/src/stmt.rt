@@ -2,7 +2,8 @@
 //!
 //! The recursion goes as deep as statements stand inside each other.
 ghost use Rattle.std.specs.Prelude.{◌≡◌, ◌≤◌, length, map, option_map, IfOk, OnOk};
-ghost use Rattle.pv_tree.specs.Tree.{if_, case_, for_, while_, repeat_, assign, assign_call};
+ghost use Rattle.pv_place.specs.declared.place.Place.{Place};
+ghost use Rattle.pv_tree.specs.Tree.{if_, case_, for_, while_, repeat_, assign, assign_call, call_};
 ghost use Rattle.pv_tree.specs.View.{expr_tree, operand_tree, call_tree, stmt_tree, stmt_trees, arms_of, branches_of, else_of};
 ghost use Rattle.pv_mean.specs.Sources.{Source};
 ghost use Rattle.pv_mean.specs.Statements.{step_of};
@@ -28,20 +29,16 @@ fn make_assign(
     context: &Context,
     program: &mut Program,
     target: &Operand,
-    place: Place,
     value: &Expr,
 ) -> Result<Stmt, ResolveFault>
     ensures grows { OnOk result (Extends program.old program.new) }
-    ensures means { (source : Source) → IsContext context.now source
+    ensures means { (source : Source) (place : Place) → IsContext context.now source
         → IfOk result (λ c. IsNext source (block_in context.now) program.new c
         (assign (operand_tree target.now) place (expr_tree value.now))) }
 {
     let from = add_value(alloc, context, program, value)?;
     let to = add_target(alloc, context, program, target)?;
-    Ok(Stmt::Assign {
-        value: from,
-        target: to,
-    })
+    Ok(Stmt::Assign { value: from, to })
 }
 
 fn make_assign_call(
@@ -49,11 +46,10 @@ fn make_assign_call(
     context: &Context,
     program: &mut Program,
     target: &Operand,
-    place: Place,
     call: &CallTree,
 ) -> Result<Stmt, ResolveFault>
     ensures grows { OnOk result (Extends program.old program.new) }
-    ensures means { (source : Source) → IsContext context.now source
+    ensures means { (source : Source) (place : Place) → IsContext context.now source
         → IfOk result (λ c. IsNext source (block_in context.now) program.new c
         (assign_call (operand_tree target.now) place (call_tree call.now))) }
 {
@@ -61,9 +57,24 @@ fn make_assign_call(
     let to = add_target(alloc, context, program, target)?;
     Ok(Stmt::AssignCall {
         call: made,
-        target: to,
+        to,
         place: call.place,
     })
+}
+
+fn make_called(
+    alloc: Global,
+    context: &Context,
+    program: &mut Program,
+    call: &CallTree,
+) -> Result<Stmt, ResolveFault>
+    ensures grows { OnOk result (Extends program.old program.new) }
+    ensures means { (source : Source) → IsContext context.now source
+        → IfOk result (λ c. IsNext source (block_in context.now) program.new c
+        (call_ (call_tree call.now))) }
+{
+    let made = add_call(alloc, context, How::Statement, call, program)?;
+    Ok(Stmt::Call(made))
 }
 
 /// The step of a FOR: 1 where none is written.
@@ -178,10 +189,9 @@ fn make_if(
     program: &mut Program,
     arms: &Vec<(Expr, Vec<StmtTree>)>,
     other: &Option<Vec<StmtTree>>,
-    place: Place,
 ) -> Result<Stmt, ResolveFault>
     ensures grows { OnOk result (Extends program.old program.new) }
-    ensures means { (source : Source) → IsContext context.now source
+    ensures means { (source : Source) (place : Place) → IsContext context.now source
         → IfOk result (λ c. IsNext source (block_in context.now) program.new c
         (if_ (arms_of (map (λ a. (expr_tree a.0, stmt_trees a.1.items)) arms.now.items))
         (else_of (option_map (λ o. stmt_trees o.items) other.now)) place)) }
@@ -202,10 +212,9 @@ fn make_case(
     selector: &Expr,
     branches: &Vec<(Vec<(ChoiceTree, Option<ChoiceTree>)>, Vec<StmtTree>)>,
     other: &Option<Vec<StmtTree>>,
-    place: Place,
 ) -> Result<Stmt, ResolveFault>
     ensures grows { OnOk result (Extends program.old program.new) }
-    ensures means { (source : Source) → IsContext context.now source
+    ensures means { (source : Source) (place : Place) → IsContext context.now source
         → IfOk result (λ c. IsNext source (block_in context.now) program.new c
         (case_ (expr_tree selector.now)
         (branches_of (map (λ b. (b.0.items, stmt_trees b.1.items)) branches.now.items))
@@ -231,19 +240,19 @@ fn make_for(
     first: &Expr,
     last: &Expr,
     by: &Option<Literal>,
-    body: &[StmtTree],
+    body: &Vec<StmtTree>,
     place: Place,
 ) -> Result<Stmt, ResolveFault>
     ensures grows { OnOk result (Extends program.old program.new) }
     ensures means { (source : Source) → IsContext context.now source
         → IfOk result (λ c. IsNext source (block_in context.now) program.new c
         (for_ var.now var_place (expr_tree first.now) (expr_tree last.now) by.now
-        (stmt_trees body.now) place)) }
+        (stmt_trees body.now.items) place)) }
 {
-    let counting = make_counting(alloc, context, program, var, var_place, first, last, by)?;
-    let list = make_list(alloc, context, program, body)?;
+    let count = make_counting(alloc, context, program, var, var_place, first, last, by)?;
+    let list = make_list(alloc, context, program, body.as_slice())?;
     Ok(Stmt::For {
-        counting,
+        count,
         body: list,
         place,
     })
@@ -255,18 +264,18 @@ fn make_while(
     context: &Context,
     program: &mut Program,
     cond: &Expr,
-    body: &[StmtTree],
+    body: &Vec<StmtTree>,
     place: Place,
 ) -> Result<Stmt, ResolveFault>
     ensures grows { OnOk result (Extends program.old program.new) }
     ensures means { (source : Source) → IsContext context.now source
         → IfOk result (λ c. IsNext source (block_in context.now) program.new c
-        (while_ (expr_tree cond.now) (stmt_trees body.now) place)) }
+        (while_ (expr_tree cond.now) (stmt_trees body.now.items) place)) }
 {
-    let condition = add_value(alloc, context, program, cond)?;
-    let list = make_list(alloc, context, program, body)?;
+    let test = add_value(alloc, context, program, cond)?;
+    let list = make_list(alloc, context, program, body.as_slice())?;
     Ok(Stmt::While {
-        condition,
+        test,
         body: list,
         place,
     })
@@ -277,20 +286,20 @@ fn make_repeat(
     alloc: Global,
     context: &Context,
     program: &mut Program,
-    body: &[StmtTree],
+    body: &Vec<StmtTree>,
     cond: &Expr,
     place: Place,
 ) -> Result<Stmt, ResolveFault>
     ensures grows { OnOk result (Extends program.old program.new) }
     ensures means { (source : Source) → IsContext context.now source
         → IfOk result (λ c. IsNext source (block_in context.now) program.new c
-        (repeat_ (stmt_trees body.now) (expr_tree cond.now) place)) }
+        (repeat_ (stmt_trees body.now.items) (expr_tree cond.now) place)) }
 {
-    let list = make_list(alloc, context, program, body)?;
-    let condition = add_value(alloc, context, program, cond)?;
+    let list = make_list(alloc, context, program, body.as_slice())?;
+    let test = add_value(alloc, context, program, cond)?;
     Ok(Stmt::Repeat {
         body: list,
-        condition,
+        test,
         place,
     })
 }
@@ -309,25 +318,19 @@ fn make_stmt(
         (stmt_tree stmt.now)) }
 {
     match stmt {
-        StmtTree::Assign {
-            target,
-            place,
-            value,
-        } => make_assign(alloc, context, program, target, *place, value),
-        StmtTree::AssignCall {
-            target,
-            place,
-            call,
-        } => make_assign_call(alloc, context, program, target, *place, call),
-        StmtTree::If { arms, other, place } => {
-            make_if(alloc, context, program, arms, other, *place)
+        StmtTree::Assign { target, value, .. } => {
+            make_assign(alloc, context, program, target, value)
         }
+        StmtTree::AssignCall { target, call, .. } => {
+            make_assign_call(alloc, context, program, target, call)
+        }
+        StmtTree::If { arms, other, .. } => make_if(alloc, context, program, arms, other),
         StmtTree::Case {
             selector,
             branches,
             other,
-            place,
-        } => make_case(alloc, context, program, selector, branches, other, *place),
+            ..
+        } => make_case(alloc, context, program, selector, branches, other),
         StmtTree::For {
             var,
             var_place,
@@ -336,31 +339,19 @@ fn make_stmt(
             by,
             body,
             place,
-        } => make_for(
-            alloc,
-            context,
-            program,
-            var,
-            *var_place,
-            first,
-            last,
-            by,
-            body.as_slice(),
-            *place,
-        ),
+        } => {
+            make_for(alloc, context, program, var, *var_place, first, last, by, body, *place)
+        }
         StmtTree::While { cond, body, place } => {
-            make_while(alloc, context, program, cond, body.as_slice(), *place)
+            make_while(alloc, context, program, cond, body, *place)
         }
         StmtTree::Repeat { body, cond, place } => {
-            make_repeat(alloc, context, program, body.as_slice(), cond, *place)
+            make_repeat(alloc, context, program, body, cond, *place)
         }
         StmtTree::Exit(_) => Ok(Stmt::Exit),
         StmtTree::Continue(_) => Ok(Stmt::Continue),
         StmtTree::Return(_) => Ok(Stmt::Return),
-        StmtTree::Call(call) => {
-            let made = add_call(alloc, context, How::Statement, call, program)?;
-            Ok(Stmt::Call(made))
-        }
+        StmtTree::Call(call) => make_called(alloc, context, program, call),
         StmtTree::Empty(_) => Ok(Stmt::Empty),
     }
 }

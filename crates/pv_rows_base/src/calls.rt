@@ -1,8 +1,10 @@
 //! What answers a row.
 use crate::arithmetic::tell_arithmetic;
 use crate::certificates::{tell_certificate, tell_trace};
+use crate::circuits::tell_circuit;
 use crate::clauses::{tell_flip, tell_formula, tell_solver, tell_values};
 use crate::logs::{tell_line, tell_verdict};
+use crate::memory::{tell_files, tell_sink};
 use crate::texts::{tell_sample, tell_tokens};
 use pv_lex::Language;
 use pv_rows_form::{Calls, Row, Told, last};
@@ -42,6 +44,21 @@ impl Calls for Base {
             "flip" => tell_flip(said(row, 0, told).as_str(), told),
             "values" => tell_values(given, said(row, 0, told).as_str(), told),
             "solver" => tell_solver(
+                said(row, 0, told).as_str(),
+                said(row, 1, told).as_str(),
+                told,
+            ),
+            "circuit" => tell_circuit(
+                said(row, 0, told).as_str(),
+                said(row, 1, told).as_str(),
+                told,
+            ),
+            "files" => tell_files(
+                said(row, 0, told).as_str(),
+                said(row, 1, told).as_str(),
+                told,
+            ),
+            "sink" => tell_sink(
                 said(row, 0, told).as_str(),
                 said(row, 1, told).as_str(),
                 told,

@@ -6,8 +6,10 @@
 mod arithmetic;
 mod calls;
 mod certificates;
+mod circuits;
 mod clauses;
 mod logs;
+mod memory;
 mod texts;
 
 use calls::{Base, NAMES};

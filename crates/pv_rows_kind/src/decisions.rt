@@ -1,15 +1,16 @@
-//! Decisions of the oracle of the tests.
+//! Decisions of the oracle of the rows.
 ghost use Rattle.std.specs.Prelude.{◌≡◌, ◌-◌, ◌<◌, ◌≤◌, ◌^◌, length, IfOk};
 ghost use Rattle.pv_kind.specs.declared.told.TheConstants.{LAST_QUERY};
 
 use crate::countdown::Countdown;
 use crate::toy::Toy;
 use pv_cert::{Chain, Proofs};
-use pv_cnf::{Clauses, Formula};
-use pv_kind::{End, LAST_QUERY, Limits, Oracle, OracleFault, decide};
+use pv_cnf::{Clauses, Formula, PushFault};
+use pv_kind::{Decision, End, LAST_QUERY, Limits, Oracle, OracleFault, decide};
 use pv_log::{LogView, Numbers};
+use pv_rows_form::Told;
 use std::alloc::{AllocError, Global};
-use std::test::Fail;
+use std::str::SplitWhitespace;
 
 /// A clause and its opposite.
 const OPPOSITE: [&[u32]; 2] = [&[2], &[3]];
@@ -32,7 +33,7 @@ const THREE: [&[u32]; 8] = [
 
 /// What a decision is made of.
 #[derive(Clone, Copy)]
-struct Row {
+struct Given {
     /// The number at the start of the countdown, and its greatest number.
     start: u32,
     most: u32,
@@ -45,23 +46,30 @@ struct Row {
     limits: Limits,
 }
 
-/// A countdown from 0, with ample limits.
-const ROW: Row = Row {
-    start: 0,
-    most: 0,
-    cells: 0,
-    limited: false,
-    variables: 7,
-    hard_from: 99,
-    limits: Limits {
-        depth: 3,
-        lemmas: 9,
-        words: 999,
-    },
-};
+fn next_number(words: &mut SplitWhitespace<'_>) -> u32 {
+    words.next().unwrap_or("").parse::<u32>().unwrap_or(0)
+}
+
+/// What a row gives, number by number; the circuit has a limit where the fourth is 1.
+fn given(said: &str) -> Given {
+    let mut words = said.split_whitespace();
+    Given {
+        start: next_number(&mut words),
+        most: next_number(&mut words),
+        cells: next_number(&mut words),
+        limited: next_number(&mut words) == 1,
+        variables: next_number(&mut words),
+        hard_from: next_number(&mut words),
+        limits: Limits {
+            depth: next_number(&mut words),
+            lemmas: next_number(&mut words),
+            words: u64::from(next_number(&mut words)),
+        },
+    }
+}
 
 /// A formula of these clauses.
-fn formula(alloc: Global, variables: u32, clauses: &[&[u32]]) -> Result<Formula, Fail>
+fn formula(alloc: Global, variables: u32, clauses: &[&[u32]]) -> Result<Formula, PushFault>
     requires variables { variables < 2 ^ 31 }
     requires clauses { length clauses.now < 2 ^ 32 - 1 }
     ensures { IfOk result (λ f. f.variables ≡ variables) }
@@ -83,7 +91,7 @@ fn cells(alloc: Global, count: u32) -> Result<Numbers, AllocError> {
 }
 
 /// The oracle of a row.
-fn toy(alloc: Global, row: Row, hard: &[&[u32]]) -> Result<Toy, Fail>
+fn toy(alloc: Global, row: Given, hard: &[&[u32]]) -> Result<Toy, PushFault>
     requires start { row.start ≤ row.most }
     requires variables { row.variables < 2 ^ 31 }
     requires clauses { length hard.now < 2 ^ 32 - 1 }
@@ -115,157 +123,66 @@ fn last_lines(proofs: &Proofs) -> u32 {
     }
 }
 
-/// The end of a row: its kind, its number, how many proofs there are, how many lines the last one has, and how many cells are abstracted
-/// in the end.
-fn end_of(
-    alloc: Global,
-    row: Row,
-    hard: &[&[u32]],
-) -> Result<(char, u64, usize, u32, usize), Fail> {
+fn tell_at(kind: &str, number: u64, told: &mut Told) {
+    told.text(kind);
+    told.number(i128::from(number));
+}
+
+/// How a decision ends, with its number if it has one.
+fn tell_end(end: &End, told: &mut Told) {
+    match end {
+        End::Proved(k) => tell_at("proved at ", u64::from(*k), told),
+        End::Failed(n, _) => tell_at("failed at ", u64::from(*n), told),
+        End::Depth(_) => told.text("depth"),
+        End::SpentLemmas => told.text("lemmas"),
+        End::SpentRegion(need, None) => tell_at("words ", *need, told),
+        End::SpentRegion(need, Some(_)) => tell_at("words with a lemma ", *need, told),
+    }
+}
+
+/// How a decision ends, how many proofs there are and how many lines the last one has.
+fn tell_decision(decision: &Decision, told: &mut Told) {
+    tell_end(&decision.end, told);
+    told.text("; proofs ");
+    told.number(decision.proofs.as_slice().len() as i128);
+    told.text(", lines ");
+    told.number(i128::from(last_lines(&decision.proofs)));
+}
+
+/// What is decided with an oracle, and how many cells are abstracted in the end.
+fn tell_decided(toy: &mut Toy, limits: &Limits, told: &mut Told)
+    requires depth { limits.now.depth ≤ LAST_QUERY }
+    requires lemmas { 1 ≤ limits.now.lemmas }
+    requires words { limits.now.words ≤ 250000000 }
+{
+    match decide(told.alloc(), toy, limits) {
+        Ok(decision) => tell_decision(&decision, told),
+        Err(OracleFault::Gates) => told.text("gates"),
+        Err(OracleFault::NoMemory) => told.lose(),
+    }
+    told.text("; cells ");
+    told.number(toy.chain().havoc.as_slice().len() as i128);
+}
+
+fn tell_with(row: Given, hard: &[&[u32]], told: &mut Told) {
     let limits = row.limits;
     let fit = limits.depth <= LAST_QUERY && limits.lemmas >= 1 && limits.words <= 250000000;
     if !fit || row.start > row.most || row.variables >= 1 << 31 || hard.len() >= 99 {
-        return Ok(('?', 0, 0, 0, 0));
+        return told.text("no such row");
     }
-    let mut toy = toy(alloc, row, hard)?;
-    let decided = decide(alloc, &mut toy, &limits);
-    let left = toy.chain().havoc.as_slice().len();
-    match decided {
-        Ok(decision) => {
-            let (kind, number) = match &decision.end {
-                End::Proved(k) => ('P', *k as u64),
-                End::Failed(n, _) => ('F', *n as u64),
-                End::Depth(_) => ('D', 0),
-                End::SpentLemmas => ('L', 0),
-                End::SpentRegion(need, None) => ('R', *need),
-                End::SpentRegion(need, Some(_)) => ('N', *need),
-            };
-            Ok((
-                kind,
-                number,
-                decision.proofs.as_slice().len(),
-                last_lines(&decision.proofs),
-                left,
-            ))
+    match toy(told.alloc(), row, hard) {
+        Ok(made) => {
+            let mut toy = made;
+            tell_decided(&mut toy, &limits, told);
         }
-        Err(OracleFault::Gates) => Ok(('G', 0, 0, 0, left)),
-        Err(OracleFault::NoMemory) => Err(AllocError)?,
+        Err(fault) => told.words(&fault),
     }
 }
 
-#[test]
-fn ends(rt: HostRuntime) -> Result<(), Fail> {
-    let alloc = rt.alloc();
-    let proved = end_of(alloc, ROW, &THREE)?;
-    assert_eq!(rt; proved, ('P', 0, 1, 1, 0));
-    let proved = end_of(alloc, Row { most: 2, ..ROW }, &THREE)?;
-    assert_eq!(rt; proved, ('P', 2, 3, 1, 0));
-    let failed = end_of(
-        alloc,
-        Row {
-            start: 1,
-            most: 1,
-            ..ROW
-        },
-        &THREE,
-    )?;
-    assert_eq!(rt; failed, ('F', 1, 0, 0, 0));
-    let failed = end_of(
-        alloc,
-        Row {
-            start: 3,
-            most: 3,
-            ..ROW
-        },
-        &THREE,
-    )?;
-    assert_eq!(rt; failed, ('F', 3, 2, 1, 0));
-    Ok(())
-}
-
-#[test]
-fn depths_and_rounds(rt: HostRuntime) -> Result<(), Fail> {
-    let alloc = rt.alloc();
-    let shallow = Limits {
-        depth: 0,
-        ..ROW.limits
-    };
-    let depth = Row {
-        most: 1,
-        limits: shallow,
-        ..ROW
-    };
-    assert_eq!(rt; end_of(alloc, depth, &THREE)?, ('D', 0, 0, 0, 0));
-    // Of two cells one is put back.
-    let differs = Row { cells: 2, ..depth };
-    assert_eq!(rt; end_of(alloc, differs, &THREE)?, ('D', 0, 0, 0, 1));
-    let limited = Row {
-        limited: true,
-        ..differs
-    };
-    assert_eq!(rt; end_of(alloc, limited, &THREE)?, ('G', 0, 0, 0, 1));
-    let deeper = Limits {
-        depth: 2,
-        ..ROW.limits
-    };
-    let depth = Row {
-        most: 3,
-        limits: deeper,
-        ..ROW
-    };
-    assert_eq!(rt; end_of(alloc, depth, &THREE)?, ('D', 0, 2, 1, 0));
-    Ok(())
-}
-
-#[test]
-fn spent(rt: HostRuntime) -> Result<(), Fail> {
-    let alloc = rt.alloc();
-    let one_lemma = Limits {
-        lemmas: 1,
-        ..ROW.limits
-    };
-    let hard = Row {
-        hard_from: 0,
-        limits: one_lemma,
-        ..ROW
-    };
-    assert_eq!(rt; end_of(alloc, hard, &THREE)?, ('L', 0, 1, 1, 0));
-    let hard = Row {
-        most: 2,
-        hard_from: 2,
-        ..hard
-    };
-    assert_eq!(rt; end_of(alloc, hard, &THREE)?, ('L', 0, 2, 1, 0));
-    // Seven variables take 14 words, and the first clause 4.
-    let words = Limits {
-        words: 13,
-        ..ROW.limits
-    };
-    let full = Row {
-        limits: words,
-        ..ROW
-    };
-    assert_eq!(rt; end_of(alloc, full, &THREE)?, ('R', 14, 1, 0, 0));
-    let words = Limits {
-        words: 16,
-        ..ROW.limits
-    };
-    let full = Row {
-        limits: words,
-        ..ROW
-    };
-    assert_eq!(rt; end_of(alloc, full, &THREE)?, ('R', 18, 1, 0, 0));
-    // The first lemma takes 7 words.
-    let words = Limits {
-        words: 30,
-        ..ROW.limits
-    };
-    let full = Row {
-        variables: 2,
-        hard_from: 0,
-        limits: words,
-        ..ROW
-    };
-    assert_eq!(rt; end_of(alloc, full, &TWO)?, ('N', 31, 1, 0, 0));
-    Ok(())
+/// What is decided of a row's numbers, where the hard formula is one of two variables, or of three.
+pub fn tell_row(said: &str, hard: &str, told: &mut Told) {
+    match hard {
+        "two" => tell_with(given(said), &TWO, told),
+        _ => tell_with(given(said), &THREE, told),
+    }
 }

@@ -1,14 +1,15 @@
 //! What answers a row.
 use crate::cells::{tell_count, tell_table, tell_view};
-use crate::forms::tell_form;
+use crate::forms::{tell_circuit, tell_form};
 use crate::leaves::tell_leaves;
 use crate::patterns::{tell_named, tell_pattern};
 use crate::rules::{tell_breaches, tell_checked, tell_type};
 use crate::scans::tell_scans;
+use crate::sizes::tell_size;
 use pv_rows_form::{Calls, Row, Told, last};
 
 /// What may stand at the beginning of a line that is no row.
-pub const NAMES: [&str; 16] = [
+pub const NAMES: [&str; 17] = [
     "#",
     "call ",
     "source",
@@ -25,6 +26,7 @@ pub const NAMES: [&str; 16] = [
     "steps",
     "begin",
     "end",
+    "limit",
 ];
 
 /// The calls on sources that have been read.
@@ -38,12 +40,14 @@ impl Calls for Meanings {
             "count" => tell_count(row, told),
             "view" => tell_view(row, told),
             "first form" => tell_form(row, told),
+            "circuit" => tell_circuit(row, told),
             "type" => tell_type(row, told),
             "checked" => tell_checked(row, told),
             "breaches" => tell_breaches(row, told),
             "pattern" => tell_pattern(row, told),
             "named" => tell_named(row, told),
             "scans" => tell_scans(row, told),
+            "size" => tell_size(row, told),
             _ => told.text("no such call"),
         }
     }

@@ -1,8 +1,11 @@
-//! Blocks of the first form with their Boolean programs.
-use crate::reading::{blocks_of, expression_of, said};
+//! Blocks of the first form with their Boolean programs, and the step circuits of these.
+use crate::reading::{blocks_of, expression_of, number_of, said};
 use pv_bool::{Bit, BitRole, Program, Term};
 use pv_bool_form::{first_form, is_first_block, is_first_requirement};
+use pv_circuit::StepCircuit;
+use pv_gate::{GateFault, Gates};
 use pv_rows_form::{Row, Told};
+use pv_step::circuit;
 use pv_tree::{Block, Expr};
 use pv_types::MAX_LEAVES;
 use std::alloc::{AllocError, Global};
@@ -132,6 +135,71 @@ pub fn tell_form(row: Row<'_>, told: &mut Told) {
         match blocks.as_slice().first() {
             Some(block) => tell_block(block, &a, scans.as_str(), told),
             None => told.text("no block"),
+        }
+        drop(a);
+    }
+    drop(blocks);
+}
+
+/// The nodes of a circuit but the first.
+fn tell_nodes(gates: &Gates, told: &mut Told) {
+    let mut between = "";
+    for n in 1..gates.nodes() {
+        told.text(between);
+        told.words(&gates.node(n + 1));
+        between = " ";
+    }
+}
+
+fn tell_literals(literals: &[i32], told: &mut Told) {
+    told.text(" /");
+    for literal in literals {
+        told.text(" ");
+        told.number(i128::from(*literal));
+    }
+}
+
+/// A circuit: its nodes, the literals of its inputs and of its state before and after, and those of the requirement, kept and not.
+fn tell_step(step: &StepCircuit, told: &mut Told) {
+    tell_nodes(&step.gates, told);
+    tell_literals(step.input.as_slice(), told);
+    tell_literals(step.state_in.as_slice(), told);
+    tell_literals(step.state_out.as_slice(), told);
+    tell_literals(&[step.ok, step.fail], told);
+}
+
+/// A program's step circuit within so many gates.
+fn tell_within(program: &Program, limit: u32, told: &mut Told) {
+    if program.bits.len() > 100 || limit > 100 {
+        return;
+    }
+    match circuit(told.alloc(), program, limit) {
+        Ok(step) => tell_step(&step, told),
+        Err(GateFault::Limit) => told.text("limit"),
+        Err(GateFault::NoMemory) => told.lose(),
+    }
+}
+
+/// The step circuit of a block and a requirement of the first form.
+fn tell_first(block: &Block, a: &Expr, limit: u32, told: &mut Told) {
+    match first_form(told.alloc(), block, a) {
+        Ok(Some(program)) => {
+            tell_within(&program, limit, told);
+            drop(program);
+        }
+        Ok(None) => told.text("not of the first form"),
+        Err(_) => told.lose(),
+    }
+}
+
+/// The step circuit of the first block of the row's source and its expression.
+pub fn tell_circuit(row: Row<'_>, told: &mut Told) {
+    let limit = number_of(said(row, "limit", told).as_str());
+    let text = said(row, "expression", told);
+    let blocks = blocks_of(row, told);
+    if let Some(a) = expression_of(text.as_str(), told) {
+        if let Some(block) = blocks.as_slice().first() {
+            tell_first(block, &a, limit, told);
         }
         drop(a);
     }

@@ -11,6 +11,7 @@ mod patterns;
 mod reading;
 mod rules;
 mod scans;
+mod sizes;
 
 use calls::{Meanings, NAMES};
 use pv_rows_form::show_all;

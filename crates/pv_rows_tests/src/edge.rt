@@ -1,25 +1,11 @@
-//! Tests of texts, of the files and the sink in memory, and of those of the host.
+//! Tests of texts, and of the host's files and output.
 use crate::slow::Slow;
-use pv_edge::{
-    FileFault, Files, HostFiles, HostOut, MemFiles, MemSink, Sink, SinkFault, Text, text, write_all,
-};
-use std::alloc::{AllocError, Global};
+use pv_edge::{FileFault, Files, HostFiles, HostOut, Sink, SinkFault, Text, text, write_all};
+use std::alloc::Global;
 use std::cell::{Cell, RefCell};
 use std::collections::HashMap;
 use std::fs;
 use std::test::Fail;
-
-/// A sink that takes pieces of this size and fails at this call.
-fn sink(alloc: Global, piece: usize, failing: u64) -> Result<MemSink, AllocError> {
-    let fail_at = Vec::from_slice(alloc, &[failing])?;
-    Ok(MemSink {
-        taken: Vec::new(alloc),
-        piece,
-        calls: 0,
-        fail_at,
-        faults: 0,
-    })
-}
 
 #[test]
 fn texts_compare_by_bytes(rt: HostRuntime) -> Result<(), Fail> {
@@ -35,83 +21,6 @@ fn texts_compare_by_bytes(rt: HostRuntime) -> Result<(), Fail> {
         counts.get(&long).copied(),
     );
     assert_eq!(rt; found, (Some(1), None));
-    Ok(())
-}
-
-/// Files that fail at these calls.
-fn files(alloc: Global, failing: &[u64]) -> Result<MemFiles, AllocError> {
-    Ok(MemFiles {
-        files: Vec::new(alloc),
-        calls: 0,
-        fail_at: Vec::from_slice(alloc, failing)?,
-        read_faults: 0,
-        write_faults: 0,
-    })
-}
-
-/// Whether a read gives these bytes.
-fn holds(alloc: Global, files: &mut MemFiles, name: &str, bytes: &[u8]) -> bool {
-    match files.read(alloc, name) {
-        Ok(read) => read.as_slice() == bytes,
-        Err(_) => false,
-    }
-}
-
-#[test]
-fn files_hold_what_was_written(rt: HostRuntime) -> Result<(), Fail> {
-    let alloc = rt.alloc();
-    let mut files = files(alloc, &[4, 5])?;
-    let missing = matches!(files.read(alloc, "a"), Err(FileFault::Failed));
-    files.write(alloc, "a", b"one")?;
-    files.write(alloc, "a", b"two")?;
-    let unread = matches!(files.read(alloc, "a"), Err(FileFault::Failed));
-    let unwritten = matches!(files.write(alloc, "a", b"no"), Err(FileFault::Failed));
-    assert!(rt; missing && unread && unwritten);
-    files.write(alloc, "b", b"three")?;
-    let first = holds(alloc, &mut files, "a", b"two");
-    let second = holds(alloc, &mut files, "b", b"three");
-    let counts = (
-        files.files.len(),
-        files.calls,
-        files.read_faults,
-        files.write_faults,
-    );
-    assert_eq!(rt; (first, second, counts), (true, true, (2, 8, 2, 1)));
-    Ok(())
-}
-
-#[test]
-fn a_sink_takes_pieces(rt: HostRuntime) -> Result<(), Fail> {
-    let mut whole = sink(rt.alloc(), 1, 0)?;
-    write_all(&mut whole, b"abc")?;
-    write_all(&mut whole, b"d")?;
-    let counts = (whole.calls, whole.faults);
-    assert_eq!(rt;
-        (whole.taken.as_slice(), counts),
-        (b"abcd".as_slice(), (4, 0))
-    );
-    Ok(())
-}
-
-#[test]
-fn a_sink_fails_at_a_call(rt: HostRuntime) -> Result<(), Fail> {
-    let mut broken = sink(rt.alloc(), 2, 3)?;
-    let failed = matches!(write_all(&mut broken, b"abcdefg"), Err(SinkFault::Failed));
-    let counts = (failed, broken.calls, broken.faults);
-    assert_eq!(rt;
-        (broken.taken.as_slice(), counts),
-        (b"abcd".as_slice(), (true, 3, 1))
-    );
-    Ok(())
-}
-
-#[test]
-fn a_sink_takes_nothing(rt: HostRuntime) -> Result<(), Fail> {
-    let mut stalled = sink(rt.alloc(), 0, 9)?;
-    let taken = stalled.write(b"a")?;
-    let once = stalled.faults;
-    let failed = matches!(write_all(&mut stalled, b"a"), Err(SinkFault::Failed));
-    assert_eq!(rt; (taken, once, failed, stalled.faults), (0, 1, true, 2));
     Ok(())
 }
 

@@ -2,17 +2,11 @@
 #![tactic(auto)]
 
 #[cfg(test)]
-mod bits;
-#[cfg(test)]
 mod edge;
 #[cfg(test)]
-mod gate;
-#[cfg(test)]
-mod gate_clauses;
+mod region;
 #[cfg(test)]
 mod slow;
-#[cfg(test)]
-mod step;
 #[cfg(test)]
 mod trace;
 #[cfg(test)]

@@ -1,10 +1,13 @@
 -- Statements of the code as plain data, form by form, and the walk over lists of them, one element more.
-use Rattle.std.proofs.Common.{◌≡◌, ℕ, ◌<◌, ◌+◌, suc, refl, sym, ap, ◌∙◌, List, [], ◌∷◌, ◌++◌, map, drop, get_or, length, arith, append_assoc, Option}
-use Rattle.std.specs.Prelude.{option_to_list}
+use Rattle.std.proofs.Common.{◌≡◌, ℕ, ◌<◌, ◌+◌, suc, refl, sym, ap, ◌∙◌, List, [], ◌∷◌, ◌++◌, map, drop, get_or, length, arith, Option}
+use Rattle.std.specs.Prelude.{option_to_list, Result, IfOk}
+use Rattle.std.proofs.lemmas.Result.{IfOk-weaker}
 use Rattle.std.proofs.Math.Seq.{drop-cons}
 use Rattle.pv_place.specs.declared.place.Place.{Place}
 use Rattle.pv_tree.specs.declared.stmt.Choice.{Choice}
+use Rattle.pv_tree.specs.declared.stmt.Stmt.{size-Stmt, the_lemmas}
 use Rattle.pv_tree.specs.declared.stmt.Stmt.TheViews as form
+use denote.Param.Weighed.{most}
 use Rattle.pv_tree.specs.Tree.{ExprTree, Choices, StmtTree, StmtTrees, if_, case_, ArmTrees, BranchTrees, ElseTree}
 use Rattle.pv_tree.specs.View.{stmts_of, arms_of, branches_of}
 use Rattle.pv_tree.specs.Parts.{Loop, Spot, spots_of, spots_of_stmts, spots_of_arms, spots_of_branches, spots_of_else, conditions_of}
@@ -22,19 +25,34 @@ conditions_seen g (x ∷ xs) = ap (λ l. (g x).0 ∷ l) (conditions_seen g xs)
 
 -- ---- the walk
 
-pub if_begun : (f : Spot → Option Place) (loops : List Loop) (s : StmtTree) (all : ArmTrees) (other : ElseTree) (place : Place) (n m : Option Place)
-    → s ≡ if_ all other place → m ≡ nearer_of n (f (spot loops s))
-    → nearest_in f (spots_of_arms loops all ++ spots_of_else loops other) m ≡ nearest_in f (spots_of loops s) n
-if_begun f loops s all other place n m is begun =
-    ap (nearest_in f (spots_of_arms loops all ++ spots_of_else loops other)) (begun ∙ ap (λ t. nearer_of n (f (spot loops t))) is)
-    ∙ ap (λ t. nearest_in f (spots_of loops t) n) (sym is)
+-- the statements of branches are less deep than their CASE
+pub case_deeper : (selector : _) (all : _) (other : _) (place : Place)
+    → most (λ b. most size-Stmt b.1.items) all.items < size-Stmt (form.Case selector all other place)
+case_deeper selector all other place = grind (arith, the_lemmas)
 
-pub case_begun : (f : Spot → Option Place) (loops : List Loop) (s : StmtTree) (e : ExprTree) (all : BranchTrees) (other : ElseTree) (place : Place)
-    (n m : Option Place) → s ≡ case_ e all other place → m ≡ nearer_of n (f (spot loops s))
-    → nearest_in f (spots_of_branches loops all ++ spots_of_else loops other) m ≡ nearest_in f (spots_of loops s) n
-case_begun f loops s e all other place n m is begun =
-    ap (nearest_in f (spots_of_branches loops all ++ spots_of_else loops other)) (begun ∙ ap (λ t. nearer_of n (f (spot loops t))) is)
-    ∙ ap (λ t. nearest_in f (spots_of loops t) n) (sym is)
+-- a statement's own place is looked at first
+begun_by : (f : Spot → Option Place) (loops : List Loop) (s t : StmtTree) (n m : Option Place) → s ≡ t → m ≡ nearer_of n (f (spot loops s))
+    → m ≡ nearer_of n (f (spot loops t))
+begun_by f loops s t n m is begun = begun ∙ ap (λ t. nearer_of n (f (spot loops t))) is
+
+module _ {E : Type 0} (f : Spot → Option Place) (loops : List Loop) (s : StmtTree) (n m b : Option Place) (result : Result (Option Place) E) where
+  pub if_walked : (all : ArmTrees) (other : ElseTree) (place : Place) → s ≡ if_ all other place → m ≡ nearer_of n (f (spot loops s))
+      → b ≡ nearest_in f (spots_of_arms loops all) m
+      → IfOk result (λ r. r ≡ nearest_in f (spots_of_else loops other) b) → IfOk result (λ r. r ≡ nearest_in f (spots_of loops s) n)
+  if_walked all other place is begun armed = IfOk-weaker result _ _ (λ r behind. behind
+      ∙ ap (nearest_in f (spots_of_else loops other)) armed
+      ∙ sym (in_append f (spots_of_arms loops all) (spots_of_else loops other) m)
+      ∙ ap (nearest_in f (spots_of_arms loops all ++ spots_of_else loops other)) (begun_by f loops s (if_ all other place) n m is begun)
+      ∙ ap (λ t. nearest_in f (spots_of loops t) n) (sym is))
+
+  pub case_walked : (e : ExprTree) (all : BranchTrees) (other : ElseTree) (place : Place) → s ≡ case_ e all other place
+      → m ≡ nearer_of n (f (spot loops s)) → b ≡ nearest_in f (spots_of_branches loops all) m
+      → IfOk result (λ r. r ≡ nearest_in f (spots_of_else loops other) b) → IfOk result (λ r. r ≡ nearest_in f (spots_of loops s) n)
+  case_walked e all other place is begun chosen = IfOk-weaker result _ _ (λ r behind. behind
+      ∙ ap (nearest_in f (spots_of_else loops other)) chosen
+      ∙ sym (in_append f (spots_of_branches loops all) (spots_of_else loops other) m)
+      ∙ ap (nearest_in f (spots_of_branches loops all ++ spots_of_else loops other)) (begun_by f loops s (case_ e all other place) n m is begun)
+      ∙ ap (λ t. nearest_in f (spots_of loops t) n) (sym is))
 
 module _ {X : Type 0} (f : Spot → Option Place) (loops : List Loop) (xs : List X) (i j : ℕ) (x : X) (n m total : Option Place) where
   pub next_stmt : (g : X → StmtTree) → i < length xs → x ≡ get_or xs i x → j ≡ i + 1 → m ≡ nearest_in f (spots_of loops (g x)) n
@@ -49,33 +67,31 @@ module _ {X : Type 0} (f : Spot → Option Place) (loops : List Loop) (xs : List
       ∙ ap (λ l. nearest_in f (spots_of_stmts loops (stmts_of (map g l))) n) (sym (drop-cons xs i x inside ∙ ap (λ y. y ∷ drop (suc i) xs) (sym is)))
       ∙ left
 
-  pub next_arm : (g : X → ExprTree × StmtTrees) (behind : List Spot) → i < length xs → x ≡ get_or xs i x → j ≡ i + 1
+  pub next_arm : (g : X → ExprTree × StmtTrees) → i < length xs → x ≡ get_or xs i x → j ≡ i + 1
       → m ≡ nearest_in f (spots_of_stmts loops (g x).1) n
-      → nearest_in f (spots_of_arms loops (arms_of (map g (drop i xs))) ++ behind) n ≡ total
-      → nearest_in f (spots_of_arms loops (arms_of (map g (drop j xs))) ++ behind) m ≡ total
-  next_arm g behind inside is next looked left =
+      → nearest_in f (spots_of_arms loops (arms_of (map g (drop i xs)))) n ≡ total
+      → nearest_in f (spots_of_arms loops (arms_of (map g (drop j xs)))) m ≡ total
+  next_arm g inside is next looked left =
       let k : j ≡ suc i = omega (arith, next) in
       let rest = spots_of_arms loops (arms_of (map g (drop (suc i) xs))) in
-      ap (λ k. nearest_in f (spots_of_arms loops (arms_of (map g (drop k xs))) ++ behind) m) k
-      ∙ ap (nearest_in f (rest ++ behind)) looked
-      ∙ sym (in_append f (spots_of_stmts loops (g x).1) (rest ++ behind) n)
-      ∙ ap (λ l. nearest_in f l n) (sym (append_assoc (spots_of_stmts loops (g x).1) rest behind))
-      ∙ ap (λ l. nearest_in f (spots_of_arms loops (arms_of (map g l)) ++ behind) n)
+      ap (λ k. nearest_in f (spots_of_arms loops (arms_of (map g (drop k xs)))) m) k
+      ∙ ap (nearest_in f rest) looked
+      ∙ sym (in_append f (spots_of_stmts loops (g x).1) rest n)
+      ∙ ap (λ l. nearest_in f (spots_of_arms loops (arms_of (map g l))) n)
       (sym (drop-cons xs i x inside ∙ ap (λ y. y ∷ drop (suc i) xs) (sym is)))
       ∙ left
 
-  pub next_branch : (g : X → Choices × StmtTrees) (behind : List Spot) → i < length xs → x ≡ get_or xs i x → j ≡ i + 1
+  pub next_branch : (g : X → Choices × StmtTrees) → i < length xs → x ≡ get_or xs i x → j ≡ i + 1
       → m ≡ nearest_in f (spots_of_stmts loops (g x).1) n
-      → nearest_in f (spots_of_branches loops (branches_of (map g (drop i xs))) ++ behind) n ≡ total
-      → nearest_in f (spots_of_branches loops (branches_of (map g (drop j xs))) ++ behind) m ≡ total
-  next_branch g behind inside is next looked left =
+      → nearest_in f (spots_of_branches loops (branches_of (map g (drop i xs)))) n ≡ total
+      → nearest_in f (spots_of_branches loops (branches_of (map g (drop j xs)))) m ≡ total
+  next_branch g inside is next looked left =
       let k : j ≡ suc i = omega (arith, next) in
       let rest = spots_of_branches loops (branches_of (map g (drop (suc i) xs))) in
-      ap (λ k. nearest_in f (spots_of_branches loops (branches_of (map g (drop k xs))) ++ behind) m) k
-      ∙ ap (nearest_in f (rest ++ behind)) looked
-      ∙ sym (in_append f (spots_of_stmts loops (g x).1) (rest ++ behind) n)
-      ∙ ap (λ l. nearest_in f l n) (sym (append_assoc (spots_of_stmts loops (g x).1) rest behind))
-      ∙ ap (λ l. nearest_in f (spots_of_branches loops (branches_of (map g l)) ++ behind) n)
+      ap (λ k. nearest_in f (spots_of_branches loops (branches_of (map g (drop k xs)))) m) k
+      ∙ ap (nearest_in f rest) looked
+      ∙ sym (in_append f (spots_of_stmts loops (g x).1) rest n)
+      ∙ ap (λ l. nearest_in f (spots_of_branches loops (branches_of (map g l))) n)
       (sym (drop-cons xs i x inside ∙ ap (λ y. y ∷ drop (suc i) xs) (sym is)))
       ∙ left
 

@@ -34,17 +34,17 @@ pub struct Counting {
     pub by: i64,
 }
 
-/// A statement. Values, targets and calls go by their numbers in the program; a loop has its place.
+/// A statement. Values, targets and calls go by their numbers in the program; a loop has its place, and its test is a condition.
 #[derive(Clone, Copy)]
 pub enum Stmt {
     Assign {
         value: u32,
-        target: u32,
+        to: u32,
     },
     /// The value of a call goes to a target; the place is the call's.
     AssignCall {
         call: u32,
-        target: u32,
+        to: u32,
         place: Place,
     },
     If {
@@ -57,18 +57,18 @@ pub enum Stmt {
         other: List,
     },
     For {
-        counting: Counting,
+        count: Counting,
         body: List,
         place: Place,
     },
     While {
-        condition: u32,
+        test: u32,
         body: List,
         place: Place,
     },
     Repeat {
         body: List,
-        condition: u32,
+        test: u32,
         place: Place,
     },
     Exit,

@@ -105,9 +105,7 @@ impl Program {
         ensures { RunsStmt self.now k stmt.now at (frame_in visible.old own.old) result (frame_in visible.new own.new) }
     {
         match stmt {
-            Stmt::Assign { value, target } => {
-                self.assign(*value, *target, at, visible, own, scratch)
-            }
+            Stmt::Assign { value, to } => self.assign(*value, *to, at, visible, own, scratch),
             _ => self.run_other(k, stmt, at, visible, own, below, turns, scratch),
         }
     }
@@ -129,16 +127,10 @@ impl Program {
         ensures { RunsStmt self.now k stmt.now at (frame_in visible.old own.old) result (frame_in visible.new own.new) }
     {
         match stmt {
-            Stmt::Assign { value, target } => {
-                self.assign(*value, *target, at, visible, own, scratch)
+            Stmt::Assign { value, to } => self.assign(*value, *to, at, visible, own, scratch),
+            Stmt::AssignCall { call, to, place } => {
+                self.run_assigned(*call, *to, *place, at, visible, own, below, turns, scratch)
             }
-            Stmt::AssignCall {
-                call,
-                target,
-                place,
-            } => self.run_assigned(
-                *call, *target, *place, at, visible, own, below, turns, scratch,
-            ),
             Stmt::If { arms, other } => {
                 self.run_if(k, *arms, *other, at, visible, own, below, turns, scratch)
             }
@@ -149,31 +141,19 @@ impl Program {
             } => self.run_case(
                 k, *selector, *branches, *other, at, visible, own, below, turns, scratch,
             ),
-            Stmt::For {
-                counting,
-                body,
-                place,
-            } => self.run_counted(
-                k, counting, *body, *place, at, visible, own, below, turns, scratch,
+            Stmt::For { count, body, place } => self.run_counted(
+                k, count, *body, *place, at, visible, own, below, turns, scratch,
             ),
-            Stmt::While {
-                condition,
-                body,
-                place,
-            } => {
+            Stmt::While { test, body, place } => {
                 let body = body.before(k);
                 self.run_while(
-                    body, *condition, *place, at, visible, own, below, turns, scratch,
+                    body, *test, *place, at, visible, own, below, turns, scratch,
                 )
             }
-            Stmt::Repeat {
-                body,
-                condition,
-                place,
-            } => {
+            Stmt::Repeat { body, test, place } => {
                 let body = body.before(k);
                 self.run_repeat(
-                    body, *condition, *place, at, visible, own, below, turns, scratch,
+                    body, *test, *place, at, visible, own, below, turns, scratch,
                 )
             }
             Stmt::Exit => Ok(Flow::Exit),

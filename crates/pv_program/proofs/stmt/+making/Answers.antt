@@ -1,9 +1,8 @@
-use Rattle.std.proofs.Common.{refl, sym, ap, ◌∙◌, subst, arith}
-use Rattle.pv_tree.specs.Tree.{for_, while_, repeat_}
+use Rattle.std.proofs.Common.{refl, ap, ◌∙◌, subst, arith}
 use Rattle.pv_tree.specs.View.{expr_tree, stmt_tree, stmt_trees}
 use Rattle.pv_tree.proofs.ForCallers.{stmt-for, stmt-if, stmt-case}
 use Rattle.pv_resolve.specs.Contexts.{block_in}
-use Rattle.pv_run.specs.Code.{AreChoices, decides, selects, counts, goes_while, repeats, exits, continues, returns, nothing, calls}
+use Rattle.pv_run.specs.Code.{AreChoices, decides, selects, counts, goes_while, repeats, exits, continues, returns, nothing}
 use Rattle.pv_program.specs.Made.{IsNext, IsArm, IsBranch}
 use Rattle.pv_program.proofs.Growing.{extends-same, extends-then}
 use Rattle.pv_program.proofs.Keeping.{value-kept, choices-kept, counts-kept, stmt-kept, body-kept, arms-kept, branches-kept, arm-kept, branch-kept}
@@ -91,7 +90,7 @@ make_other-returns-in-None t c = record { grows = extends-same c.args.program.no
 pub make_if-returns : goal.make_if-returns
 make_if-returns t c = record {
   grows = extends-then _ _ _ c.in_ok-span.ensures.grows c.in_ok-list.ensures.grows;
-  means = λ source is.
+  means = λ source place is.
       decides (arms-kept c.in_ok-list.ensures.grows c.in_ok-list.ensures.grows.longer (c.in_ok-span.ensures.are source is))
       (c.in_ok-list.ensures.is source is);
 }
@@ -101,7 +100,7 @@ make_case-returns t c =
     let behind = extends-then _ _ _ c.in_ok-span.ensures.grows c.in_ok-list.ensures.grows in
     record {
       grows = extends-then _ _ _ c.in_ok-value.ensures.grows behind;
-      means = λ source is.
+      means = λ source place is.
           selects (value-kept behind (c.in_ok-value.ensures.means source is))
           (branches-kept c.in_ok-list.ensures.grows c.in_ok-list.ensures.grows.longer (c.in_ok-span.ensures.are source is))
           (c.in_ok-list.ensures.is source is);
@@ -109,23 +108,26 @@ make_case-returns t c =
 
 pub make_for-returns : goal.make_for-returns
 make_for-returns t c = record {
-  grows = extends-then _ _ _ c.in_ok-counting.ensures.grows c.in_ok-list.ensures.grows;
-  means = λ source is. counts (counts-kept c.in_ok-list.ensures.grows (c.in_ok-counting.ensures.counts source is)) (c.in_ok-list.ensures.is source is);
+  grows = extends-then _ _ _ c.in_ok-count.ensures.grows c.in_ok-list.ensures.grows;
+  means = λ source is. counts (counts-kept c.in_ok-list.ensures.grows (c.in_ok-count.ensures.counts source is))
+      (list-as _ _ c.as_slice.ensures.value (c.in_ok-list.ensures.is source is));
 }
 
 pub make_while-returns : goal.make_while-returns
 make_while-returns t c = record {
-  grows = extends-then _ _ _ c.in_ok-condition.ensures.grows c.in_ok-list.ensures.grows;
+  grows = extends-then _ _ _ c.in_ok-test.ensures.grows c.in_ok-list.ensures.grows;
   means = λ source is.
-      goes_while (value-kept c.in_ok-list.ensures.grows (c.in_ok-condition.ensures.means source is)) (c.in_ok-list.ensures.is source is);
+      goes_while (value-kept c.in_ok-list.ensures.grows (c.in_ok-test.ensures.means source is))
+      (list-as _ _ c.as_slice.ensures.value (c.in_ok-list.ensures.is source is));
 }
 
 pub make_repeat-returns : goal.make_repeat-returns
 make_repeat-returns t c = record {
-  grows = extends-then _ _ _ c.in_ok-list.ensures.grows c.in_ok-condition.ensures.grows;
+  grows = extends-then _ _ _ c.in_ok-list.ensures.grows c.in_ok-test.ensures.grows;
   means = λ source is.
-      repeats (body-kept c.in_ok-condition.ensures.grows c.in_ok-condition.ensures.grows.longer (c.in_ok-list.ensures.is source is))
-      (c.in_ok-condition.ensures.means source is);
+      repeats (body-kept c.in_ok-test.ensures.grows c.in_ok-test.ensures.grows.longer
+      (list-as _ _ c.as_slice.ensures.value (c.in_ok-list.ensures.is source is)))
+      (c.in_ok-test.ensures.means source is);
 }
 
 pub make_list-loop-stmt-init : goal.make_list-loop-stmt-init
@@ -157,45 +159,43 @@ make_list-returns t c = record {
 pub make_stmt-returns-in-Assign : goal.make_stmt-returns-in-Assign
 make_stmt-returns-in-Assign t c = record {
   grows = c.make_assign.ensures.grows;
-  means = λ source is. next-as source (block_in c.args.context.now) _ c.make_assign.result _ _ (ap stmt_tree c.in-Assign.is ∙ stmt-assign c.in-Assign.target c.in-Assign.place c.in-Assign.value) (c.make_assign.ensures.means source is);
+  means = λ source is. next-as source (block_in c.args.context.now) _ c.make_assign.result _ _ (ap stmt_tree c.in-Assign.is ∙ stmt-assign c.in-Assign.target c.in-Assign.place c.in-Assign.value) (c.make_assign.ensures.means source c.in-Assign.place is);
 }
 
 pub make_stmt-returns-in-AssignCall : goal.make_stmt-returns-in-AssignCall
 make_stmt-returns-in-AssignCall t c = record {
   grows = c.make_assign_call.ensures.grows;
-  means = λ source is. next-as source (block_in c.args.context.now) _ c.make_assign_call.result _ _ (ap stmt_tree c.in-AssignCall.is ∙ stmt-assign_call c.in-AssignCall.target c.in-AssignCall.place c.in-AssignCall.call) (c.make_assign_call.ensures.means source is);
+  means = λ source is. next-as source (block_in c.args.context.now) _ c.make_assign_call.result _ _ (ap stmt_tree c.in-AssignCall.is ∙ stmt-assign_call c.in-AssignCall.target c.in-AssignCall.place c.in-AssignCall.call) (c.make_assign_call.ensures.means source c.in-AssignCall.place is);
 }
 
 pub make_stmt-returns-in-If : goal.make_stmt-returns-in-If
 make_stmt-returns-in-If t c = record {
   grows = c.make_if.ensures.grows;
-  means = λ source is. next-as source (block_in c.args.context.now) _ c.make_if.result _ _ (ap stmt_tree c.in-If.is ∙ stmt-if c.in-If.arms c.in-If.other c.in-If.place) (c.make_if.ensures.means source is);
+  means = λ source is. next-as source (block_in c.args.context.now) _ c.make_if.result _ _ (ap stmt_tree c.in-If.is ∙ stmt-if c.in-If.arms c.in-If.other c.in-If.place) (c.make_if.ensures.means source c.in-If.place is);
 }
 
 pub make_stmt-returns-in-Case : goal.make_stmt-returns-in-Case
 make_stmt-returns-in-Case t c = record {
   grows = c.make_case.ensures.grows;
-  means = λ source is. next-as source (block_in c.args.context.now) _ c.make_case.result _ _ (ap stmt_tree c.in-Case.is ∙ stmt-case c.in-Case.selector c.in-Case.branches c.in-Case.other c.in-Case.place) (c.make_case.ensures.means source is);
+  means = λ source is. next-as source (block_in c.args.context.now) _ c.make_case.result _ _ (ap stmt_tree c.in-Case.is ∙ stmt-case c.in-Case.selector c.in-Case.branches c.in-Case.other c.in-Case.place) (c.make_case.ensures.means source c.in-Case.place is);
 }
 
 pub make_stmt-returns-in-For : goal.make_stmt-returns-in-For
 make_stmt-returns-in-For t c = record {
   grows = c.make_for.ensures.grows;
-  means = λ source is. next-as source (block_in c.args.context.now) _ c.make_for.result _ _ (ap stmt_tree c.in-For.is ∙ stmt-for c.in-For.var c.in-For.var_place c.in-For.first c.in-For.last c.in-For.by c.in-For.body c.in-For.place
-      ∙ ap (λ l. for_ c.in-For.var c.in-For.var_place (expr_tree c.in-For.first) (expr_tree c.in-For.last) c.in-For.by (stmt_trees l) c.in-For.place)
-      (sym c.as_slice.ensures.value)) (c.make_for.ensures.means source is);
+  means = λ source is. next-as source (block_in c.args.context.now) _ c.make_for.result _ _ (ap stmt_tree c.in-For.is ∙ stmt-for c.in-For.var c.in-For.var_place c.in-For.first c.in-For.last c.in-For.by c.in-For.body c.in-For.place) (c.make_for.ensures.means source is);
 }
 
 pub make_stmt-returns-in-While : goal.make_stmt-returns-in-While
 make_stmt-returns-in-While t c = record {
   grows = c.make_while.ensures.grows;
-  means = λ source is. next-as source (block_in c.args.context.now) _ c.make_while.result _ _ (ap stmt_tree c.in-While.is ∙ stmt-while c.in-While.cond c.in-While.body c.in-While.place ∙ ap (λ l. while_ (expr_tree c.in-While.cond) (stmt_trees l) c.in-While.place) (sym c.as_slice-in-While.ensures.value)) (c.make_while.ensures.means source is);
+  means = λ source is. next-as source (block_in c.args.context.now) _ c.make_while.result _ _ (ap stmt_tree c.in-While.is ∙ stmt-while c.in-While.cond c.in-While.body c.in-While.place) (c.make_while.ensures.means source is);
 }
 
 pub make_stmt-returns-in-Repeat : goal.make_stmt-returns-in-Repeat
 make_stmt-returns-in-Repeat t c = record {
   grows = c.make_repeat.ensures.grows;
-  means = λ source is. next-as source (block_in c.args.context.now) _ c.make_repeat.result _ _ (ap stmt_tree c.in-Repeat.is ∙ stmt-repeat c.in-Repeat.body c.in-Repeat.cond c.in-Repeat.place ∙ ap (λ l. repeat_ (stmt_trees l) (expr_tree c.in-Repeat.cond) c.in-Repeat.place) (sym c.as_slice-in-Repeat.ensures.value)) (c.make_repeat.ensures.means source is);
+  means = λ source is. next-as source (block_in c.args.context.now) _ c.make_repeat.result _ _ (ap stmt_tree c.in-Repeat.is ∙ stmt-repeat c.in-Repeat.body c.in-Repeat.cond c.in-Repeat.place) (c.make_repeat.ensures.means source is);
 }
 
 pub make_stmt-returns-in-Exit : goal.make_stmt-returns-in-Exit
@@ -222,8 +222,8 @@ make_stmt-returns-in-Empty t c = record {
   means = λ source is. is-next-as _ _ (ap stmt_tree c.in-Empty.is ∙ stmt-empty c.in-Empty.field-0) nothing;
 }
 
-pub make_stmt-returns-in_ok-made-in-Call : goal.make_stmt-returns-in_ok-made-in-Call
-make_stmt-returns-in_ok-made-in-Call t c = record {
-  grows = c.in_ok-made-in-Call.ensures.grows;
-  means = λ source is. is-next-as _ _ (ap stmt_tree c.in-Call.is ∙ stmt-call c.in-Call.call) (calls (c.in_ok-made-in-Call.ensures.means source is));
+pub make_stmt-returns-in-Call : goal.make_stmt-returns-in-Call
+make_stmt-returns-in-Call t c = record {
+  grows = c.make_called.ensures.grows;
+  means = λ source is. next-as source (block_in c.args.context.now) _ c.make_called.result _ _ (ap stmt_tree c.in-Call.is ∙ stmt-call c.in-Call.call) (c.make_called.ensures.means source is);
 }

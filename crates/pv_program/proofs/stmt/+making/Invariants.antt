@@ -46,13 +46,13 @@ abbrev pub decreases-make_case : goal.decreases-make_case
 decreases-make_case l = 4 * max (of_branches l.branches.now.items) (of_other l.other.now) + 3
 
 abbrev pub decreases-make_for : goal.decreases-make_for
-decreases-make_for l = 4 * of_list l.body.now + 3
+decreases-make_for l = 4 * of_list l.body.now.items + 3
 
 abbrev pub decreases-make_while : goal.decreases-make_while
-decreases-make_while l = 4 * of_list l.body.now + 3
+decreases-make_while l = 4 * of_list l.body.now.items + 3
 
 abbrev pub decreases-make_repeat : goal.decreases-make_repeat
-decreases-make_repeat l = 4 * of_list l.body.now + 3
+decreases-make_repeat l = 4 * of_list l.body.now.items + 3
 
 abbrev pub decreases-make_stmt : goal.decreases-make_stmt
 decreases-make_stmt l = 4 * size-Stmt l.stmt.now

@@ -6,5 +6,5 @@ use Rattle.pv_program.proofs.stmt.make_assign.Goals as goal
 pub returns : goal.returns
 returns c = record {
   grows = extends-then _ _ _ c.in_ok-from.ensures.grows c.in_ok-to.ensures.grows;
-  means = λ source is. assigns (value-kept c.in_ok-to.ensures.grows (c.in_ok-from.ensures.means source is)) (c.in_ok-to.ensures.means source is);
+  means = λ source place is. assigns (value-kept c.in_ok-to.ensures.grows (c.in_ok-from.ensures.means source is)) (c.in_ok-to.ensures.means source is);
 }

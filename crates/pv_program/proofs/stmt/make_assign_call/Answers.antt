@@ -6,5 +6,5 @@ use Rattle.pv_program.proofs.stmt.make_assign_call.Goals as goal
 pub returns : goal.returns
 returns c = record {
   grows = extends-then _ _ _ c.in_ok-made.ensures.grows c.in_ok-to.ensures.grows;
-  means = λ source is. assigns_call (call-kept c.in_ok-to.ensures.grows (c.in_ok-made.ensures.means source is)) (c.in_ok-to.ensures.means source is);
+  means = λ source place is. assigns_call (call-kept c.in_ok-to.ensures.grows (c.in_ok-made.ensures.means source is)) (c.in_ok-to.ensures.means source is);
 }

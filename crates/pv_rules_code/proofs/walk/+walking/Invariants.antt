@@ -1,26 +1,52 @@
-use Rattle.std.proofs.Common.{◌≡◌, ◌++◌, map, drop}
-use Rattle.std.specs.Prelude.{option_map}
-use Rattle.pv_tree.specs.Parts.{spots_of, spots_of_stmts, spots_of_arms, spots_of_branches, spots_of_else}
-use Rattle.pv_tree.specs.View.{expr_tree, stmt_tree, stmts_of, arms_of, branches_of, else_of}
+use Rattle.std.proofs.Common.{◌≡◌, ℕ, ◌+◌, ◌*◌, map, drop, Option, Some, None}
+use Rattle.std.specs.Prelude.{Vec}
+use Rattle.std.specs.declared.alloc.Global.{Global}
+use denote.Param.Weighed.{most}
+use Rattle.pv_tree.specs.declared.stmt.Stmt.{Stmt, size-Stmt}
+use Rattle.pv_tree.specs.Parts.{spots_of_stmts, spots_of_arms, spots_of_branches}
+use Rattle.pv_tree.specs.View.{expr_tree, stmt_tree, stmts_of, arms_of, branches_of}
 use Rattle.pv_names.specs.InScope.{scope_of}
 use Rattle.pv_rules_expr.specs.NearestIn.{nearest_in}
 use Rattle.pv_rules_code.specs.Sites.{site_place}
 use Rattle.pv_rules_code.specs.Spots.{loop_tree}
 use Rattle.pv_rules_code.proofs.walk.+walking.Given as goal
 
-abbrev pub invariant-walk-loop-arm : goal.invariant-walk-loop-arm
-invariant-walk-loop-arm l =
-    nearest_in (site_place l.what (scope_of l.scope)) (spots_of_arms (map loop_tree l.loops)
-    (arms_of (map (λ a. (expr_tree a.0, stmts_of (map stmt_tree a.1.items))) (drop l.arm-index l.arm-items)))
-    ++ spots_of_else (map loop_tree l.loops) (else_of (option_map (λ o. stmts_of (map stmt_tree o.items)) l.other))) l.best
-    ≡ nearest_in (site_place l.what (scope_of l.scope)) (spots_of (map loop_tree l.loops) (stmt_tree l.fn.stmt)) l.fn.nearest
+-- how deep statements stand behind ELSE at most
+abbrev of_other : Option (Vec Stmt Global) → ℕ
+of_other None = 0
+of_other (Some v) = most size-Stmt v.items
 
-abbrev pub invariant-walk-loop-branch : goal.invariant-walk-loop-branch
-invariant-walk-loop-branch l =
+abbrev pub decreases-walk : goal.decreases-walk
+decreases-walk l = 4 * size-Stmt l.stmt.now
+
+abbrev pub decreases-walk_all : goal.decreases-walk_all
+decreases-walk_all l = 4 * most size-Stmt l.list.now + 1
+
+abbrev pub decreases-walk_arms : goal.decreases-walk_arms
+decreases-walk_arms l = 4 * most (λ a. most size-Stmt a.1.items) l.arms.now.items + 2
+
+abbrev pub decreases-walk_branches : goal.decreases-walk_branches
+decreases-walk_branches l = 4 * most (λ b. most size-Stmt b.1.items) l.branches.now.items + 2
+
+abbrev pub decreases-walk_other : goal.decreases-walk_other
+decreases-walk_other l = 4 * of_other l.other.now + 2
+
+abbrev pub decreases-walk_loop : goal.decreases-walk_loop
+decreases-walk_loop l = 4 * most size-Stmt l.body.now.items + 2
+
+abbrev pub invariant-walk_arms-loop-arm : goal.invariant-walk_arms-loop-arm
+invariant-walk_arms-loop-arm l =
+    nearest_in (site_place l.what (scope_of l.scope)) (spots_of_arms (map loop_tree l.loops)
+    (arms_of (map (λ a. (expr_tree a.0, stmts_of (map stmt_tree a.1.items))) (drop l.arm-index l.arm-items)))) l.best
+    ≡ nearest_in (site_place l.what (scope_of l.scope)) (spots_of_arms (map loop_tree l.loops)
+    (arms_of (map (λ a. (expr_tree a.0, stmts_of (map stmt_tree a.1.items))) l.fn.arms.items))) l.fn.nearest
+
+abbrev pub invariant-walk_branches-loop-branch : goal.invariant-walk_branches-loop-branch
+invariant-walk_branches-loop-branch l =
     nearest_in (site_place l.what (scope_of l.scope)) (spots_of_branches (map loop_tree l.loops)
-    (branches_of (map (λ b. (b.0.items, stmts_of (map stmt_tree b.1.items))) (drop l.branch-index l.branch-items)))
-    ++ spots_of_else (map loop_tree l.loops) (else_of (option_map (λ o. stmts_of (map stmt_tree o.items)) l.other))) l.best
-    ≡ nearest_in (site_place l.what (scope_of l.scope)) (spots_of (map loop_tree l.loops) (stmt_tree l.fn.stmt)) l.fn.nearest
+    (branches_of (map (λ b. (b.0.items, stmts_of (map stmt_tree b.1.items))) (drop l.branch-index l.branch-items)))) l.best
+    ≡ nearest_in (site_place l.what (scope_of l.scope)) (spots_of_branches (map loop_tree l.loops)
+    (branches_of (map (λ b. (b.0.items, stmts_of (map stmt_tree b.1.items))) l.fn.branches.items))) l.fn.nearest
 
 abbrev pub invariant-walk_all-loop-stmt : goal.invariant-walk_all-loop-stmt
 invariant-walk_all-loop-stmt l =

@@ -1,6 +1,6 @@
 use Rattle.std.proofs.Common.{◌≡◌, ◌∙◌, ℕ, ap, rules, nat_lt, None}
 use Rattle.pv_region.specs.Stored.{Stored, list_of, HasNext}
-use Rattle.pv_rows_solver.proofs.region.a_list_of_two_watches.Goals as goal
+use Rattle.pv_rows_tests.proofs.region.a_list_of_two_watches.Goals as goal
 
 pub first_two-requires-2 : goal.first_two-requires-2
 first_two-requires-2 g c =
