@@ -6,14 +6,14 @@ use Rattle.std.proofs.lemmas.List.Elements.{recursion_from_All}
 use Rattle.pv_flow.specs.Automata.{Edge, CallEdge, Loop, TrapEnd, OverEnd, Parts, ends_of, holds}
 use Rattle.pv_flow.specs.Faults.{has_ends, IsFaultless}
 use Rattle.pv_flow.specs.WellMade.{IsLoop, leads_well, IsWellMade}
-use Rattle.pv_copies.specs.Copies.{Copy, copy, target}
+use Rattle.pv_copies.specs.Copies.{Copy, copy, target, entered_copy}
 use Rattle.pv_copies.specs.Places.{text, size, place, IsCopy, stands_in, one_each, Stands}
 use Rattle.pv_copies.specs.Correct.{LoopsAreCopies, CopiesLeadToCopies, CopiesLeadForward, TextHasPlaces, TextHasCopies, TextIsLong}
 use Rattle.pv_copies.proofs.Leading.{leads, all_listed, listed_at, at_some, joined, mapped}
 use Rattle.pv_copies.proofs.Nesting.{AreInOrder, AreOf, IsOf, loops_in_order, leading, in_here}
-use Rattle.pv_copies.proofs.Forward.{valid}
+use Rattle.pv_copies.proofs.Forward.{entered_is_copy, valid}
 use Rattle.pv_copies.proofs.Rising.{rises}
-use Rattle.pv_copies.proofs.Listing.{IsNumbered, FirstsStand, numbered_text, along_at, found, text_length}
+use Rattle.pv_copies.proofs.Listing.{Along, IsNumbered, FirstsStand, numbered_text, along_at, found, text_length}
 use Rattle.pv_copies.proofs.Turning.{loops_are_copies}
 
 -- the locations that parts name are theirs
@@ -41,7 +41,7 @@ edge_lies p f e edge at = below edge.from edge.to p.locations
         (and_parts (edges_lie p && calls_lie p && loops_lie p) (has_ends p) f.locations).0).0).0
 
 -- all loops lie in the range of all locations
-loops_of : (p : Parts) → IsFaultless p → AreOf 0 p.locations p.loops
+pub loops_of : (p : Parts) → IsFaultless p → AreOf 0 p.locations p.loops
 loops_of p f = mapped (λ (loop : Loop). (nat_lt loop.first p.locations && nat_lt loop.last p.locations) ≡ true) (IsOf 0 p.locations) p.loops each
     (all_listed (λ (loop : Loop). nat_lt loop.first p.locations && nat_lt loop.last p.locations) p.loops loops)
   where
@@ -93,6 +93,24 @@ firsts_stand p w = mapped (IsLoop p) (λ (loop : Loop). loop.entry_turn ≡ fals
         by false e = ap not e
         by true e = absurd (none (or_cases (p.done == loop.first) (list_any (λ (end : TrapEnd). end.location == loop.first) p.traps) e))
 
+-- there is a location, since `done` is one
+pub some_locations : (p : Parts) → IsFaultless p → 0 < p.locations
+some_locations p f = let lt = ltb-true p.done p.locations done_lies in omega (arith, lt)
+  where
+    abbrev traps_lie : Bool
+    traps_lie = list_all (λ (end : TrapEnd). nat_lt end.location p.locations) p.traps
+
+    abbrev overs_lie : Bool
+    overs_lie = list_all (λ (end : OverEnd). nat_lt end.location p.locations) p.overs
+
+    done_lies : nat_lt p.done p.locations ≡ true
+    done_lies = (and_parts (nat_lt p.done p.locations) traps_lie
+        (and_parts (nat_lt p.done p.locations && traps_lie) overs_lie
+        (and_parts (edges_lie p && calls_lie p && loops_lie p) (has_ends p) f.locations).1).0).0
+
+pub first_is : (p : Parts) (n : ℕ) → IsFaultless p → IsWellMade p → 0 < n → IsCopy n p.loops 0 p.locations (entered_copy p.loops 0)
+first_is p n f w some = entered_is_copy n some p.loops 0 p.locations 0 (loops_in_order p f w) (loops_of p f) (omega arith) (some_locations p f)
+
 pub copies_lead_to_copies : CopiesLeadToCopies
 copies_lead_to_copies p n e edge ks f w some at h =
     let lies = edge_lies p f e edge at in
@@ -107,10 +125,14 @@ copies_lead_forward p n e edge ks weights o f w some at h =
     (leading p.loops e edge.from edge.to (at_some (λ (other : Edge). leads_well p.loops (Some e) other.from other.to ≡ true)
     (slice_get p.edges e) edge at (w.forward e)))
 
+pub text_is_numbered : (p : Parts) (n : ℕ) → IsFaultless p → IsWellMade p → 0 < n
+    → Along (IsNumbered (stands_in p) n p.loops 0 p.locations) (text (stands_in p) n p.loops 0 p.locations) 0
+text_is_numbered p n f w some = numbered_text (stands_in p) n some p.loops 0 p.locations (loops_in_order p f w) (loops_of p f) (firsts_stand p w)
+
 pub text_has_places : TextHasPlaces
 text_has_places p n i c f w some at =
-    along_at (IsNumbered (stands_in p) n p.loops 0 p.locations) (text (stands_in p) n p.loops 0 p.locations) 0 i c
-    (numbered_text (stands_in p) n some p.loops 0 p.locations (loops_in_order p f w) (loops_of p f) (firsts_stand p w)) at
+    along_at (IsNumbered (stands_in p) n p.loops 0 p.locations) (text (stands_in p) n p.loops 0 p.locations) 0 i c (text_is_numbered p n f w some)
+    at
 
 pub text_has_copies : TextHasCopies
 text_has_copies p n c f w h it = found (stands_in p) n p.loops c (loops_in_order p f w) (firsts_stand p w) it 0 p.locations h
