@@ -6,3 +6,5 @@ pub mod Forward
 pub mod Rising
 pub mod Listing
 pub mod Whole
+pub mod Numbers
+pub mod Counting

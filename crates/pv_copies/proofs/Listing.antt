@@ -132,7 +132,11 @@ text_length stands n (loop ∷ loops) a b firsts = by (fits loop a b) (λ x y. t
 -- ---- places along the text
 
 abbrev pub IsNumbered : (ℕ → Bool) → ℕ → List Loop → ℕ → ℕ → Copy → ℕ → Type 0
-IsNumbered stands n loops a b c i = IsCopy n loops a b c × (place (one_each stands) 1 n loops a b c ≡ i)
+IsNumbered stands n loops a b c i = IsCopy n loops a b c × (place (one_each stands) 1 n loops a b c ≡ i) × Stands stands c
+
+stands_within : (stands : ℕ → Bool) (k : ℕ) (c : Copy) → Stands stands c → Stands stands (within k c)
+stands_within stands k (copy l ks) h = h
+stands_within stands k (beyond loop ks) h = h
 
 abbrev Numbered : (ℕ → Bool) → ℕ → List Loop → ℕ → ℕ → Type 0
 Numbered stands n loops a b = Along (IsNumbered stands n loops a b) (text stands n loops a b) 0
@@ -141,9 +145,9 @@ plain_numbered : (stands : ℕ → Bool) (n : ℕ) (a b c : ℕ) → b ≤ c →
 plain_numbered stands n a zero c le = tt
 plain_numbered stands n a (suc b) c le = by (nat_le a b) refl (plain_numbered stands n a b c (omega (arith, le)))
   where
-    last : a ≤ b → (t : Bool) → Along (IsNumbered stands n [] a c) (cond t (copy b [] ∷ []) []) (0 + length (plain stands a b))
-    last low false = tt
-    last low true = (((low, omega (arith, le), refl), number (length (plain stands a b)) (sym (plain_length stands a b))), tt)
+    last : a ≤ b → (t : Bool) → stands b ≡ t → Along (IsNumbered stands n [] a c) (cond t (copy b [] ∷ []) []) (0 + length (plain stands a b))
+    last low false it = tt
+    last low true it = (((low, omega (arith, le), refl), number (length (plain stands a b)) (sym (plain_length stands a b)), it), tt)
       where
         number : (m : ℕ) → total (one_each stands) a b ≡ m → total (one_each stands) a b ≡ 0 + m
         number m e = omega (arith, e)
@@ -151,7 +155,7 @@ plain_numbered stands n a (suc b) c le = by (nat_le a b) refl (plain_numbered st
     by : (t : Bool) → nat_le a b ≡ t → Along (IsNumbered stands n [] a c) (plain stands a b) 0
         → Along (IsNumbered stands n [] a c) (cond t (plain stands a b ++ cond (stands b) (copy b [] ∷ []) []) []) 0
     by false e go = tt
-    by true e go = along_append (IsNumbered stands n [] a c) (plain stands a b) (cond (stands b) (copy b [] ∷ []) []) 0 go (last (leb-true a b e) (stands b))
+    by true e go = along_append (IsNumbered stands n [] a c) (plain stands a b) (cond (stands b) (copy b [] ∷ []) []) 0 go (last (leb-true a b e) (stands b) refl)
 
 -- the copies of what is in a loop
 rounds_numbered : (stands : ℕ → Bool) (n : ℕ) (loop : Loop) (loops : List Loop) (a b : ℕ) → AreInOrder (loop ∷ loops) → fits loop a b ≡ true
@@ -181,6 +185,7 @@ rounds_numbered stands n loop loops a b order f firsts inner (suc m) le =
         let at = copy_bounds n loops loop.first (suc loop.last) c (ranges_of loops order.2) h.0 in (
           copy_within n loop loops a b m c (ranges_of loops order.2) f (inl (omega (arith, le))) h.0,
           add_up (place_within (one_each stands) 1 n loop loops a b m c f at.0 (omega (arith, at.1))) h.1,
+          stands_within stands m c h.2,
         )
       where
         add_up : place (one_each stands) 1 n (loop ∷ loops) a b (within m c) ≡ size (one_each stands) 1 n loops a loop.first
@@ -198,9 +203,10 @@ first_is_copy n some loop loops order off =
     (entered_is_copy n some loops loop.first (suc loop.last) loop.first order.2 (of_inside loop loops order.0 order.1) (omega arith) (omega (arith, order.0)))
 
 once_numbered : (stands : ℕ → Bool) (n : ℕ) → 0 < n → (loop : Loop) (loops : List Loop) (a b : ℕ) → AreInOrder (loop ∷ loops) → fits loop a b ≡ true
+    → (loop.entry_turn ≡ false → stands loop.first ≡ true)
     → Along (IsNumbered stands n (loop ∷ loops) a b) (once_more n loop)
     (size (one_each stands) 1 n loops a loop.first + n * size (one_each stands) 1 n loops loop.first (suc loop.last))
-once_numbered stands n some loop loops a b order f = by loop.entry_turn refl
+once_numbered stands n some loop loops a b order f first = by loop.entry_turn refl
   where
     none : loop.entry_turn ≡ false → place (one_each stands) 1 n loops loop.first (suc loop.last) (copy loop.first []) ≡ 0
     none off = first_place (one_each stands) 1 n loops loop.first (suc loop.last) (later_begin loop loops order.0 off order.1)
@@ -211,6 +217,7 @@ once_numbered stands n some loop loops a b order f = by loop.entry_turn refl
     by false off = ((
       copy_here n loop loops a b (copy loop.first (n ∷ [])) f (omega arith) order.0 (first_is_copy n some loop loops order off, inr (off, refl)),
       omega (arith, place_here (one_each stands) 1 n loop loops a b (copy loop.first (n ∷ [])) f (omega arith) order.0, none off),
+      first off,
     ), tt)
 
 pub numbered_text : (stands : ℕ → Bool) (n : ℕ) → 0 < n → (loops : List Loop) (a b : ℕ) → AreInOrder loops → AreOf a b loops → FirstsStand stands loops
@@ -225,7 +232,7 @@ numbered_text stands n some (loop ∷ loops) a b order of firsts =
         ++ (once_more n loop ++ (beyond loop [] ∷ text stands n loops (suc loop.last) b))))
         (text stands n loops a b)) 0
     by false f go = along_later (IsNumbered stands n loops a b) (IsNumbered stands n (loop ∷ loops) a b) 0 (text stands n loops a b) 0
-        (λ c j h. (copy_apart n loop loops a b c f h.0, same c j (place_apart (one_each stands) 1 n loop loops a b c f) h.1)) (go a b of.1)
+        (λ c j h. (copy_apart n loop loops a b c f h.0, same c j (place_apart (one_each stands) 1 n loop loops a b c f) h.1, h.2)) (go a b of.1)
       where
         same : (c : Copy) (j : ℕ) → place (one_each stands) 1 n (loop ∷ loops) a b c ≡ place (one_each stands) 1 n loops a b c
             → place (one_each stands) 1 n loops a b c ≡ j → place (one_each stands) 1 n (loop ∷ loops) a b c ≡ 0 + j
@@ -245,7 +252,7 @@ numbered_text stands n some (loop ∷ loops) a b order of firsts =
         (size (one_each stands) 1 n loops a loop.first + length (rounds n (text stands n loops loop.first (suc loop.last)))) (omega (arith, turns))
         (along_append (IsNumbered stands n (loop ∷ loops) a b) (once_more n loop) (beyond loop [] ∷ text stands n loops (suc loop.last) b)
         (size (one_each stands) 1 n loops a loop.first + n * size (one_each stands) 1 n loops loop.first (suc loop.last))
-        (once_numbered stands n some loop loops a b order f)
+        (once_numbered stands n some loop loops a b order f firsts.0)
         (over, later (go (suc loop.last) b (of_behind loop loops a b order.0 fit.0 order.2 order.1 of.1)))))))
       where
         fit : (a ≤ loop.first) × (loop.last < b)
@@ -269,6 +276,7 @@ numbered_text stands n some (loop ∷ loops) a b order of firsts =
                 let at = copy_bounds n loops a loop.first c (ranges_of loops order.2) g.0 in (
                   copy_before n loop loops a b c f at.1 g.0,
                   omega (arith, place_before (one_each stands) 1 n loop loops a b c f at.1, g.1),
+                  g.2,
                 )
 
         over : IsNumbered stands n (loop ∷ loops) a b (beyond loop [])
@@ -276,6 +284,7 @@ numbered_text stands n some (loop ∷ loops) a b order of firsts =
         over = (
           copy_here n loop loops a b (beyond loop []) f (omega arith) order.0 refl,
           omega (arith, place_here (one_each stands) 1 n loop loops a b (beyond loop []) f (omega arith) order.0, once_is),
+          tt,
         )
 
         later : Numbered stands n loops (suc loop.last) b
@@ -298,6 +307,7 @@ numbered_text stands n some (loop ∷ loops) a b order of firsts =
                 let past : loop.last < location_of c = omega (arith, at.0) in (
                   copy_behind n loop loops a b c f low past g.0,
                   omega (arith, place_behind (one_each stands) 1 n loop loops a b c f low past, g.1),
+                  g.2,
                 )
 
 -- ---- each at its place

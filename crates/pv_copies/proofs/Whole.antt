@@ -68,7 +68,7 @@ of_trap f m (end ∷ traps) others all any =
     by (inl same) go = subst (λ (l : ℕ). f l ≡ true) (eqb-true end.location m same) both.0
     by (inr rest) go = go rest
 
-firsts_stand : (p : Parts) → IsWellMade p → FirstsStand (stands_in p) p.loops
+pub firsts_stand : (p : Parts) → IsWellMade p → FirstsStand (stands_in p) p.loops
 firsts_stand p w = mapped (IsLoop p) (λ (loop : Loop). loop.entry_turn ≡ false → stands_in p loop.first ≡ true) p.loops each
     (recursion_from_All (IsLoop p) p.loops w.loops)
   where

@@ -5,8 +5,10 @@ use Rattle.pv_flow.specs.Automata.{Edge, Parts}
 use Rattle.pv_flow.specs.Faults.{IsFaultless}
 use Rattle.pv_flow.specs.WellMade.{IsWellMade}
 use Rattle.pv_flow.specs.Runs.{run, control_of, first_spot}
+use Rattle.pv_flow.specs.Machines.{IsAcyclic}
 use Rattle.pv_copies.specs.Copies.{Copy, copy, target, copies_control, first_copy}
 use Rattle.pv_copies.specs.Places.{text, size, place, IsCopy, stands_in, one_each, Stands}
+use Rattle.pv_copies.specs.Unrolled.{unrolled, unrolled_size}
 
 -- the copies of its locations
 abbrev pub IsCopyIn : Parts → ℕ → Copy → Type 0
@@ -42,10 +44,10 @@ CopiesLeadForward = (p : Parts) (n e : ℕ) (edge : Edge) (ks : List ℕ) (w : �
     → slice_get p.edges e ≡ Some edge → IsCopyIn p n (copy edge.from ks)
     → place_of p n w o (copy edge.from ks) + w edge.from ≤ place_of p n w o (target n p.loops e edge.from edge.to ks)
 
--- what stands in the text is a copy, and stands at its place
+-- what stands in the text is a copy that may, and stands at its place
 abbrev pub TextHasPlaces : Type 0
 TextHasPlaces = (p : Parts) (n i : ℕ) (c : Copy) → IsFaultless p → IsWellMade p → 0 < n → slice_get (text_of p n) i ≡ Some c
-    → IsCopyIn p n c × (number_of p n c ≡ i)
+    → IsCopyIn p n c × (number_of p n c ≡ i) × Stands (stands_in p) c
 
 -- each copy that stands in the text is found at its place
 abbrev pub TextHasCopies : Type 0
@@ -55,3 +57,16 @@ TextHasCopies = (p : Parts) (n : ℕ) (c : Copy) → IsFaultless p → IsWellMad
 -- its length is the size where each location that stands in it takes one, and what is gone over
 abbrev pub TextIsLong : Type 0
 TextIsLong = (p : Parts) (n : ℕ) → IsFaultless p → IsWellMade p → length (text_of p n) ≡ size_of p n (one_each (stands_in p)) 1
+
+-- the automaton of the copies runs as they do, if a run doesn't end where it begins, done or by a trap
+abbrev pub CopiesAreNumbers : Type 0
+CopiesAreNumbers = (p : Parts) (n steps : ℕ) (w : Valuation) → IsFaultless p → IsWellMade p → 0 < n → stands_in p 0 ≡ true
+    → run (control_of (unrolled p n) 1) steps (first_spot (unrolled p n)) w ≡ run (control_of p n) steps (first_spot p) w
+
+-- it has no loops, and its edges lead forward
+abbrev pub NumbersLeadForward : Type 0
+NumbersLeadForward = (p : Parts) (n : ℕ) → IsFaultless p → IsWellMade p → 0 < n → IsAcyclic (unrolled p n)
+
+-- it has as many edges as are counted
+abbrev pub EdgesAreCounted : Type 0
+EdgesAreCounted = (p : Parts) (n : ℕ) → IsFaultless p → IsWellMade p → length (unrolled p n).edges ≡ unrolled_size p n

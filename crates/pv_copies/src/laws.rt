@@ -1,5 +1,5 @@
 //! Laws of copies, each the contract of a function that does nothing. Their statements are those of `specs/Correct`.
-ghost use Rattle.pv_copies.specs.Correct.{LoopsAreCopies, CopiesLeadToCopies, CopiesLeadForward, TextHasPlaces, TextHasCopies, TextIsLong};
+ghost use Rattle.pv_copies.specs.Correct.{LoopsAreCopies, CopiesLeadToCopies, CopiesLeadForward, TextHasPlaces, TextHasCopies, TextIsLong, CopiesAreNumbers, NumbersLeadForward, EdgesAreCounted};
 
 /// Runs with counts and runs along copies are equal, with as many steps.
 pub fn loops_are_copies()
@@ -29,4 +29,19 @@ pub fn text_has_copies()
 /// The text is as long as its size.
 pub fn text_is_long()
     ensures { TextIsLong }
+{}
+
+/// The automaton of the copies runs as they do.
+pub fn copies_are_numbers()
+    ensures { CopiesAreNumbers }
+{}
+
+/// It has no loops, and its edges lead forward.
+pub fn numbers_lead_forward()
+    ensures { NumbersLeadForward }
+{}
+
+/// It has as many edges as are counted.
+pub fn edges_are_counted()
+    ensures { EdgesAreCounted }
 {}
