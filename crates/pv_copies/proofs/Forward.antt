@@ -14,7 +14,7 @@ use Rattle.pv_copies.proofs.Picking.{copy_before, before_copy, copy_behind, behi
 abbrev Ranges : List Loop → Type 0
 Ranges loops = AllByRecursion (λ (loop : Loop). loop.first ≤ loop.last) loops
 
-abbrev AllLed : ℕ → ℕ → ℕ → List Loop → Type 0
+abbrev pub AllLed : ℕ → ℕ → ℕ → List Loop → Type 0
 AllLed e l to loops = AllByRecursion (λ (loop : Loop). IsLed loop e l to) loops
 
 pub ranges_of : (loops : List Loop) → AreInOrder loops → Ranges loops
@@ -29,9 +29,6 @@ entered_is_copy n some [] a b m order of low high = (low, high, refl)
 entered_is_copy n some (loop ∷ loops) a b m order of low high =
     by (fits loop a b) refl (λ x y. entered_is_copy n some loops x y m order.2)
   where
-    inner : Copy
-    inner = entered_copy loops m
-
     out : holds loop m ≡ false → entered_copy (loop ∷ loops) m ≡ entered_copy loops m
     out e = ap (λ (t : Bool). cond t (within 0 (entered_copy loops m)) (entered_copy loops m)) e
 
@@ -81,17 +78,17 @@ target_out n loop loops e l to ks out apart =
     ap (λ (t : Bool). led_to t (holds loop to) (is_past n loop e l (front ks)) loop (next loop e to (front ks)) (target n loops e l to (left t ks))) out
     ∙ ap (λ (t : Bool). led_to false t (is_past n loop e l (front ks)) loop (next loop e to (front ks)) (target n loops e l to ks)) apart
 
-target_in : (n : ℕ) (loop : Loop) (loops : List Loop) (e l to k : ℕ) (ks : List ℕ) → holds loop l ≡ true → holds loop to ≡ true
+pub target_in : (n : ℕ) (loop : Loop) (loops : List Loop) (e l to k : ℕ) (ks : List ℕ) → holds loop l ≡ true → holds loop to ≡ true
     → target n (loop ∷ loops) e l to (k ∷ ks) ≡ led_to true true (is_past n loop e l k) loop (next loop e to k) (target n loops e l to ks)
 target_in n loop loops e l to k ks held into =
     ap (λ (t : Bool). led_to t (holds loop to) (is_past n loop e l k) loop (next loop e to k) (target n loops e l to (left t (k ∷ ks)))) held
     ∙ ap (λ (t : Bool). led_to true t (is_past n loop e l k) loop (next loop e to k) (target n loops e l to ks)) into
 
 -- where no loop holds both ends, what is led to is entered
-abbrev Parts_ : ℕ → ℕ → List Loop → Type 0
-Parts_ l to loops = AllByRecursion (λ (loop : Loop). holds loop l ≡ true → holds loop to ≡ true → ⊥) loops
+abbrev NoneHoldsBoth : ℕ → ℕ → List Loop → Type 0
+NoneHoldsBoth l to loops = AllByRecursion (λ (loop : Loop). holds loop l ≡ true → holds loop to ≡ true → ⊥) loops
 
-fresh : (n : ℕ) (loops : List Loop) (e l to : ℕ) (ks : List ℕ) → AllLed e l to loops → Parts_ l to loops
+pub fresh : (n : ℕ) (loops : List Loop) (e l to : ℕ) (ks : List ℕ) → AllLed e l to loops → NoneHoldsBoth l to loops
     → target n loops e l to ks ≡ entered_copy loops to
 fresh n [] e l to ks led parts = refl
 fresh n (loop ∷ loops) e l to ks led parts = by (holds loop l) refl (holds loop to) refl (λ js. fresh n loops e l to js led.1 parts.1)
@@ -121,14 +118,14 @@ fresh n (loop ∷ loops) e l to ks led parts = by (holds loop l) refl (holds loo
         ∙ sym (ap (λ (t : Bool). cond t (within 0 (entered_copy loops to)) (entered_copy loops to)) into)
 
 -- both in the loop, or both behind it
-abbrev Together : Loop → ℕ → ℕ → Type 0
+abbrev pub Together : Loop → ℕ → ℕ → Type 0
 Together loop l to = ((loop.first ≤ l) × (l ≤ loop.last) × (loop.first ≤ to) × (to ≤ loop.last)) ⊎ ((loop.last < l) × (loop.last < to))
 
 -- on different sides of a loop neither it nor a later one holds both
-parted : (loop : Loop) (loops : List Loop) (l to : ℕ) → loop.first ≤ loop.last → AllByRecursion (IsLater loop) loops → (Together loop l to → ⊥)
-    → Parts_ l to (loop ∷ loops)
-parted loop loops l to range later no =
-    (λ x y. no (inl (held_low loop l x, held_high loop l x, held_low loop to y, held_high loop to y)), mapped (IsLater loop) (λ (other : Loop). holds other l ≡ true → holds other to ≡ true → ⊥) loops each later)
+pub parted : (loop : Loop) (loops : List Loop) (l to : ℕ) → loop.first ≤ loop.last → AllByRecursion (IsLater loop) loops → (Together loop l to → ⊥)
+    → NoneHoldsBoth l to (loop ∷ loops)
+parted loop loops l to range later differ =
+    (λ x y. differ (inl (held_low loop l x, held_high loop l x, held_low loop to y, held_high loop to y)), mapped (IsLater loop) (λ (other : Loop). holds other l ≡ true → holds other to ≡ true → ⊥) loops each later)
   where
     each : (other : Loop) → IsLater loop other → holds other l ≡ true → holds other to ≡ true → ⊥
     each other (inl h) x y =
@@ -136,15 +133,15 @@ parted loop loops l to range later no =
         let high = held_high other l x in
         let first = held_low other to y in
         let last = held_high other to y in
-        no (inl (omega (arith, h.0, low), omega (arith, h.1, high), omega (arith, h.0, first), omega (arith, h.1, last)))
+        differ (inl (omega (arith, h.0, low), omega (arith, h.1, high), omega (arith, h.0, first), omega (arith, h.1, last)))
     each other (inr h) x y =
         let low = held_low other l x in
         let first = held_low other to y in
-        no (inr (omega (arith, h, low), omega (arith, h, first)))
+        differ (inr (omega (arith, h, low), omega (arith, h, first)))
 
 -- ---- a copy again
 
-copy_is_no_over : (l : ℕ) (ks : List ℕ) (loop : Loop) → copy l ks ≡ beyond loop [] → ⊥
+pub copy_is_no_over : (l : ℕ) (ks : List ℕ) (loop : Loop) → copy l ks ≡ beyond loop [] → ⊥
 copy_is_no_over l ks loop e = subst (λ (c : Copy). IsCopyNot c) e tt
   where
     IsCopyNot : Copy → Type 0
@@ -153,14 +150,14 @@ copy_is_no_over l ks loop e = subst (λ (c : Copy). IsCopyNot c) e tt
 
 -- ---- the next number
 
-turns_fit : (k n size : ℕ) → k < n → k * size + size ≤ n * size
+pub turns_fit : (k n size : ℕ) → k < n → k * size + size ≤ n * size
 turns_fit k n size lt = omega (arith, suc-mul k size, mul-le-mul_right size (next_le k n lt))
   where
     next_le : (k n : ℕ) → k < n → suc k ≤ n
     next_le k n lt = omega (arith, lt)
 
 -- one of the turns, or the first location once more
-abbrev IsNumber : ℕ → Loop → ℕ → ℕ → Type 0
+abbrev pub IsNumber : ℕ → Loop → ℕ → ℕ → Type 0
 IsNumber n loop l k = (k < n) ⊎ ((loop.entry_turn ≡ false) × (l ≡ loop.first) × (k ≡ n))
 
 -- by Booleans and numbers: whether entering starts a turn, whether the edge is a turn edge, begins and ends at the first location
@@ -204,7 +201,7 @@ number_left n loop e l to k is into number last =
     told (inr h) = inr (h.0, sym (eqb-true loop.first to h.1), h.2)
 
 -- the number that a copy in a loop has
-numbered : (n : ℕ) (loop : Loop) (l k : ℕ) (ks : List ℕ) (Rest : Type 0) → IsInner n loop (copy l (k ∷ ks)) (k ∷ ks) Rest → IsNumber n loop l k
+pub numbered : (n : ℕ) (loop : Loop) (l k : ℕ) (ks : List ℕ) (Rest : Type 0) → IsInner n loop (copy l (k ∷ ks)) (k ∷ ks) Rest → IsNumber n loop l k
 numbered n loop l k ks Rest h = by h.1
   where
     by : (k < n) ⊎ ((loop.entry_turn ≡ false) × (copy l (k ∷ ks) ≡ copy loop.first (n ∷ []))) → IsNumber n loop l k
@@ -212,7 +209,7 @@ numbered n loop l k ks Rest h = by h.1
     by (inr g) = inr (g.0, ap (λ (c : Copy). location_of c) g.1, ap (λ (c : Copy). front (numbers_of c)) g.1)
 
 -- no later loop holds the first location, where entering the loop starts no turn
-alone : (loop : Loop) (loops : List Loop) (e l to : ℕ) → loop.first ≤ loop.last → loop.entry_turn ≡ false → to ≡ loop.first
+pub alone : (loop : Loop) (loops : List Loop) (e l to : ℕ) → loop.first ≤ loop.last → loop.entry_turn ≡ false → to ≡ loop.first
     → AllByRecursion (IsLater loop) loops → AllByRecursion (λ (other : Loop). holds other to ≡ false) loops
 alone loop loops e l to range off first later = mapped (IsLater loop) (λ (other : Loop). holds other to ≡ false) loops each later
   where
@@ -220,7 +217,7 @@ alone loop loops e l to range off first later = mapped (IsLater loop) (λ (other
     each other (inl h) = let lt = h.2 off in out_before other to (omega (arith, first, lt))
     each other (inr h) = out_before other to (omega (arith, first, h, range))
 
-entered_bare : (loops : List Loop) (to : ℕ) → AllByRecursion (λ (other : Loop). holds other to ≡ false) loops → entered_copy loops to ≡ copy to []
+pub entered_bare : (loops : List Loop) (to : ℕ) → AllByRecursion (λ (other : Loop). holds other to ≡ false) loops → entered_copy loops to ≡ copy to []
 entered_bare [] to none = refl
 entered_bare (loop ∷ loops) to none =
     ap (λ (t : Bool). cond t (within 0 (entered_copy loops to)) (entered_copy loops to)) none.0 ∙ entered_bare loops to none.1
@@ -290,8 +287,8 @@ valid_here n loop loops a b e l to k ks order f led low high first last go numbe
 valid_apart : (n : ℕ) → 0 < n → (loop : Loop) (loops : List Loop) (a b e l to : ℕ) (ks : List ℕ) → AreInOrder (loop ∷ loops) → AreOf a b (loop ∷ loops)
     → AllLed e l to (loop ∷ loops) → a ≤ to → to < b → (Together loop l to → ⊥)
     → IsCopy n (loop ∷ loops) a b (target n (loop ∷ loops) e l to ks)
-valid_apart n some loop loops a b e l to ks order of led first last no =
-    subst (λ (c : Copy). IsCopy n (loop ∷ loops) a b c) (sym (fresh n (loop ∷ loops) e l to ks led (parted loop loops l to order.0 order.1 no)))
+valid_apart n some loop loops a b e l to ks order of led first last differ =
+    subst (λ (c : Copy). IsCopy n (loop ∷ loops) a b c) (sym (fresh n (loop ∷ loops) e l to ks led (parted loop loops l to order.0 order.1 differ)))
     (entered_is_copy n some (loop ∷ loops) a b to order of first last)
 
 valid_in : (n : ℕ) (loop : Loop) (loops : List Loop) (a b e l to : ℕ) (ks : List ℕ) → AreInOrder (loop ∷ loops)
@@ -310,7 +307,7 @@ valid_fit : (n : ℕ) → 0 < n → (loop : Loop) (loops : List Loop) (a b e l t
 valid_fit n some loop loops a b e l to ks order of led low high first last f go h = by (side loop l) (side loop to)
   where
     apart : (Together loop l to → ⊥) → IsCopy n (loop ∷ loops) a b (target n (loop ∷ loops) e l to ks)
-    apart no = valid_apart n some loop loops a b e l to ks order of led first last no
+    apart differ = valid_apart n some loop loops a b e l to ks order of led first last differ
 
     no_before : l < loop.first → Together loop l to → ⊥
     no_before lt (inl g) = omega (arith, g.0, lt)

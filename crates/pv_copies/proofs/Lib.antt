@@ -8,3 +8,4 @@ pub mod Listing
 pub mod Whole
 pub mod Numbers
 pub mod Counting
+pub mod Examples

@@ -45,9 +45,6 @@ own_ways : (n : ℕ) (loops : List Loop) (i e l : ℕ) (ks : List ℕ) (edges : 
 own_ways n loops i e l ks [] = refl
 own_ways n loops i e l ks (edge ∷ edges) = by (edge.from == l) (own_ways n loops i (suc e) l ks edges)
   where
-    made : CopiedEdge
-    made = record { from = i; to = target n loops e l edge.to ks; guard = edge.guard; sets = edge.sets }
-
     by : (b : Bool) → ways_at i (copied_edges n loops i (suc e) l ks edges) ≡ ways_to n loops (suc e) l ks edges
         → ways_at i (cond b
         (record { from = i; to = target n loops e l edge.to ks; guard = edge.guard; sets = edge.sets } ∷ copied_edges n loops i (suc e) l ks edges)
@@ -254,9 +251,6 @@ ways_paired p n i counts e t (x ∷ xs) listed left =
     by (x.from == i) (ways_paired p n i counts (suc e) (traps_by (exit_of_copy p x.to) t) xs listed.1
     (left_after p n (traps_of p n 0 (all_copied p n)) t x xs (exit_of_copy p x.to) left))
   where
-    to : ℕ
-    to = numbered_by (exit_of_copy p x.to) (text_size p n) t (place_in_text p n x.to)
-
     by : (b : Bool)
         → ArePaired (IsNumberOf p n) (ways_at i xs) (ways_by [] 1 i counts (suc e) (edges_of p n (traps_by (exit_of_copy p x.to) t) xs))
         → ArePaired (IsNumberOf p n) (cond b (way_along x ∷ ways_at i xs) (ways_at i xs)) (cond b
@@ -326,9 +320,6 @@ over_ends l e (end ∷ overs) h = by (end.location == l) refl (λ g. over_ends l
 ends_there : (p : Parts) (l : ℕ) (e : End) → end_at p l ≡ Some e → is_end p l ≡ true
 ends_there p l e h = by (p.done == l) refl (trap_at l p.traps) refl
   where
-    others : List ℕ
-    others = map (λ (end : OverEnd). end.location) p.overs
-
     by : (b : Bool) → (p.done == l) ≡ b → (o : Option End) → trap_at l p.traps ≡ o → is_end p l ≡ true
     by true on o g = or_left (p.done == l)
         (list_any (λ (end : ℕ). end == l) (map (λ (end : TrapEnd). end.location) p.traps ++ map (λ (end : OverEnd). end.location) p.overs)) on
@@ -454,9 +445,6 @@ numbers_alike : (p : Parts) (n : ℕ) → IsFaultless p → IsWellMade p → 0 <
     → AreAlike (IsNumberOf p n) (copies_control p n) (control_of (unrolled p n) 1)
 numbers_alike p n f w some = record { exits = exits; ways = ways }
   where
-    traps : List TrapEnd
-    traps = traps_of p n 0 (copied p n 0 (whole_text p n))
-
     all : AllListed p n (copied p n 0 (whole_text p n))
     all = all_listed_in p n f w some 0 0 (whole_text p n) (text_is_numbered p n f w some)
 

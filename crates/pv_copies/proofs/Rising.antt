@@ -1,5 +1,5 @@
 -- Places: what a copy takes ends within the text, and where an edge leads stands behind it.
-use Rattle.std.proofs.Common.{◌≡◌, ℕ, zero, suc, ◌+◌, ◌*◌, ◌<◌, ◌≤◌, ◌⊎◌, inl, inr, List, [], ◌∷◌, Bool, true, false, not, ◌&&◌, ◌==◌, nat_lt, nat_le, cond, refl, sym, subst, ap, ◌∙◌, arith}
+use Rattle.std.proofs.Common.{◌≡◌, ℕ, zero, suc, ◌+◌, ◌*◌, ◌<◌, ◌≤◌, ◌⊎◌, inl, inr, List, [], ◌∷◌, Bool, true, false, not, ◌&&◌, ◌==◌, nat_lt, nat_le, cond, refl, sym, subst, ap, ◌∙◌, suc-mul, arith}
 use Rattle.std.specs.List.{AllByRecursion}
 use Rattle.std.proofs.lemmas.Bool.{true≢false, false≢true, both_ways, le-leb, lt-leb, leb-true, eq-eqb, cases_lt}
 use Rattle.pv_flow.specs.Automata.{Loop, holds, is_turn}
@@ -45,7 +45,7 @@ weight_out w o (copy l ks) = refl
 weight_out w o (beyond loop ks) = refl
 
 -- the first location stands first, where no loop begins there
-first_place : (w : ℕ → ℕ) (o n : ℕ) (loops : List Loop) (a b : ℕ) → AllByRecursion (λ (loop : Loop). a < loop.first) loops
+pub first_place : (w : ℕ → ℕ) (o n : ℕ) (loops : List Loop) (a b : ℕ) → AllByRecursion (λ (loop : Loop). a < loop.first) loops
     → place w o n loops a b (copy a []) ≡ 0
 first_place w o n [] a b all = total_none w a a (omega arith)
 first_place w o n (loop ∷ loops) a b all = by (fits loop a b) refl (λ x. first_place w o n loops a x all.1)
@@ -54,7 +54,7 @@ first_place w o n (loop ∷ loops) a b all = by (fits loop a b) refl (λ x. firs
     by true f go = place_before w o n loop loops a b (copy a []) f all.0 ∙ go loop.first
     by false f go = place_apart w o n loop loops a b (copy a []) f ∙ go b
 
-later_begin : (loop : Loop) (loops : List Loop) → loop.first ≤ loop.last → loop.entry_turn ≡ false → AllByRecursion (IsLater loop) loops
+pub later_begin : (loop : Loop) (loops : List Loop) → loop.first ≤ loop.last → loop.entry_turn ≡ false → AllByRecursion (IsLater loop) loops
     → AllByRecursion (λ (other : Loop). loop.first < other.first) loops
 later_begin loop loops range off later = mapped (IsLater loop) (λ (other : Loop). loop.first < other.first) loops each later
   where
@@ -62,7 +62,7 @@ later_begin loop loops range off later = mapped (IsLater loop) (λ (other : Loop
     each other (inl h) = h.2 off
     each other (inr h) = omega (arith, h, range)
 
-once_off : (w : ℕ → ℕ) (loop : Loop) → loop.entry_turn ≡ false → once w loop ≡ w loop.first
+pub once_off : (w : ℕ → ℕ) (loop : Loop) → loop.entry_turn ≡ false → once w loop ≡ w loop.first
 once_off w loop off = ap (λ (b : Bool). cond b 0 (w loop.first)) off
 
 abbrev Bound : (ℕ → ℕ) → ℕ → ℕ → List Loop → Copy → Type 0
@@ -133,9 +133,9 @@ Rises w o n loops e l to = (a b : ℕ) (ks : List ℕ) → AreOf a b loops → a
 
 -- only later loops lead back, if the loop doesn't hold where the edge begins, or doesn't begin where it ends
 back_later : (e l to : ℕ) (loop : Loop) (loops : List Loop) → (IsBack e l to loop → ⊥) → Leads e l to (loop ∷ loops) → Leads e l to loops
-back_later e l to loop loops no (inl lt) = inl lt
-back_later e l to loop loops no (inr (inl h)) = absurd (no h)
-back_later e l to loop loops no (inr (inr h)) = inr h
+back_later e l to loop loops differ (inl lt) = inl lt
+back_later e l to loop loops differ (inr (inl h)) = absurd (differ h)
+back_later e l to loop loops differ (inr (inr h)) = inr h
 
 not_held : (e l to : ℕ) (loop : Loop) → holds loop l ≡ false → IsBack e l to loop → ⊥
 not_held e l to loop out h = both_ways (holds loop l) out h.1
@@ -187,9 +187,6 @@ rises_turn w o n some loop loops a b e l to k ks order led f low high first last
     (sym (target_in n loop loops e l to k ks (in_here loop l low high) (in_here loop to first last)))
     (by (is_past n loop e l k) (goes_round loop e to) refl)
   where
-    inner : Copy
-    inner = target n loops e l to ks
-
     of : AreOf loop.first (suc loop.last) loops
     of = of_inside loop loops order.0 order.1
 
@@ -214,12 +211,12 @@ rises_turn w o n some loop loops a b e l to k ks order led f low high first last
     there_is j = place_within w o n loop loops a b j (target n loops e l to ks) f at.0 (omega (arith, at.1))
 
     stays : goes_round loop e to ≡ false → IsBack e l to loop → ⊥
-    stays off back = by_entry loop.entry_turn refl
+    stays off it = by_entry loop.entry_turn refl
       where
         by_entry : (t : Bool) → loop.entry_turn ≡ t → ⊥
-        by_entry true on = both_ways (is_turn loop e) (sym (ap (λ (t : Bool). cond t (is_turn loop e) (loop.first == to)) on) ∙ off) (back.2 on)
+        by_entry true on = both_ways (is_turn loop e) (sym (ap (λ (t : Bool). cond t (is_turn loop e) (loop.first == to)) on) ∙ off) (it.2 on)
         by_entry false on = both_ways (loop.first == to) (sym (ap (λ (t : Bool). cond t (is_turn loop e) (loop.first == to)) on) ∙ off)
-            (eq-eqb loop.first to (sym back.0))
+            (eq-eqb loop.first to (sym it.0))
 
     by : (past round : Bool) → goes_round loop e to ≡ round → place w o n (loop ∷ loops) a b (copy l (k ∷ ks)) + w l
         ≤ place w o n (loop ∷ loops) a b (led_to true true past loop (k + cond round 1 0) (target n loops e l to ks))
@@ -267,16 +264,16 @@ place_from w o n loop loops a b c f low = by (side loop (location_of c))
 -- where it leads is entered
 apart_at : (n : ℕ) (loop : Loop) (loops : List Loop) (e l to : ℕ) (ks : List ℕ) → AreInOrder (loop ∷ loops) → AllLed e l to (loop ∷ loops)
     → (Together loop l to → ⊥) → location_of (target n (loop ∷ loops) e l to ks) ≡ to
-apart_at n loop loops e l to ks order led no =
-    ap (λ (c : Copy). location_of c) (fresh n (loop ∷ loops) e l to ks led (parted loop loops l to order.0 order.1 no)) ∙ entered_location (loop ∷ loops) to
+apart_at n loop loops e l to ks order led differ =
+    ap (λ (c : Copy). location_of c) (fresh n (loop ∷ loops) e l to ks led (parted loop loops l to order.0 order.1 differ)) ∙ entered_location (loop ∷ loops) to
 
 rises_from_before : (w : ℕ → ℕ) (o n : ℕ) (loop : Loop) (loops : List Loop) (a b e l to : ℕ) (ks : List ℕ) → AreInOrder (loop ∷ loops)
     → AllLed e l to (loop ∷ loops) → fits loop a b ≡ true → l < loop.first → loop.first ≤ to → (Together loop l to → ⊥)
     → IsCopy n (loop ∷ loops) a b (copy l ks)
     → place w o n (loop ∷ loops) a b (copy l ks) + w l ≤ place w o n (loop ∷ loops) a b (target n (loop ∷ loops) e l to ks)
-rises_from_before w o n loop loops a b e l to ks order led f lt low no h =
+rises_from_before w o n loop loops a b e l to ks order led f lt low differ h =
     let g = bound w o n loops (copy l ks) order.2 a loop.first (before_copy n loop loops a b (copy l ks) f lt h) in
-    let at = apart_at n loop loops e l to ks order led no in
+    let at = apart_at n loop loops e l to ks order led differ in
     let least = place_from w o n loop loops a b (target n (loop ∷ loops) e l to ks) f (omega (arith, at, low)) in
     omega (arith, g, least, place_before w o n loop loops a b (copy l ks) f lt)
 
@@ -284,10 +281,10 @@ rises_out : (w : ℕ → ℕ) (o n : ℕ) (loop : Loop) (loops : List Loop) (a b
     → AllLed e l to (loop ∷ loops) → fits loop a b ≡ true → loop.first ≤ l → l ≤ loop.last → loop.last < to → (Together loop l to → ⊥)
     → IsInner n loop (copy l ks) ks (IsCopy n loops loop.first (suc loop.last) (copy l (back ks)))
     → place w o n (loop ∷ loops) a b (copy l ks) + w l ≤ place w o n (loop ∷ loops) a b (target n (loop ∷ loops) e l to ks)
-rises_out w o n loop loops a b e l to [] order led f low high past no h = absurd (copy_is_no_over l [] loop h)
-rises_out w o n loop loops a b e l to (k ∷ ks) order led f low high past no h =
+rises_out w o n loop loops a b e l to [] order led f low high past differ h = absurd (copy_is_no_over l [] loop h)
+rises_out w o n loop loops a b e l to (k ∷ ks) order led f low high past differ h =
     let g = turn_bound w o n loop loops (copy l (k ∷ ks)) k ks order refl h (bound w o n loops (copy l ks) order.2 loop.first (suc loop.last) h.0) in
-    let at = apart_at n loop loops e l to (k ∷ ks) order led no in
+    let at = apart_at n loop loops e l to (k ∷ ks) order led differ in
     let there = place_behind w o n loop loops a b (target n (loop ∷ loops) e l to (k ∷ ks)) f (omega (arith, at, past, order.0)) (omega (arith, at, past)) in
     omega (arith, g, there, place_here w o n loop loops a b (copy l (k ∷ ks)) f low high)
 

@@ -94,18 +94,18 @@ firsts_stand p w = mapped (IsLoop p) (λ (loop : Loop). loop.entry_turn ≡ fals
         by true e = absurd (none (or_cases (p.done == loop.first) (list_any (λ (end : TrapEnd). end.location == loop.first) p.traps) e))
 
 -- there is a location, since `done` is one
+abbrev traps_lie : Parts → Bool
+traps_lie p = list_all (λ (end : TrapEnd). nat_lt end.location p.locations) p.traps
+
+abbrev overs_lie : Parts → Bool
+overs_lie p = list_all (λ (end : OverEnd). nat_lt end.location p.locations) p.overs
+
 pub some_locations : (p : Parts) → IsFaultless p → 0 < p.locations
 some_locations p f = let lt = ltb-true p.done p.locations done_lies in omega (arith, lt)
   where
-    abbrev traps_lie : Bool
-    traps_lie = list_all (λ (end : TrapEnd). nat_lt end.location p.locations) p.traps
-
-    abbrev overs_lie : Bool
-    overs_lie = list_all (λ (end : OverEnd). nat_lt end.location p.locations) p.overs
-
     done_lies : nat_lt p.done p.locations ≡ true
-    done_lies = (and_parts (nat_lt p.done p.locations) traps_lie
-        (and_parts (nat_lt p.done p.locations && traps_lie) overs_lie
+    done_lies = (and_parts (nat_lt p.done p.locations) (traps_lie p)
+        (and_parts (nat_lt p.done p.locations && traps_lie p) (overs_lie p)
         (and_parts (edges_lie p && calls_lie p && loops_lie p) (has_ends p) f.locations).1).0).0
 
 pub first_is : (p : Parts) (n : ℕ) → IsFaultless p → IsWellMade p → 0 < n → IsCopy n p.loops 0 p.locations (entered_copy p.loops 0)
