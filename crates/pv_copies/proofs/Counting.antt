@@ -1,22 +1,19 @@
 -- The automaton of the copies has as many edges as are counted, and all of them lead forward.
-use Rattle.std.proofs.Common.{◌≡◌, ℕ, zero, suc, ◌+◌, ◌*◌, ◌<◌, ◌≤◌, ◌⊎◌, inl, inr, List, [], ◌∷◌, ◌++◌, map, length, slice_get, length-append, Bool, true, false, not, ◌||◌, ◌==◌, nat_le, cond, Option, Some, None, refl, sym, subst, ap, ◌∙◌, suc-mul, arith}
+use Rattle.std.proofs.Common.{◌≡◌, ℕ, zero, suc, ◌+◌, ◌*◌, ◌<◌, ◌≤◌, ◌⊎◌, inl, inr, List, [], ◌∷◌, ◌++◌, map, length, slice_get, length-append, Bool, true, false, ◌||◌, ◌==◌, nat_le, cond, Option, Some, None, refl, sym, subst, ap, ◌∙◌, suc-mul, arith}
 use Rattle.std.specs.List.{AllByRecursion, list_any}
-use Rattle.std.proofs.lemmas.Bool.{true≢false, eqb-true, or_left, or_right, or_cases, not-false, cases_Bool}
+use Rattle.std.proofs.lemmas.Bool.{true≢false, eqb-true, or_left, or_right, or_cases, not-false}
 use Rattle.std.proofs.lemmas.List.Elements.{All-from_recursion}
-use Rattle.pv_place.specs.declared.place.Place.{Place}
-use Rattle.pv_place.specs.declared.trap.TrapKind.{TrapKind}
 use Rattle.pv_flow.specs.Automata.{Edge, Loop, TrapEnd, OverEnd, Parts, edges_from, calls_from}
 use Rattle.pv_flow.specs.Faults.{IsFaultless}
 use Rattle.pv_flow.specs.WellMade.{is_end, IsWellMade}
 use Rattle.pv_flow.specs.Runs.{End, done, trap, over}
 use Rattle.pv_copies.specs.Copies.{Copy, copy, beyond, within, target, exit_of_copy}
-use Rattle.pv_copies.specs.Places.{fits, plain, rounds, once_more, text, total, once, size, place, IsCopy, stands_in, one_each, Stands}
-use Rattle.pv_copies.specs.Unrolled.{CopiedEdge, copied_edges, copied, whole_text, text_size, place_in_text, numbered_by, traps_by, edges_of, unrolled, unrolled_size}
+use Rattle.pv_copies.specs.Places.{fits, plain, rounds, once_more, text, total, once, size, place, IsCopy, stands_in, one_each}
+use Rattle.pv_copies.specs.Unrolled.{CopiedEdge, copied_edges, copied, whole_text, text_size, place_in_text, numbered_by, traps_by, edges_of}
 use Rattle.pv_copies.specs.Correct.{NumbersLeadForward, EdgesAreCounted}
 use Rattle.pv_copies.proofs.Rising.{weight}
-use Rattle.pv_copies.proofs.Listing.{Along, IsNumbered, FirstsStand}
-use Rattle.pv_copies.proofs.Whole.{firsts_stand, copies_lead_forward, text_is_numbered, text_is_long}
-use Rattle.pv_copies.proofs.Numbers.{get_below}
+use Rattle.pv_copies.proofs.Listing.{Along, IsNumbered}
+use Rattle.pv_copies.proofs.Whole.{copies_lead_forward, text_is_numbered, text_is_long}
 
 -- ---- what the copies of the text take
 

@@ -1,15 +1,15 @@
 -- Where an edge leads from a copy is a copy again, and it stands further on: by recursion on the loops, by where the edge begins and ends
 -- to the first of them.
-use Rattle.std.proofs.Common.{◌≡◌, ℕ, zero, suc, ◌+◌, ◌*◌, ◌<◌, ◌≤◌, ◌⊎◌, inl, inr, List, [], ◌∷◌, Bool, true, false, not, ◌&&◌, ◌==◌, nat_lt, nat_le, cond, refl, sym, subst, ap, ◌∙◌, suc-mul, arith}
+use Rattle.std.proofs.Common.{◌≡◌, ℕ, suc, ◌+◌, ◌*◌, ◌<◌, ◌≤◌, ◌⊎◌, inl, inr, List, [], ◌∷◌, Bool, true, false, not, ◌&&◌, ◌==◌, nat_le, cond, refl, sym, subst, ap, ◌∙◌, suc-mul, arith}
 use Rattle.std.specs.List.{AllByRecursion}
 use Rattle.std.proofs.Math.Nat.{mul-le-mul_right}
-use Rattle.std.proofs.lemmas.Bool.{true≢false, false≢true, both_ways, le-leb, lt-leb, leb-false, eqb-true, eq-eqb, cases_lt, and_left, and_from, cases_Bool}
+use Rattle.std.proofs.lemmas.Bool.{false≢true, both_ways, le-leb, leb-false, eqb-true, eq-eqb, cases_lt, and_left}
 use Rattle.pv_flow.specs.Automata.{Loop, holds, is_turn}
-use Rattle.pv_copies.specs.Copies.{Copy, copy, beyond, location_of, numbers_of, within, front, back, taken_out, lead, is_past, goes_round, next, led_to, left, target, entered_copy}
-use Rattle.pv_copies.specs.Places.{fits, total, once, size, place_in, place, IsInner, IsCopy}
+use Rattle.pv_copies.specs.Copies.{Copy, copy, beyond, location_of, numbers_of, within, front, back, lead, is_past, next, led_to, left, target, entered_copy}
+use Rattle.pv_copies.specs.Places.{fits, size, IsInner, IsCopy}
 use Rattle.pv_copies.proofs.Leading.{IsLed, turn_ends, turn_is_first, mapped}
-use Rattle.pv_copies.proofs.Nesting.{Side, before, here, behind, side, out_before, out_behind, in_here, held_low, held_high, IsLater, AreInOrder, IsOf, AreOf, later_first, fitting, apart_of, apart_holds, of_before, of_inside, of_behind, IsBack, LeadsBack, Leads, no_back}
-use Rattle.pv_copies.proofs.Picking.{copy_before, before_copy, copy_behind, behind_copy, copy_here, here_copy, copy_apart, apart_copy, copy_bounds, copy_within, size_at, size_apart, here_place, behind_place, place_before, place_behind, place_here, place_apart, place_within}
+use Rattle.pv_copies.proofs.Nesting.{Side, before, here, behind, side, out_before, out_behind, in_here, held_low, held_high, IsLater, AreInOrder, AreOf, fitting, apart_of, apart_holds, of_before, of_inside, of_behind}
+use Rattle.pv_copies.proofs.Picking.{copy_before, before_copy, copy_behind, behind_copy, copy_here, here_copy, copy_apart, apart_copy, copy_bounds, copy_within}
 
 abbrev Ranges : List Loop → Type 0
 Ranges loops = AllByRecursion (λ (loop : Loop). loop.first ≤ loop.last) loops

@@ -1,12 +1,12 @@
 -- What an edge is to a loop, of all that an automaton keeps: where it enters it, and which edges start its turns; and how loops lie to one
 -- another and in a range of locations.
-use Rattle.std.proofs.Common.{◌≡◌, ℕ, zero, suc, ◌<◌, ◌≤◌, ◌⊎◌, inl, inr, List, [], ◌∷◌, length, slice_get, Bool, true, false, not, ◌&&◌, ◌||◌, ◌==◌, nat_lt, nat_le, cond, Option, Some, None, IfSome, refl, sym, subst, ap, ◌∙◌, arith}
-use Rattle.std.specs.List.{AllByRecursion, list_any, list_all}
-use Rattle.std.proofs.lemmas.Bool.{true≢false, false≢true, both_ways, ltb-true, ltb-false, leb-true, le-leb, eqb-true, eq-eqb, cases_lt, and_parts, and_from, and_cases, or_parts, or_cases, not-true, not-false, not_from_true, cases_Bool}
+use Rattle.std.proofs.Common.{◌≡◌, ℕ, zero, suc, ◌≤◌, ◌⊎◌, inl, inr, List, [], ◌∷◌, length, slice_get, Bool, true, false, not, ◌&&◌, ◌||◌, ◌==◌, nat_lt, nat_le, cond, Option, Some, IfSome, refl, sym, subst, ap, ◌∙◌, arith}
+use Rattle.std.specs.List.{AllByRecursion, list_all}
+use Rattle.std.proofs.lemmas.Bool.{both_ways, le-leb, eqb-true, eq-eqb, and_parts, and_from, or_cases, not-true}
 use Rattle.std.proofs.lemmas.List.Elements.{recursion_from_All}
-use Rattle.pv_flow.specs.Automata.{Edge, Loop, Parts, holds, holds_loop, is_turn}
+use Rattle.pv_flow.specs.Automata.{Edge, Loop, Parts, holds, is_turn}
 use Rattle.pv_flow.specs.Faults.{cross, enters_well, is_entered_well, is_loop, IsFaultless}
-use Rattle.pv_flow.specs.WellMade.{turns_well, begins_alone, stands_before, IsLoop, AreApart, IsWellMade}
+use Rattle.pv_flow.specs.WellMade.{turns_well, IsLoop, IsWellMade}
 
 -- ---- an edge and a loop
 

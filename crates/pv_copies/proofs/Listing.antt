@@ -1,17 +1,16 @@
 -- The text has each copy that stands in it once, at its place: along the text places are 0, 1, 2, .., and each copy is found at its place.
-use Rattle.std.proofs.Common.{◌≡◌, ℕ, zero, suc, ◌+◌, ◌*◌, ◌<◌, ◌≤◌, ◌⊎◌, inl, inr, List, [], ◌∷◌, ◌++◌, map, length, slice_get, length-append, Bool, true, false, not, nat_lt, nat_le, cond, Option, Some, None, refl, sym, subst, ap, ◌∙◌, suc-mul, arith}
+use Rattle.std.proofs.Common.{◌≡◌, ℕ, zero, suc, ◌+◌, ◌*◌, ◌<◌, ◌≤◌, ◌⊎◌, inl, inr, List, [], ◌∷◌, ◌++◌, map, length, slice_get, length-append, Bool, true, false, nat_le, cond, Option, Some, refl, sym, subst, ap, ◌∙◌, suc-mul, arith}
 use Rattle.std.specs.List.{AllByRecursion}
-use Rattle.std.proofs.lemmas.Bool.{true≢false, false≢true, both_ways, leb-true, le-leb, lt-leb, cases_lt}
+use Rattle.std.proofs.lemmas.Bool.{leb-true, le-leb, cases_lt}
 use Rattle.std.proofs.lemmas.List.{length-map}
 use Rattle.std.proofs.lemmas.Option.{none-some, same_Some}
-use Rattle.pv_flow.specs.Automata.{Loop, holds}
-use Rattle.pv_copies.specs.Copies.{Copy, copy, beyond, location_of, numbers_of, within, front, back, taken_out, entered_copy}
+use Rattle.pv_flow.specs.Automata.{Loop}
+use Rattle.pv_copies.specs.Copies.{Copy, copy, beyond, location_of, numbers_of, within, front, back, taken_out}
 use Rattle.pv_copies.specs.Places.{fits, plain, rounds, once_more, text, total, once, size, place_in, place, IsInner, IsCopy, one_each, Stands}
-use Rattle.pv_copies.proofs.Leading.{mapped}
-use Rattle.pv_copies.proofs.Nesting.{Side, before, here, behind, side, IsLater, AreInOrder, IsOf, AreOf, fitting, apart_of, of_before, of_inside, of_behind}
-use Rattle.pv_copies.proofs.Picking.{copy_before, before_copy, copy_behind, behind_copy, copy_here, here_copy, copy_apart, apart_copy, copy_bounds, copy_within, size_at, size_apart, place_before, place_behind, place_here, place_apart, place_within}
+use Rattle.pv_copies.proofs.Nesting.{Side, before, here, behind, side, AreInOrder, AreOf, fitting, of_before, of_inside, of_behind}
+use Rattle.pv_copies.proofs.Picking.{copy_before, before_copy, copy_behind, behind_copy, copy_here, here_copy, copy_apart, apart_copy, copy_bounds, copy_within, place_before, place_behind, place_here, place_apart, place_within}
 use Rattle.pv_copies.proofs.Forward.{ranges_of, entered_is_copy, alone, entered_bare}
-use Rattle.pv_copies.proofs.Rising.{total_none, first_place, later_begin, once_off}
+use Rattle.pv_copies.proofs.Rising.{first_place, later_begin}
 
 -- ---- lists with their numbers
 

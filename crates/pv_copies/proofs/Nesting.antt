@@ -1,14 +1,14 @@
 -- How loops lie to one another and in a range of locations: each that stands later lies in one that stands before it, or behind it; and
 -- each lies in the range or apart from it. So it is of the parts of a range before, in and behind a loop.
-use Rattle.std.proofs.Common.{◌≡◌, ℕ, zero, suc, ◌<◌, ◌≤◌, ◌⊎◌, inl, inr, List, [], ◌∷◌, length, slice_get, Bool, true, false, not, ◌&&◌, ◌||◌, ◌==◌, nat_lt, nat_le, Option, Some, None, IfSome, refl, sym, subst, ap, ◌∙◌, arith}
+use Rattle.std.proofs.Common.{◌≡◌, ℕ, suc, ◌<◌, ◌≤◌, ◌⊎◌, inl, inr, List, [], ◌∷◌, length, slice_get, Bool, true, false, not, ◌&&◌, ◌||◌, ◌==◌, nat_lt, nat_le, Some, IfSome, refl, ap, ◌∙◌, arith}
 use Rattle.std.specs.List.{AllByRecursion, list_all}
-use Rattle.std.proofs.lemmas.Bool.{true≢false, false≢true, both_ways, ltb-true, ltb-false, lt-ltb, le-ltb, leb-true, leb-false, le-leb, lt-leb, eqb-true, eq-eqb, cases_lt, and_parts, and_from, and_cases, and_left, and_right, or_cases, not-true, not-false, cases_Bool}
+use Rattle.std.proofs.lemmas.Bool.{false≢true, both_ways, ltb-true, ltb-false, lt-ltb, leb-true, le-leb, lt-leb, eqb-true, eq-eqb, cases_lt, and_parts, and_from, and_left, and_right, or_cases, not-true}
 use Rattle.std.proofs.lemmas.List.Elements.{recursion_from_All}
-use Rattle.pv_flow.specs.Automata.{Edge, Loop, Parts, holds, holds_loop, is_turn}
+use Rattle.pv_flow.specs.Automata.{Loop, Parts, holds, holds_loop, is_turn}
 use Rattle.pv_flow.specs.Faults.{cross, is_loop, is_entered_well, IsFaultless}
-use Rattle.pv_flow.specs.WellMade.{turns_by, leads_back, leads_well, begins_alone, stands_before, IsLoop, AreApart, IsWellMade}
+use Rattle.pv_flow.specs.WellMade.{leads_back, leads_well, begins_alone, IsLoop, AreApart, IsWellMade}
 use Rattle.pv_copies.specs.Places.{fits}
-use Rattle.pv_copies.proofs.Leading.{all_listed, at_some, mapped}
+use Rattle.pv_copies.proofs.Leading.{all_listed, mapped}
 
 -- ---- where a location lies to a loop
 

@@ -4,13 +4,11 @@ use Rattle.std.proofs.Common.{◌≡◌, ℕ, zero, suc, ◌+◌, ◌*◌, ◌<�
 use Rattle.std.specs.List.{AllByRecursion, list_any}
 use Rattle.std.proofs.lemmas.Bool.{eqb-true, eq-eqb, ne_eqb, or_left, or_right, or_from, or_parts, not-true}
 use Rattle.std.proofs.lemmas.Option.{none-some, same_Some}
-use Rattle.pv_place.specs.declared.place.Place.{Place}
-use Rattle.pv_place.specs.declared.trap.TrapKind.{TrapKind}
 use Rattle.pv_flow.specs.Terms.{Valuation}
 use Rattle.pv_flow.specs.Automata.{Edge, Loop, TrapEnd, OverEnd, Parts, holds, edges_from, calls_from}
 use Rattle.pv_flow.specs.Faults.{IsFaultless}
 use Rattle.pv_flow.specs.WellMade.{is_end, IsWellMade}
-use Rattle.pv_flow.specs.Runs.{End, done, trap, over, Way, run, Counts, Spot, at, past, led, ways_by, trap_at, over_at, or_else, end_at, control_of, first_spot, turned, moved}
+use Rattle.pv_flow.specs.Runs.{End, done, trap, over, Way, run, Counts, Spot, at, past, led, ways_by, trap_at, over_at, or_else, end_at, control_of, first_spot}
 use Rattle.pv_flow.proofs.ForCallers.{ArePaired, AreAlike, same_runs}
 use Rattle.pv_copies.specs.Copies.{Copy, copy, beyond, location_of, numbers_of, within, target, entered_copy, exit_of_copy, ways_to, ways_of_copy, copies_control, first_copy}
 use Rattle.pv_copies.specs.Places.{fits, size, place, IsCopy, stands_in, one_each, Stands}
@@ -394,10 +392,10 @@ each_copied : (p : Parts) (n : ℕ) → IsFaultless p → IsWellMade p → 0 < n
     → IsCopy n p.loops 0 p.locations (copy l ks)
     → ((j : ℕ) (edge : Edge) → slice_get edges j ≡ Some edge → slice_get p.edges (e + j) ≡ Some edge)
     → AllListed p n (copied_edges n p.loops i e l ks edges)
-each_copied p n f w some i e l ks [] is at = tt
-each_copied p n f w some i e l ks (edge ∷ edges) is at =
+each_copied p n f w some i e l ks [] is known = tt
+each_copied p n f w some i e l ks (edge ∷ edges) is known =
     by (edge.from == l) refl (each_copied p n f w some i (suc e) l ks edges is
-    (λ j other g. subst (λ (m : ℕ). slice_get p.edges m ≡ Some other) (further e j) (at (suc j) other g)))
+    (λ j other g. subst (λ (m : ℕ). slice_get p.edges m ≡ Some other) (further e j) (known (suc j) other g)))
   where
     further : (e j : ℕ) → e + suc j ≡ suc e + j
     further e j = omega arith
@@ -420,7 +418,7 @@ each_copied p n f w some i e l ks (edge ∷ edges) is at =
 
         there : IsCopy n p.loops 0 p.locations (target n p.loops e l edge.to ks)
         there = subst (λ (m : ℕ). IsCopy n p.loops 0 p.locations (target n p.loops e m edge.to ks)) same
-            (copies_lead_to_copies p n e edge ks f w some (subst (λ (m : ℕ). slice_get p.edges m ≡ Some edge) (first e) (at 0 edge refl))
+            (copies_lead_to_copies p n e edge ks f w some (subst (λ (m : ℕ). slice_get p.edges m ≡ Some edge) (first e) (known 0 edge refl))
             (subst (λ (m : ℕ). IsCopy n p.loops 0 p.locations (copy m ks)) (sym same) is))
 
 all_append : {X : Type 0} (P : X → Type 0) (xs ys : List X) → AllByRecursion P xs → AllByRecursion P ys → AllByRecursion P (xs ++ ys)

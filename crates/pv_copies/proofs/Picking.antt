@@ -1,10 +1,10 @@
 -- What is said of a copy by where it lies to the first loop, there and back: that it is one, and its place.
-use Rattle.std.proofs.Common.{◌≡◌, ℕ, zero, suc, ◌+◌, ◌*◌, ◌<◌, ◌≤◌, ◌⊎◌, inl, inr, List, [], ◌∷◌, Bool, true, false, nat_lt, nat_le, cond, refl, sym, subst, ap, ◌∙◌, arith}
+use Rattle.std.proofs.Common.{◌≡◌, ℕ, suc, ◌+◌, ◌*◌, ◌<◌, ◌≤◌, ◌⊎◌, inl, inr, List, [], ◌∷◌, Bool, true, false, nat_lt, cond, refl, ap, ◌∙◌, arith}
 use Rattle.std.specs.List.{AllByRecursion}
-use Rattle.std.proofs.lemmas.Bool.{true≢false, false≢true, lt-ltb, le-ltb, cases_Bool}
+use Rattle.std.proofs.lemmas.Bool.{true≢false, false≢true, lt-ltb, le-ltb}
 use Rattle.pv_flow.specs.Automata.{Loop}
-use Rattle.pv_copies.specs.Copies.{Copy, copy, beyond, location_of, numbers_of, within, back, taken_out}
-use Rattle.pv_copies.specs.Places.{fits, total, once, size, place_in, place_by, place, IsInner, IsCopyBy, IsCopyIn, IsCopy}
+use Rattle.pv_copies.specs.Copies.{Copy, copy, beyond, location_of, numbers_of, within, taken_out}
+use Rattle.pv_copies.specs.Places.{fits, once, size, place_in, place_by, place, IsInner, IsCopyBy, IsCopyIn, IsCopy}
 use Rattle.pv_copies.proofs.Nesting.{Side, before, here, behind, side, fitting}
 
 -- ---- by Booleans

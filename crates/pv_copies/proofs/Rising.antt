@@ -1,14 +1,14 @@
 -- Places: what a copy takes ends within the text, and where an edge leads stands behind it.
-use Rattle.std.proofs.Common.{◌≡◌, ℕ, zero, suc, ◌+◌, ◌*◌, ◌<◌, ◌≤◌, ◌⊎◌, inl, inr, List, [], ◌∷◌, Bool, true, false, not, ◌&&◌, ◌==◌, nat_lt, nat_le, cond, refl, sym, subst, ap, ◌∙◌, suc-mul, arith}
+use Rattle.std.proofs.Common.{◌≡◌, ℕ, zero, suc, ◌+◌, ◌*◌, ◌<◌, ◌≤◌, ◌⊎◌, inl, inr, List, [], ◌∷◌, Bool, true, false, ◌==◌, cond, refl, sym, subst, ap, ◌∙◌, suc-mul, arith}
 use Rattle.std.specs.List.{AllByRecursion}
-use Rattle.std.proofs.lemmas.Bool.{true≢false, false≢true, both_ways, le-leb, lt-leb, leb-true, eq-eqb, cases_lt}
+use Rattle.std.proofs.lemmas.Bool.{both_ways, le-leb, lt-leb, eq-eqb, cases_lt}
 use Rattle.pv_flow.specs.Automata.{Loop, holds, is_turn}
-use Rattle.pv_copies.specs.Copies.{Copy, copy, beyond, location_of, numbers_of, within, front, back, taken_out, is_past, goes_round, next, led_to, target, entered_copy}
+use Rattle.pv_copies.specs.Copies.{Copy, copy, beyond, location_of, numbers_of, within, front, back, taken_out, is_past, goes_round, led_to, target}
 use Rattle.pv_copies.specs.Places.{fits, total, once, size, place_in, place, IsInner, IsCopy}
-use Rattle.pv_copies.proofs.Leading.{IsLed, mapped}
-use Rattle.pv_copies.proofs.Nesting.{Side, before, here, behind, side, out_before, out_behind, in_here, held_low, held_high, IsLater, AreInOrder, IsOf, AreOf, later_first, fitting, apart_of, apart_holds, of_before, of_inside, of_behind, IsBack, LeadsBack, Leads, no_back}
-use Rattle.pv_copies.proofs.Picking.{before_copy, behind_copy, here_copy, apart_copy, copy_bounds, size_at, size_apart, here_place, behind_place, place_before, place_behind, place_here, place_apart, place_within}
-use Rattle.pv_copies.proofs.Forward.{AllLed, ranges_of, entered_location, target_out, target_in, fresh, Together, parted, copy_is_no_over, turns_fit, IsNumber, numbered, valid}
+use Rattle.pv_copies.proofs.Leading.{mapped}
+use Rattle.pv_copies.proofs.Nesting.{Side, before, here, behind, side, out_before, out_behind, in_here, IsLater, AreInOrder, AreOf, fitting, apart_of, apart_holds, of_before, of_inside, of_behind, IsBack, Leads, no_back}
+use Rattle.pv_copies.proofs.Picking.{before_copy, behind_copy, here_copy, apart_copy, copy_bounds, size_at, size_apart, place_before, place_behind, place_here, place_apart, place_within}
+use Rattle.pv_copies.proofs.Forward.{AllLed, ranges_of, entered_location, target_out, target_in, fresh, Together, parted, copy_is_no_over, turns_fit, valid}
 
 -- ---- totals
 

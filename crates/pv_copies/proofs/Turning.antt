@@ -1,16 +1,16 @@
 -- Loops are copies. A run with counts and a run along copies take the same ways: the number of a location's copy is the count of the
 -- loop's turns, where turns start behind the location, and else one less.
-use Rattle.std.proofs.Common.{◌≡◌, ℕ, zero, suc, ◌+◌, ◌<◌, ◌≤◌, ◌⊎◌, inl, inr, List, [], ◌∷◌, slice_get, Bool, true, false, not, ◌&&◌, ◌==◌, nat_le, cond, Option, Some, None, refl, sym, subst, ap, ◌∙◌, arith}
+use Rattle.std.proofs.Common.{◌≡◌, ℕ, suc, ◌+◌, ◌<◌, ◌≤◌, ◌⊎◌, inl, inr, List, [], ◌∷◌, slice_get, Bool, true, false, not, ◌&&◌, ◌==◌, nat_le, cond, Option, Some, None, refl, sym, subst, ap, ◌∙◌, arith}
 use Rattle.std.specs.List.{AllByRecursion}
-use Rattle.std.proofs.lemmas.Bool.{true≢false, false≢true, both_ways, leb-true, le-leb, lt-leb, eqb-true, eq-eqb, cases_lt, and_parts, and_left}
+use Rattle.std.proofs.lemmas.Bool.{true≢false, false≢true, leb-true, le-leb, lt-leb, eqb-true, eq-eqb, cases_lt, and_parts, and_left}
 use Rattle.pv_place.specs.declared.place.Place.{Place}
 use Rattle.pv_flow.specs.Terms.{Valuation}
 use Rattle.pv_flow.specs.Automata.{Edge, Loop, Parts, holds, is_turn}
 use Rattle.pv_flow.specs.Faults.{IsFaultless}
-use Rattle.pv_flow.specs.WellMade.{IsLoop, IsWellMade}
-use Rattle.pv_flow.specs.Runs.{Way, over, end_at, run, Counts, Spot, at, past, entry_count, kept, moved, entered, turn_in, turned, over_of, past_or, led, way_of, ways_by, control_of, first_spot}
+use Rattle.pv_flow.specs.WellMade.{IsWellMade}
+use Rattle.pv_flow.specs.Runs.{over, end_at, run, Counts, Spot, at, past, entry_count, kept, moved, entered, turn_in, turned, over_of, past_or, led, way_of, ways_by, control_of, first_spot}
 use Rattle.pv_flow.proofs.ForCallers.{ArePaired, AreAlike, same_runs}
-use Rattle.pv_copies.specs.Copies.{Copy, copy, beyond, within, front, back, leads_in, lead, is_past, goes_round, next, led_to, left, target, entered_copy, way_to, ways_to, copies_control, first_copy}
+use Rattle.pv_copies.specs.Copies.{Copy, copy, beyond, within, front, lead, is_past, next, led_to, left, target, entered_copy, way_to, ways_to, copies_control, first_copy}
 use Rattle.pv_copies.proofs.Leading.{IsLed, no_turn_outside, turn_is_first, leads}
 
 -- ---- numbers and counts

@@ -1,20 +1,19 @@
 -- The laws of whole automata, from those of lists of loops and ranges.
-use Rattle.std.proofs.Common.{◌≡◌, ℕ, zero, suc, ◌+◌, ◌<◌, ◌≤◌, ◌⊎◌, inl, inr, List, [], ◌∷◌, ◌++◌, map, length, slice_get, Bool, true, false, not, ◌&&◌, ◌||◌, ◌==◌, nat_lt, Option, Some, None, IfSome, refl, sym, subst, ap, ◌∙◌, arith}
-use Rattle.std.specs.List.{AllByRecursion, list_any, list_all}
+use Rattle.std.proofs.Common.{◌≡◌, ℕ, ◌+◌, ◌<◌, ◌⊎◌, inl, inr, List, [], ◌∷◌, ◌++◌, map, slice_get, Bool, true, false, not, ◌&&◌, ◌||◌, ◌==◌, nat_lt, Some, refl, subst, ap, arith}
+use Rattle.std.specs.List.{list_any, list_all}
 use Rattle.std.proofs.lemmas.Bool.{false≢true, both_ways, ltb-true, and_parts, or_cases, not-true, eqb-true}
 use Rattle.std.proofs.lemmas.List.Elements.{recursion_from_All}
-use Rattle.pv_flow.specs.Automata.{Edge, CallEdge, Loop, TrapEnd, OverEnd, Parts, ends_of, holds}
+use Rattle.pv_flow.specs.Automata.{Edge, CallEdge, Loop, TrapEnd, OverEnd, Parts, holds}
 use Rattle.pv_flow.specs.Faults.{has_ends, IsFaultless}
 use Rattle.pv_flow.specs.WellMade.{IsLoop, leads_well, IsWellMade}
-use Rattle.pv_copies.specs.Copies.{Copy, copy, target, entered_copy}
-use Rattle.pv_copies.specs.Places.{text, size, place, IsCopy, stands_in, one_each, Stands}
-use Rattle.pv_copies.specs.Correct.{LoopsAreCopies, CopiesLeadToCopies, CopiesLeadForward, TextHasPlaces, TextHasCopies, TextIsLong}
-use Rattle.pv_copies.proofs.Leading.{leads, all_listed, listed_at, at_some, joined, mapped}
-use Rattle.pv_copies.proofs.Nesting.{AreInOrder, AreOf, IsOf, loops_in_order, leading, in_here}
+use Rattle.pv_copies.specs.Copies.{entered_copy}
+use Rattle.pv_copies.specs.Places.{text, IsCopy, stands_in}
+use Rattle.pv_copies.specs.Correct.{CopiesLeadToCopies, CopiesLeadForward, TextHasPlaces, TextHasCopies, TextIsLong}
+use Rattle.pv_copies.proofs.Leading.{leads, all_listed, listed_at, at_some, mapped}
+use Rattle.pv_copies.proofs.Nesting.{AreOf, IsOf, loops_in_order, leading, in_here}
 use Rattle.pv_copies.proofs.Forward.{entered_is_copy, valid}
 use Rattle.pv_copies.proofs.Rising.{rises}
 use Rattle.pv_copies.proofs.Listing.{Along, IsNumbered, FirstsStand, numbered_text, along_at, found, text_length}
-use Rattle.pv_copies.proofs.Turning.{loops_are_copies}
 
 -- the locations that parts name are theirs
 below : (a b n : ℕ) → (nat_lt a n && nat_lt b n) ≡ true → (a < n) × (b < n)
@@ -130,9 +129,11 @@ pub text_is_numbered : (p : Parts) (n : ℕ) → IsFaultless p → IsWellMade p 
 text_is_numbered p n f w some = numbered_text (stands_in p) n some p.loops 0 p.locations (loops_in_order p f w) (loops_of p f) (firsts_stand p w)
 
 pub text_has_places : TextHasPlaces
-text_has_places p n i c f w some at =
-    along_at (IsNumbered (stands_in p) n p.loops 0 p.locations) (text (stands_in p) n p.loops 0 p.locations) 0 i c (text_is_numbered p n f w some)
-    at
+text_has_places p n i c f w some at = subst (λ (m : ℕ). IsNumbered (stands_in p) n p.loops 0 p.locations c m) (no_more i)
+    (along_at (IsNumbered (stands_in p) n p.loops 0 p.locations) (text (stands_in p) n p.loops 0 p.locations) 0 i c (text_is_numbered p n f w some) at)
+  where
+    no_more : (i : ℕ) → 0 + i ≡ i
+    no_more i = omega arith
 
 pub text_has_copies : TextHasCopies
 text_has_copies p n c f w h it = found (stands_in p) n p.loops c (loops_in_order p f w) (firsts_stand p w) it 0 p.locations h

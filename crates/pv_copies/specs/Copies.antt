@@ -2,7 +2,7 @@
 -- loop starts no turn, its first location stands once more behind them, since it is come to once more than turns are taken; and behind
 -- that the location where the bound is gone over. The copies of an automaton with the ways between them are a control like the
 -- automaton's own, without counts.
-use Rattle.std.specs.Prelude.{ℕ, suc, ◌+◌, List, [], ◌∷◌, Bool as Truth, true, false, not, ◌&&◌, ◌==◌, nat_le, cond, Option, Some, None}
+use Rattle.std.specs.Prelude.{ℕ, suc, ◌+◌, List, [], ◌∷◌, Bool as Truth, true, false, not, ◌&&◌, ◌==◌, nat_le, cond, Option, Some}
 use Rattle.pv_flow.specs.Automata.{Edge, Loop, Parts, holds, is_turn}
 use Rattle.pv_flow.specs.Runs.{End, over, Way, Control, end_at}
 
