@@ -9,3 +9,4 @@ pub mod Whole
 pub mod Numbers
 pub mod Counting
 pub mod Examples
+pub mod Machine

@@ -1,11 +1,12 @@
 -- What is so of the copies of each automaton that is well made: the statements of the laws.
-use Rattle.std.specs.Prelude.{◌≡◌, ℕ, ◌+◌, ◌<◌, ◌≤◌, List, length, slice_get, true, Some}
+use Rattle.std.specs.Prelude.{◌≡◌, ℕ, ◌+◌, ◌<◌, ◌≤◌, List, length, slice_get, true, Some, None}
+use Rattle.pv_machine.specs.Same.{IsSame}
 use Rattle.pv_flow.specs.Terms.{Valuation}
 use Rattle.pv_flow.specs.Automata.{Edge, Parts}
 use Rattle.pv_flow.specs.Faults.{IsFaultless}
 use Rattle.pv_flow.specs.WellMade.{IsWellMade}
 use Rattle.pv_flow.specs.Runs.{run, control_of, first_spot}
-use Rattle.pv_flow.specs.Machines.{IsAcyclic}
+use Rattle.pv_flow.specs.Machines.{machine_of, IsAcyclic}
 use Rattle.pv_copies.specs.Copies.{Copy, copy, target, copies_control, first_copy}
 use Rattle.pv_copies.specs.Places.{text, size, place, IsCopy, stands_in, one_each, Stands}
 use Rattle.pv_copies.specs.Unrolled.{unrolled, unrolled_size}
@@ -62,6 +63,11 @@ TextIsLong = (p : Parts) (n : ℕ) → IsFaultless p → IsWellMade p → length
 abbrev pub CopiesAreNumbers : Type 0
 CopiesAreNumbers = (p : Parts) (n steps : ℕ) (w : Valuation) → IsFaultless p → IsWellMade p → 0 < n → stands_in p 0 ≡ true
     → run (control_of (unrolled p n) 1) steps (first_spot (unrolled p n)) w ≡ run (control_of p n) steps (first_spot p) w
+
+-- with as many steps its machine is the same
+abbrev pub UnrolledHasTheMachine : Type 0
+UnrolledHasTheMachine = (p : Parts) (n steps : ℕ) → IsFaultless p → IsWellMade p → 0 < n → stands_in p 0 ≡ true
+    → IsSame (machine_of (unrolled p n) 1 steps None) (machine_of p n steps None)
 
 -- it has no loops, and its edges lead forward
 abbrev pub NumbersLeadForward : Type 0

@@ -1,5 +1,5 @@
 //! Laws of copies, each the contract of a function that does nothing. Their statements are those of `specs/Correct`.
-ghost use Rattle.pv_copies.specs.Correct.{LoopsAreCopies, CopiesLeadToCopies, CopiesLeadForward, TextHasPlaces, TextHasCopies, TextIsLong, CopiesAreNumbers, NumbersLeadForward, EdgesAreCounted};
+ghost use Rattle.pv_copies.specs.Correct.{LoopsAreCopies, CopiesLeadToCopies, CopiesLeadForward, TextHasPlaces, TextHasCopies, TextIsLong, CopiesAreNumbers, UnrolledHasTheMachine, NumbersLeadForward, EdgesAreCounted};
 
 /// Runs with counts and runs along copies are equal, with as many steps.
 pub fn loops_are_copies()
@@ -34,6 +34,11 @@ pub fn text_is_long()
 /// The automaton of the copies runs as they do.
 pub fn copies_are_numbers()
     ensures { CopiesAreNumbers }
+{}
+
+/// With as many steps its machine is the same.
+pub fn unrolled_has_the_machine()
+    ensures { UnrolledHasTheMachine }
 {}
 
 /// It has no loops, and its edges lead forward.
