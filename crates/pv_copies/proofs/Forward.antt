@@ -244,7 +244,7 @@ valid_behind : (n : ℕ) (loop : Loop) (loops : List Loop) (a b e l to : ℕ) (k
 valid_behind n loop loops a b e l to ks order of f high last lt less go h =
     let fit = fitting loop a b f in
     let g = go (suc loop.last) b ks (of_behind loop loops a b order.0 fit.0 order.2 order.1 of) (omega (arith, lt)) high (omega (arith, less)) last
-        (behind_copy n loop loops a b (copy l ks) f (omega (arith, lt, order.0)) lt h) in
+    (behind_copy n loop loops a b (copy l ks) f (omega (arith, lt, order.0)) lt h) in
     let at = copy_bounds n loops (suc loop.last) b (target n loops e l to ks) (ranges_of loops order.2) g in
     subst (λ (c : Copy). IsCopy n (loop ∷ loops) a b c) (sym (target_out n loop loops e l to ks (out_behind loop l lt) (out_behind loop to less)))
     (copy_behind n loop loops a b (target n loops e l to ks) f (omega (arith, at.0, order.0)) (omega (arith, at.0)) g)

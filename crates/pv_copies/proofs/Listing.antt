@@ -214,11 +214,14 @@ once_numbered stands n some loop loops a b order f first = by loop.entry_turn re
     by : (t : Bool) → loop.entry_turn ≡ t → Along (IsNumbered stands n (loop ∷ loops) a b) (cond t [] (copy loop.first (n ∷ []) ∷ []))
         (size (one_each stands) 1 n loops a loop.first + n * size (one_each stands) 1 n loops loop.first (suc loop.last))
     by true on = tt
-    by false off = ((
-      copy_here n loop loops a b (copy loop.first (n ∷ [])) f (omega arith) order.0 (first_is_copy n some loop loops order off, inr (off, refl)),
-      omega (arith, place_here (one_each stands) 1 n loop loops a b (copy loop.first (n ∷ [])) f (omega arith) order.0, none off),
-      first off,
-    ), tt)
+    by false off = (
+      (
+        copy_here n loop loops a b (copy loop.first (n ∷ [])) f (omega arith) order.0 (first_is_copy n some loop loops order off, inr (off, refl)),
+        omega (arith, place_here (one_each stands) 1 n loop loops a b (copy loop.first (n ∷ [])) f (omega arith) order.0, none off),
+        first off,
+      ),
+      tt,
+    )
 
 pub numbered_text : (stands : ℕ → Bool) (n : ℕ) → 0 < n → (loops : List Loop) (a b : ℕ) → AreInOrder loops → AreOf a b loops → FirstsStand stands loops
     → Along (IsNumbered stands n loops a b) (text stands n loops a b) 0
