@@ -123,7 +123,7 @@ all_length p n i (copy l ks ∷ cs) =
 all_length p n i (beyond loop ks ∷ cs) = let rest = all_length p n (suc i) cs in omega (arith, rest)
 
 -- where a scan is done, and where it traps, no edges begin
-any_before : (f : ℕ → Bool) (xs ys : List ℕ) → list_any f xs ≡ true → list_any f (xs ++ ys) ≡ true
+pub any_before : (f : ℕ → Bool) (xs ys : List ℕ) → list_any f xs ≡ true → list_any f (xs ++ ys) ≡ true
 any_before f [] ys h = absurd (true≢false (sym h))
 any_before f (x ∷ xs) ys h = by (or_cases (f x) (list_any f xs) h) (λ g. any_before f xs ys g)
   where
@@ -168,7 +168,7 @@ edges_are_counted p n f w =
 
 -- ---- forward
 
-abbrev IsAhead : Parts → ℕ → CopiedEdge → Type 0
+abbrev pub IsAhead : Parts → ℕ → CopiedEdge → Type 0
 IsAhead p n x = (x.from < text_size p n) × (x.from < place_in_text p n x.to)
 
 each_ahead : (p : Parts) (n : ℕ) → IsFaultless p → IsWellMade p → 0 < n → (i e l : ℕ) (ks : List ℕ) (edges : List Edge)
@@ -205,11 +205,11 @@ each_ahead p n f w some i e l ks (edge ∷ edges) is number stands short at =
             (subst (λ (m : ℕ). slice_get p.edges m ≡ Some edge) (first e) (at 0 edge refl))
             (subst (λ (m : ℕ). IsCopy n p.loops 0 p.locations (copy m ks)) (sym same) is))
 
-all_append : {X : Type 0} (P : X → Type 0) (xs ys : List X) → AllByRecursion P xs → AllByRecursion P ys → AllByRecursion P (xs ++ ys)
+pub all_append : {X : Type 0} (P : X → Type 0) (xs ys : List X) → AllByRecursion P xs → AllByRecursion P ys → AllByRecursion P (xs ++ ys)
 all_append P [] ys h g = g
 all_append P (x ∷ xs) ys h g = (h.0, all_append P xs ys h.1 g)
 
-all_ahead : (p : Parts) (n : ℕ) → IsFaultless p → IsWellMade p → 0 < n → (i : ℕ) (cs : List Copy)
+pub all_ahead : (p : Parts) (n : ℕ) → IsFaultless p → IsWellMade p → 0 < n → (i : ℕ) (cs : List Copy)
     → Along (IsNumbered (stands_in p) n p.loops 0 p.locations) cs i → i + length cs ≤ text_size p n
     → AllByRecursion (IsAhead p n) (copied p n i cs)
 all_ahead p n f w some i [] are le = tt
@@ -229,7 +229,7 @@ number_ahead (Some done) i done_at t here short lt = short
 number_ahead (Some (trap kind place)) i done_at t here short lt = omega (arith, short)
 number_ahead (Some (over place)) i done_at t here short lt = lt
 
-edges_ahead : (p : Parts) (n t : ℕ) (xs : List CopiedEdge) → AllByRecursion (IsAhead p n) xs
+pub edges_ahead : (p : Parts) (n t : ℕ) (xs : List CopiedEdge) → AllByRecursion (IsAhead p n) xs
     → AllByRecursion (λ (edge : Edge). edge.from < edge.to) (edges_of p n t xs)
 edges_ahead p n t [] all = tt
 edges_ahead p n t (x ∷ xs) all = (

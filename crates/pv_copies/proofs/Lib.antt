@@ -10,3 +10,4 @@ pub mod Numbers
 pub mod Counting
 pub mod Examples
 pub mod Machine
+pub mod Made

@@ -25,7 +25,7 @@ use Rattle.pv_copies.proofs.Whole.{loops_of, some_locations, first_is, copies_le
 abbrev way_along : CopiedEdge → Way Copy
 way_along x = record { guard = x.guard; sets = x.sets; to = x.to }
 
-abbrev ways_at : ℕ → List CopiedEdge → List (Way Copy)
+abbrev pub ways_at : ℕ → List CopiedEdge → List (Way Copy)
 ways_at i [] = []
 ways_at i (x ∷ xs) = cond (x.from == i) (way_along x ∷ ways_at i xs) (ways_at i xs)
 
@@ -78,7 +78,7 @@ none_before p n k i (copy l ks ∷ cs) lt =
     ∙ none_before p n (suc k) i cs (omega (arith, lt))
 none_before p n k i (beyond loop ks ∷ cs) lt = none_before p n (suc k) i cs (omega (arith, lt))
 
-none_behind : (p : Parts) (n k i : ℕ) (cs : List Copy) → k + length cs ≤ i → ways_at i (copied p n k cs) ≡ []
+pub none_behind : (p : Parts) (n k i : ℕ) (cs : List Copy) → k + length cs ≤ i → ways_at i (copied p n k cs) ≡ []
 none_behind p n k i [] le = refl
 none_behind p n k i (copy l ks ∷ cs) le =
     ways_append i (copied_edges n p.loops k 0 l ks p.edges) (copied p n (suc k) cs)
@@ -90,7 +90,7 @@ no_more : {X : Type 0} (xs : List X) → xs ++ [] ≡ xs
 no_more [] = refl
 no_more (x ∷ xs) = ap (λ ys. x ∷ ys) (no_more xs)
 
-ways_of_number : (p : Parts) (n k j i : ℕ) (cs : List Copy) (c : Copy) → i ≡ k + j → slice_get cs j ≡ Some c
+pub ways_of_number : (p : Parts) (n k j i : ℕ) (cs : List Copy) (c : Copy) → i ≡ k + j → slice_get cs j ≡ Some c
     → ways_at i (copied p n k cs) ≡ ways_of_copy p n c
 ways_of_number p n k j i [] c e g = absurd (none-some c g)
 ways_of_number p n k zero i (copy l ks ∷ cs) c e g =
@@ -206,7 +206,7 @@ exit_by p n c i (Some (over place)) x h =
 -- ---- ways
 
 -- a copy that is led to, if it doesn't stand behind the text
-abbrev IsListed : Parts → ℕ → Copy → Option End → Type 0
+abbrev pub IsListed : Parts → ℕ → Copy → Option End → Type 0
 IsListed p n c None = (slice_get (whole_text p n) (place_in_text p n c) ≡ Some c) × (place_in_text p n c < text_size p n)
 IsListed p n c (Some done) = Unit {0}
 IsListed p n c (Some (trap kind place)) = Unit {0}
@@ -238,7 +238,7 @@ led_number p n traps t c xs (Some (trap kind place)) h left = (
       (eq-eqb (text_size p n + suc t) (text_size p n + suc t) refl),
 )
 
-abbrev AllListed : Parts → ℕ → List CopiedEdge → Type 0
+abbrev pub AllListed : Parts → ℕ → List CopiedEdge → Type 0
 AllListed p n xs = AllByRecursion (λ (x : CopiedEdge). IsListed p n x.to (exit_of_copy p x.to)) xs
 
 ways_paired : (p : Parts) (n i : ℕ) (counts : Counts) (e t : ℕ) (xs : List CopiedEdge) → AllListed p n xs
@@ -287,7 +287,7 @@ end_has_no_ways p n w l ks end = no_edges n p.loops 0 l ks p.edges (second (leng
     second : (a b : ℕ) → a + b ≡ 0 → b ≡ 0
     second a b e = omega (arith, e)
 
-any_behind : (f : ℕ → Bool) (xs ys : List ℕ) → list_any f ys ≡ true → list_any f (xs ++ ys) ≡ true
+pub any_behind : (f : ℕ → Bool) (xs ys : List ℕ) → list_any f ys ≡ true → list_any f (xs ++ ys) ≡ true
 any_behind f [] ys h = h
 any_behind f (x ∷ xs) ys h = or_right (f x) (list_any f (xs ++ ys)) (any_behind f xs ys h)
 
@@ -330,14 +330,14 @@ ends_there p l e h = by (p.done == l) refl (trap_at l p.traps) refl
         (over_ends l e p.overs (sym (ap (λ (t : Bool). cond t (Some done) (or_else (trap_at l p.traps) (over_at l p.overs))) off
         ∙ ap (λ (x : Option End). or_else x (over_at l p.overs)) g) ∙ h)))
 
-ended_ways : (p : Parts) (n : ℕ) → IsWellMade p → (c : Copy) (e : End) → exit_of_copy p c ≡ Some e → ways_of_copy p n c ≡ []
+pub ended_ways : (p : Parts) (n : ℕ) → IsWellMade p → (c : Copy) (e : End) → exit_of_copy p c ≡ Some e → ways_of_copy p n c ≡ []
 ended_ways p n w (copy l ks) e h = end_has_no_ways p n w l ks (ends_there p l e h)
 ended_ways p n w (beyond loop ks) e h = refl
 
 -- ---- which copies stand in the text
 
 -- one that doesn't end as where a scan is done or as a trap
-abbrev IsText : Option End → Type 0
+abbrev pub IsText : Option End → Type 0
 IsText None = Unit {0}
 IsText (Some done) = ⊥
 IsText (Some (trap kind place)) = ⊥
@@ -367,7 +367,7 @@ stands_by : (p : Parts) (c : Copy) → IsText (exit_of_copy p c) → Stands (sta
 stands_by p (copy l ks) h = text_stands p l h
 stands_by p (beyond loop ks) h = tt
 
-get_below : {X : Type 0} (xs : List X) (i : ℕ) (x : X) → slice_get xs i ≡ Some x → i < length xs
+pub get_below : {X : Type 0} (xs : List X) (i : ℕ) (x : X) → slice_get xs i ≡ Some x → i < length xs
 get_below [] i x h = absurd (none-some x h)
 get_below (y ∷ xs) zero x h = omega arith
 get_below (y ∷ xs) (suc i) x h = let rest = get_below xs i x h in omega (arith, rest)
@@ -425,7 +425,7 @@ all_append : {X : Type 0} (P : X → Type 0) (xs ys : List X) → AllByRecursion
 all_append P [] ys h g = g
 all_append P (x ∷ xs) ys h g = (h.0, all_append P xs ys h.1 g)
 
-all_listed_in : (p : Parts) (n : ℕ) → IsFaultless p → IsWellMade p → 0 < n → (i k : ℕ) (cs : List Copy)
+pub all_listed_in : (p : Parts) (n : ℕ) → IsFaultless p → IsWellMade p → 0 < n → (i k : ℕ) (cs : List Copy)
     → Along (IsNumbered (stands_in p) n p.loops 0 p.locations) cs k → AllListed p n (copied p n i cs)
 all_listed_in p n f w some i k [] are = tt
 all_listed_in p n f w some i k (copy l ks ∷ cs) are =
@@ -554,7 +554,7 @@ no_trap l (end ∷ traps) h =
     let both = or_parts (end.location == l) (list_any (λ (other : TrapEnd). other.location == l) traps) h in
     ap (λ (t : Bool). cond t (Some (trap end.kind end.place)) (trap_at l traps)) both.0 ∙ no_trap l traps both.1
 
-stands_text : (p : Parts) (l : ℕ) → stands_in p l ≡ true → IsText (end_at p l)
+pub stands_text : (p : Parts) (l : ℕ) → stands_in p l ≡ true → IsText (end_at p l)
 stands_text p l h = subst IsText (sym shown) (over_text l p.overs)
   where
     both : ((p.done == l) ≡ false) × (list_any (λ (end : TrapEnd). end.location == l) p.traps ≡ false)

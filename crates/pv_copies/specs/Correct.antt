@@ -73,6 +73,11 @@ UnrolledHasTheMachine = (p : Parts) (n steps : ℕ) → IsFaultless p → IsWell
 abbrev pub NumbersLeadForward : Type 0
 NumbersLeadForward = (p : Parts) (n : ℕ) → IsFaultless p → IsWellMade p → 0 < n → IsAcyclic (unrolled p n)
 
+-- it has no fault and is well made, if there are no call edges
+abbrev pub UnrolledIsWellMade : Type 0
+UnrolledIsWellMade = (p : Parts) (n : ℕ) → IsFaultless p → IsWellMade p → 0 < n → length p.calls ≡ 0
+    → IsFaultless (unrolled p n) × IsWellMade (unrolled p n)
+
 -- it has as many edges as are counted
 abbrev pub EdgesAreCounted : Type 0
 EdgesAreCounted = (p : Parts) (n : ℕ) → IsFaultless p → IsWellMade p → length (unrolled p n).edges ≡ unrolled_size p n

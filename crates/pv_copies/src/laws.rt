@@ -1,5 +1,5 @@
 //! Laws of copies, each the contract of a function that does nothing. Their statements are those of `specs/Correct`.
-ghost use Rattle.pv_copies.specs.Correct.{LoopsAreCopies, CopiesLeadToCopies, CopiesLeadForward, TextHasPlaces, TextHasCopies, TextIsLong, CopiesAreNumbers, UnrolledHasTheMachine, NumbersLeadForward, EdgesAreCounted};
+ghost use Rattle.pv_copies.specs.Correct.{LoopsAreCopies, CopiesLeadToCopies, CopiesLeadForward, TextHasPlaces, TextHasCopies, TextIsLong, CopiesAreNumbers, UnrolledHasTheMachine, NumbersLeadForward, UnrolledIsWellMade, EdgesAreCounted};
 
 /// Runs with counts and runs along copies are equal, with as many steps.
 pub fn loops_are_copies()
@@ -44,6 +44,11 @@ pub fn unrolled_has_the_machine()
 /// It has no loops, and its edges lead forward.
 pub fn numbers_lead_forward()
     ensures { NumbersLeadForward }
+{}
+
+/// It has no fault and is well made.
+pub fn unrolled_is_well_made()
+    ensures { UnrolledIsWellMade }
 {}
 
 /// It has as many edges as are counted.
