@@ -165,8 +165,11 @@ traps_behind p n t (x ∷ xs) = by (exit_of_copy p x.to) (λ u. traps_behind p n
     by None go = go t
     by (Some done) go = go t
     by (Some (over place)) go = go t
-    by (Some (trap kind place)) go = (omega arith, mapped (λ (m : ℕ). text_size p n + suc t < m) (λ (m : ℕ). text_size p n + t < m)
-        (trap_locations (traps_of p n (suc t) xs)) later (go (suc t)))
+    by (Some (trap kind place)) go = (
+      omega arith,
+      mapped (λ (m : ℕ). text_size p n + suc t < m) (λ (m : ℕ). text_size p n + t < m)
+          (trap_locations (traps_of p n (suc t) xs)) later (go (suc t)),
+    )
 
 -- and each number up to the last is one
 traps_reach : (p : Parts) (n t : ℕ) (xs : List CopiedEdge) (m : ℕ) → text_size p n + t < m → m ≤ text_size p n + t + length (traps_of p n t xs)
