@@ -2,8 +2,9 @@
 use Rattle.std.proofs.Common.{◌≡◌, ℕ, pos, Bool as Truth, true, false, List, [], ◌∷◌, map, length, refl}
 use Rattle.pv_word.specs.declared.types.Ty.TheVariants.{Bool}
 use Rattle.pv_place.specs.declared.place.Place.{Place}
+use Rattle.pv_place.specs.declared.trap.TrapKind.TheVariants.{Unset}
 use Rattle.pv_flow.specs.Terms.{constant}
-use Rattle.pv_flow.specs.Automata.{Edge, Loop, OverEnd, Parts}
+use Rattle.pv_flow.specs.Automata.{Edge, Loop, TrapEnd, OverEnd, Parts}
 use Rattle.pv_copies.specs.Unrolled.{unrolled, unrolled_size}
 
 abbrev here : Place
@@ -79,6 +80,37 @@ for_edges = refl
 
 for_locations : (unrolled counted 16).locations ≡ 53
 for_locations = refl
+
+-- FOR k := 3 TO 1 BY -1 DO n := n + k; END_FOR, where k may have no value: one turn
+abbrev trapping : Parts
+trapping = record {
+  vars = [];
+  bound = 0;
+  shared = 0;
+  locations = 7;
+  edges = edge 0 1 ∷ edge 1 2 ∷ edge 2 3 ∷ edge 2 5 ∷ edge 3 6 ∷ edge 3 4 ∷ edge 4 2 ∷ [];
+  calls = [];
+  loops = range 2 4 false (2 ∷ []) ∷ [];
+  done = 5;
+  traps = record { location = 6; kind = Unset; place = here } ∷ [];
+  overs = [];
+}
+
+abbrev traps : Parts → List ℕ
+traps p = map (λ (end : TrapEnd). end.location) p.traps
+
+trapping_begins : begins (unrolled trapping 1) ≡ 0 ∷ 1 ∷ 2 ∷ 2 ∷ 3 ∷ 3 ∷ 4 ∷ 5 ∷ 5 ∷ []
+trapping_begins = refl
+
+trapping_ends : ends (unrolled trapping 1) ≡ 1 ∷ 2 ∷ 3 ∷ 7 ∷ 8 ∷ 4 ∷ 5 ∷ 6 ∷ 7 ∷ []
+trapping_ends = refl
+
+trapping_traps : traps (unrolled trapping 1) ≡ 8 ∷ []
+trapping_traps = refl
+
+-- with two turns each copy of the edge has a location of its own
+two_traps : traps (unrolled trapping 2) ≡ 11 ∷ 12 ∷ []
+two_traps = refl
 
 -- REPEAT REPEAT n := n + 1; UNTIL x END_REPEAT; UNTIL y END_REPEAT
 abbrev twice : Parts

@@ -4,6 +4,7 @@ pub mod Nesting
 pub mod Picking
 pub mod Forward
 pub mod Rising
+pub mod Shifts
 pub mod Listing
 pub mod Whole
 pub mod Numbers

@@ -8,11 +8,12 @@ use Rattle.pv_flow.specs.Faults.{has_ends, IsFaultless}
 use Rattle.pv_flow.specs.WellMade.{IsLoop, leads_well, IsWellMade}
 use Rattle.pv_copies.specs.Copies.{entered_copy}
 use Rattle.pv_copies.specs.Places.{text, IsCopy, stands_in}
-use Rattle.pv_copies.specs.Correct.{CopiesLeadToCopies, CopiesLeadForward, TextHasPlaces, TextHasCopies, TextIsLong}
+use Rattle.pv_copies.specs.Correct.{CopiesLeadToCopies, CopiesLeadForward, PlacesAreShifts, TextHasPlaces, TextHasCopies, TextIsLong}
 use Rattle.pv_copies.proofs.Leading.{leads, all_listed, listed_at, at_some, mapped}
 use Rattle.pv_copies.proofs.Nesting.{AreOf, IsOf, loops_in_order, leading, in_here}
 use Rattle.pv_copies.proofs.Forward.{entered_is_copy, valid}
 use Rattle.pv_copies.proofs.Rising.{rises}
+use Rattle.pv_copies.proofs.Shifts.{shifted}
 use Rattle.pv_copies.proofs.Listing.{Along, IsNumbered, FirstsStand, numbered_text, along_at, found, text_length}
 
 -- the locations that parts name are theirs
@@ -140,3 +141,6 @@ text_has_copies p n c f w h it = found (stands_in p) n p.loops c (loops_in_order
 
 pub text_is_long : TextIsLong
 text_is_long p n f w = text_length (stands_in p) n p.loops 0 p.locations (firsts_stand p w)
+
+pub places_are_shifts : PlacesAreShifts
+places_are_shifts p n c weights o f w h = shifted weights o n p.loops c (loops_in_order p f w) 0 p.locations (loops_of p f) h

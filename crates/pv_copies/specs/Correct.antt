@@ -7,8 +7,8 @@ use Rattle.pv_flow.specs.Faults.{IsFaultless}
 use Rattle.pv_flow.specs.WellMade.{IsWellMade}
 use Rattle.pv_flow.specs.Runs.{run, control_of, first_spot}
 use Rattle.pv_flow.specs.Machines.{machine_of, IsAcyclic}
-use Rattle.pv_copies.specs.Copies.{Copy, copy, target, copies_control, first_copy}
-use Rattle.pv_copies.specs.Places.{text, size, place, IsCopy, stands_in, one_each, Stands}
+use Rattle.pv_copies.specs.Copies.{Copy, copy, location_of, numbers_of, target, copies_control, first_copy}
+use Rattle.pv_copies.specs.Places.{text, size, place, first_of_kind, turns_before, IsCopy, stands_in, one_each, Stands}
 use Rattle.pv_copies.specs.Unrolled.{unrolled, unrolled_size}
 
 -- the copies of its locations
@@ -44,6 +44,11 @@ abbrev pub CopiesLeadForward : Type 0
 CopiesLeadForward = (p : Parts) (n e : ℕ) (edge : Edge) (ks : List ℕ) (w : ℕ → ℕ) (o : ℕ) → IsFaultless p → IsWellMade p → 0 < n
     → slice_get p.edges e ≡ Some edge → IsCopyIn p n (copy edge.from ks)
     → place_of p n w o (copy edge.from ks) + w edge.from ≤ place_of p n w o (target n p.loops e edge.from edge.to ks)
+
+-- it stands behind the first of its kind by what the turns before it take
+abbrev pub PlacesAreShifts : Type 0
+PlacesAreShifts = (p : Parts) (n : ℕ) (c : Copy) (w : ℕ → ℕ) (o : ℕ) → IsFaultless p → IsWellMade p → IsCopyIn p n c
+    → place_of p n w o c ≡ place_of p n w o (first_of_kind c) + turns_before w o n p.loops (location_of c) (numbers_of c)
 
 -- what stands in the text is a copy that may, and stands at its place
 abbrev pub TextHasPlaces : Type 0

@@ -4,8 +4,8 @@
 -- takes `o`. So locations, edges and steps are counted alike.
 use Rattle.std.specs.Prelude.{◌≡◌, ℕ, zero, suc, ◌+◌, ◌*◌, ◌<◌, ◌≤◌, ◌⊎◌, List, [], ◌∷◌, ◌++◌, map, Bool as Truth, true, false, not, ◌&&◌, ◌||◌, ◌==◌, nat_le, nat_lt, cond}
 use Rattle.std.specs.List.{list_any}
-use Rattle.pv_flow.specs.Automata.{Loop, TrapEnd, Parts}
-use Rattle.pv_copies.specs.Copies.{Copy, copy, beyond, location_of, numbers_of, within, taken_out}
+use Rattle.pv_flow.specs.Automata.{Loop, TrapEnd, Parts, holds}
+use Rattle.pv_copies.specs.Copies.{Copy, copy, beyond, location_of, numbers_of, within, front, back, taken_out}
 
 -- the range from a on, below b, has the loop's
 abbrev pub fits : Loop → ℕ → ℕ → Truth
@@ -76,6 +76,18 @@ place w o n (loop ∷ loops) a b c = cond (fits loop a b)
     (size w o n loops a loop.first + n * size w o n loops loop.first (suc loop.last) + once w loop + o
     + place w o n loops (suc loop.last) b c))
     (place w o n loops a b c)
+
+-- the copy of the same location, or of what is gone over, in the first turn of each loop around it
+abbrev pub first_of_kind : Copy → Copy
+first_of_kind (copy l ks) = copy l (map (λ k. 0) ks)
+first_of_kind (beyond loop ks) = beyond loop (map (λ k. 0) ks)
+
+-- what all turns take that stand before the one of these numbers, of each loop that holds location l
+abbrev pub turns_before : (ℕ → ℕ) → ℕ → ℕ → List Loop → ℕ → List ℕ → ℕ
+turns_before w o n [] l ks = 0
+turns_before w o n (loop ∷ loops) l ks = cond (holds loop l)
+    (front ks * size w o n loops loop.first (suc loop.last) + turns_before w o n loops l (back ks))
+    (turns_before w o n loops l ks)
 
 -- ---- which copies there are
 

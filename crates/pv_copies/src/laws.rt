@@ -1,5 +1,5 @@
 //! Laws of copies, each the contract of a function that does nothing. Their statements are those of `specs/Correct`.
-ghost use Rattle.pv_copies.specs.Correct.{LoopsAreCopies, CopiesLeadToCopies, CopiesLeadForward, TextHasPlaces, TextHasCopies, TextIsLong, CopiesAreNumbers, UnrolledHasTheMachine, NumbersLeadForward, UnrolledIsWellMade, EdgesAreCounted};
+ghost use Rattle.pv_copies.specs.Correct.{LoopsAreCopies, CopiesLeadToCopies, CopiesLeadForward, PlacesAreShifts, TextHasPlaces, TextHasCopies, TextIsLong, CopiesAreNumbers, UnrolledHasTheMachine, NumbersLeadForward, UnrolledIsWellMade, EdgesAreCounted};
 
 /// Runs with counts and runs along copies are equal, with as many steps.
 pub fn loops_are_copies()
@@ -14,6 +14,11 @@ pub fn copies_lead_to_copies()
 /// An edge leads from a copy forward, whatever copies take.
 pub fn copies_lead_forward()
     ensures { CopiesLeadForward }
+{}
+
+/// A copy stands behind the first of its kind by what the turns before it take.
+pub fn places_are_shifts()
+    ensures { PlacesAreShifts }
 {}
 
 /// What stands in the text is a copy, and its number is its place.
