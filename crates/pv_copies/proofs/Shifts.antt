@@ -83,20 +83,34 @@ shifted w o n (loop ∷ loops) c order a b of h =
         let i = apart_copy n loop loops a b c f h in
         let at = copy_bounds n loops a b c (ranges_of loops order.2) i in
         let g = go a b of.1 i in
-        omega (arith, g, place_apart w o n loop loops a b c f, place_apart w o n loop loops a b (first_of_kind c) f,
-        out (apart_holds loop a b (location_of c) (apart_of loop a b of.0 f) at.0 at.1))
+        omega (
+          arith,
+          g,
+          place_apart w o n loop loops a b c f,
+          place_apart w o n loop loops a b (first_of_kind c) f,
+          out (apart_holds loop a b (location_of c) (apart_of loop a b of.0 f) at.0 at.1),
+        )
     by true f (before lt) go in_ =
         let i = before_copy n loop loops a b c f lt h in
         let g = go a loop.first (of_before loop loops a order.0 order.1) i in
-        omega (arith, g, place_before w o n loop loops a b c f lt,
-        place_before w o n loop loops a b (first_of_kind c) f (omega (arith, same_location c, lt)), out (out_before loop (location_of c) lt))
+        omega (
+          arith,
+          g,
+          place_before w o n loop loops a b c f lt,
+          place_before w o n loop loops a b (first_of_kind c) f (omega (arith, same_location c, lt)),
+          out (out_before loop (location_of c) lt),
+        )
     by true f (behind low lt) go in_ =
         let fit = fitting loop a b f in
         let i = behind_copy n loop loops a b c f low lt h in
         let g = go (suc loop.last) b (of_behind loop loops a b order.0 fit.0 order.2 order.1 of.1) i in
-        omega (arith, g, place_behind w o n loop loops a b c f low lt,
-        place_behind w o n loop loops a b (first_of_kind c) f (omega (arith, same_location c, low)) (omega (arith, same_location c, lt)),
-        out (out_behind loop (location_of c) lt))
+        omega (
+          arith,
+          g,
+          place_behind w o n loop loops a b c f low lt,
+          place_behind w o n loop loops a b (first_of_kind c) f (omega (arith, same_location c, low)) (omega (arith, same_location c, lt)),
+          out (out_behind loop (location_of c) lt),
+        )
     by true f (here low high) go in_ =
         let g = inner_shifted w o n loop loops c (numbers_of c) refl (here_copy n loop loops a b c f low high h) inside in
         omega (arith, g, place_here w o n loop loops a b c f low high, first_here, held (in_here loop (location_of c) low high))
