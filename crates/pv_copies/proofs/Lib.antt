@@ -1,0 +1,14 @@
+pub mod Leading
+pub mod Turning
+pub mod Nesting
+pub mod Picking
+pub mod Forward
+pub mod Rising
+pub mod Shifts
+pub mod Listing
+pub mod Whole
+pub mod Numbers
+pub mod Counting
+pub mod Examples
+pub mod Machine
+pub mod Made

@@ -1,0 +1,4 @@
+pub mod Copies
+pub mod Places
+pub mod Unrolled
+pub mod Correct
