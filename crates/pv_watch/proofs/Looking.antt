@@ -1,0 +1,58 @@
+-- A clause of whose watched literals one is false is looked at.
+use Rattle.std.proofs.Common.{◌≡◌, ◌≢◌, ℕ, zero, suc, ◌+◌, ◌*◌, ◌/◌, ◌<◌, ◌≤◌, ◌||◌, true, false, eqb, List, [], ◌∷◌, ◌++◌, length, get_or, set, take, refl, sym, ap, subst, ◌∙◌, arith, inl, inr, Option, Some, None}
+use Rattle.std.proofs.lemmas.Bool.{eqb-true, eq-eqb, cases_Bool, or_cases, or_left, or_right, both_ways}
+use Rattle.std.proofs.lemmas.List.{append-nil, take_more, take_all}
+use Rattle.pv_cnf.specs.Literal.{complement, is_outside}
+use Rattle.pv_cnf.specs.Clause.{has_outside, has_double, IsClause}
+use Rattle.pv_log.specs.Propagation.{is_false, named, unit_of}
+use Rattle.pv_log.proofs.ForCallers.{false-push, inside-bounds, complement-inside, complement-complement}
+use Rattle.pv_watch.specs.Trail.{Path, Rise, IsSound, Extends}
+use Rattle.pv_watch.specs.Turns.{CanWatch, Replaces, IsMadeTrue}
+use Rattle.pv_watch.proofs.Lefts.{unit-when}
+use Rattle.pv_watch.proofs.Paths.{sound-imply}
+use Rattle.pv_watch.proofs.Clauses.{sole-left, none-left, own-inside}
+
+pub below-bound : (v lit : ℕ) → is_outside v lit ≡ false → lit < 2 * v + 2
+below-bound v lit e = let b = inside-bounds v lit e in omega (arith, b.1)
+
+pub own-at : (clause : List ℕ) (i : ℕ) → i < length clause → is_false clause (get_or clause i 0) ≡ true
+own-at [] i lt = absurd (omega arith)
+own-at (x ∷ xs) zero lt = or_left (eqb x x) (is_false xs x) (eq-eqb x x refl)
+own-at (x ∷ xs) (suc i) lt = or_right (eqb (get_or xs i 0) x) (is_false xs (get_or xs i 0)) (own-at xs i (omega arith))
+
+-- the literals of a clause so far but one are false
+pub falses-more : (falses clause : List ℕ) (other i : ℕ) → i < length clause → ((x : ℕ) → is_false (take i clause) x ≡ true → x ≢ other → is_false falses x ≡ true)
+    → (get_or clause i 0 ≢ other → is_false falses (get_or clause i 0) ≡ true)
+    → (x : ℕ) → is_false (take (i + 1) clause) x ≡ true → x ≢ other → is_false falses x ≡ true
+falses-more falses clause other i lt before here x own ne =
+    let more : is_false (take (i + 1) clause) x ≡ (is_false (take i clause) x || (eqb x (get_or clause i 0) || false)) =
+        ap (λ (xs : List ℕ). is_false xs x) (take_more clause i 0 lt) ∙ false-push (take i clause) (get_or clause i 0) x in
+    elim (or_cases (is_false (take i clause) x) (eqb x (get_or clause i 0) || false) (sym more ∙ own)) [
+      | inl there ↦ before x there ne
+      | inr last ↦ elim (or_cases (eqb x (get_or clause i 0)) false last) [
+        | inl e ↦ (let same : x ≡ get_or clause i 0 = eqb-true x (get_or clause i 0) e in
+          ap (is_false falses) same ∙ here (λ is. ne (same ∙ is)))
+        | inr none ↦ absurd (both_ways false refl none)
+      ]
+    ]
+
+pub extends-self : (path : Path) → Extends path path
+extends-self path = record { variables = refl; starts = refl; more = []; falses = sym (append-nil path.falses) }
+
+pub already-true : (path : Path) (id : ℕ) (clause : List ℕ) (lit : ℕ) → is_false path.falses (complement lit) ≡ true → IsMadeTrue path path id clause lit
+already-true path id clause lit e = record { extends = extends-self path; true_is = e; sound = λ clauses at s. s }
+
+pub made-true : (old new : Path) (id : ℕ) (clause : List ℕ) (lit made : ℕ) → made ≡ complement lit → IsClause old.variables clause → is_false clause lit ≡ true
+    → is_false old.falses made ≡ false → is_false old.falses lit ≡ false → Replaces old.falses clause lit None
+    → new.variables ≡ old.variables → new.falses ≡ old.falses ++ made ∷ [] → new.reasons ≡ set old.reasons (length old.falses) id → new.starts ≡ old.starts
+    → length old.falses < length old.reasons → Rise old.starts (length old.falses) → IsMadeTrue old new id clause lit
+made-true old new id clause lit made made-is valid own not_true not_false others variables falses reasons starts room rise =
+    let unset : is_false old.falses (complement lit) ≡ false = ap (is_false old.falses) (sym made-is) ∙ not_true in
+    let unit : unit_of old.falses clause ≡ Some lit = unit-when old.falses clause lit (sole-left old.falses clause lit valid.distinct own not_false others) unset in
+    record {
+      extends = record { variables = variables; starts = starts; more = made ∷ []; falses = falses };
+      true_is =
+          ap (λ (f : List ℕ). is_false f (complement lit)) falses ∙ false-push old.falses made (complement lit)
+          ∙ or_right (is_false old.falses (complement lit)) (eqb (complement lit) made || false) (or_left (eqb (complement lit) made) false (eq-eqb (complement lit) made (sym made-is)));
+      sound = λ clauses at s. sound-imply clauses old new made id s rise falses reasons clause lit room starts at unit made-is;
+    }
