@@ -16,7 +16,7 @@ use Rattle.pv_watch.specs.Watched.{literal_at, other, IsSlotOf, Watches, IsWatch
 use Rattle.pv_watch.proofs.Clauses.{own-inside}
 use Rattle.pv_watch.proofs.Moving.{same-code, one-or-other, other-other, other-differs, count-costs, named-within, from-two, list-set, list-kept, in-of, eq-watch, literal-inside}
 
-named-more : (clauses : List (List ℕ)) (c : List ℕ) (id : ℕ) (clause : List ℕ) → named (clauses ++ c ∷ []) id ≡ Some clause → (named clauses id ≡ Some clause) ⊎ ((id ≡ length clauses + 1) × (clause ≡ c))
+pub named-more : (clauses : List (List ℕ)) (c : List ℕ) (id : ℕ) (clause : List ℕ) → named (clauses ++ c ∷ []) id ≡ Some clause → (named clauses id ≡ Some clause) ⊎ ((id ≡ length clauses + 1) × (clause ≡ c))
 named-more clauses c zero clause e = absurd cc
 named-more [] c (suc zero) clause e = inr (refl, sym (same_Some c clause e))
 named-more [] c (suc (suc n)) clause e = absurd cc

@@ -10,3 +10,6 @@ pub mod Walking
 pub mod Attaching
 pub mod Stepping
 pub mod Turning
+pub mod Readying
+pub mod Joining
+pub mod Entering

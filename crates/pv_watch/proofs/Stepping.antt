@@ -1,11 +1,9 @@
 -- What is known of the entry at which a walk stands, and what comes of a step.
 use Rattle.std.proofs.Common.{◌≡◌, ◌≢◌, ℕ, zero, suc, ◌+◌, ◌-◌, ◌*◌, ◌/◌, ◌<◌, ◌≤◌, true, false, List, [], ◌∷◌, ◌++◌, length, map, set, refl, sym, ap, subst, ◌∙◌, arith, Option, Some, None, slice_get, slice_index, Contains}
 use Rattle.std.proofs.lemmas.List.{length-append, length-map}
-use Rattle.std.proofs.lemmas.Option.{same_Some}
-use Rattle.pv_cnf.specs.Literal.{is_outside}
-use Rattle.pv_cnf.specs.Clause.{IsClause}
+use Rattle.pv_cnf.specs.Literal.{complement, is_outside}
+use Rattle.pv_cnf.specs.Clause.{has_double, IsClause}
 use Rattle.pv_log.specs.Propagation.{is_false, is_falsified, named}
-use Rattle.pv_log.proofs.ForCallers.{named-at}
 use Rattle.pv_region.specs.declared.watch.Watch.{Watch}
 use Rattle.pv_region.specs.Stored.{Stored, Hinted, count_of, all_lits, list_of, with_list, IsLinked, Without, HasNext}
 use Rattle.pv_region.specs.Links.{code_of}
@@ -13,9 +11,9 @@ use Rattle.pv_watch.specs.declared.turn.Walk.{Walk}
 use Rattle.pv_watch.specs.Trail.{Path, IsSound}
 use Rattle.pv_watch.specs.Quiet.{IsConflict}
 use Rattle.pv_watch.specs.Watched.{literal_at, other, IsSlotOf, Keeps}
-use Rattle.pv_watch.specs.Turns.{CanWatch, Walks, IsAtEntry, IsStuck, SameText, GoesOn}
+use Rattle.pv_watch.specs.Turns.{CanWatch, IsMadeTrue, IsVisited, Walks, IsAtEntry, IsStuck, SameText, GoesOn}
 use Rattle.pv_watch.proofs.Moving.{named-within, named-valid, count-costs, slot-room, from-two}
-use Rattle.pv_watch.proofs.Walking.{entry-there, entry-without, walk-goes}
+use Rattle.pv_watch.proofs.Walking.{entry-there, entry-without, walk-stays, walk-goes}
 use Rattle.pv_watch.proofs.Looking.{extends-self}
 use Rattle.pv_watch.proofs.Clauses.{own-inside}
 
@@ -59,15 +57,23 @@ entry-of s path slots walk w at =
       there = slot-room s path slots walk.place (other w) is.clause k of_other;
     }
 
--- the region's answer is the clause
-pub clause-is : (s : Stored) (path : Path) (slots : List ℕ) (walk : Walk) (w : Watch) (e : Entry s path slots walk w) (lits : List ℕ) → slice_get (all_lits s) (w.id - 1) ≡ Some lits → lits ≡ e.clause
-clause-is s path slots walk w e lits at =
-    same_Some lits e.clause (sym at ∙ sym (named-at (all_lits s) w.id (w.id - 1) (omega (arith, e.from_one))) ∙ e.of_clause.at)
-
 pub stuck-at : (s : Stored) (path : Path) (slots : List ℕ) (walk : Walk) (w : Watch) (at : IsAtEntry s path slots walk w) → is_falsified path.falses (entry-of s path slots walk w at).clause ≡ true → IsStuck s path slots walk.place w.id
 stuck-at s path slots walk w at false_is =
     let e = entry-of s path slots walk w at in
     record { keeps = at.walks.keeps; conflict = record { clause = e.clause; at = e.of_clause.at; false_is = false_is } }
+
+-- what a look at the clause asks
+pub visited-of : (s : Stored) (path : Path) (slots : List ℕ) (walk : Walk) (w : Watch) (o : ℕ) → IsAtEntry s path slots walk w → o ≡ literal_at slots (other w) → IsVisited s path w o
+visited-of s path slots walk w o at is =
+    let e = entry-of s path slots walk w at in
+    record {
+      clause = e.clause;
+      at = e.of_clause.at;
+      valid = e.valid;
+      own = ap (is_false e.clause) is ∙ e.own;
+      from_one = e.from_one;
+      to_last = e.to_last;
+    }
 
 pub text-self : (s : Stored) → SameText s s
 text-self s = record { variables = refl; capacity = refl; clauses = refl; lemmas = refl }
@@ -85,6 +91,36 @@ text-on a b c f g = record {
 
 pub text-lits : (s t : Stored) → SameText s t → all_lits t ≡ all_lits s
 text-lits s t f = ap (λ (cs : List (List ℕ)). cs ++ map (λ (l : Hinted). l.lits) t.lemmas) f.clauses ∙ ap (λ (ls : List Hinted). s.clauses ++ map (λ (l : Hinted). l.lits) ls) f.lemmas
+
+pub goes-self : (s : Stored) (path : Path) → IsSound (all_lits s) path → GoesOn s s path path
+goes-self s path sound = record { text = text-self s; extends = extends-self path; sound = sound }
+
+-- ---- an entry stays, or its clause is false
+
+module _ (s : Stored) (old new : Path) (slots : List ℕ) (walk : Walk) (w : Watch) (o : ℕ) (at : IsAtEntry s old slots walk w) (o-is : o ≡ literal_at slots (other w)) (sound : IsSound (all_lits s) old) where
+  pub stays-goes : ((clause : List ℕ) → named (all_lits s) w.id ≡ Some clause → IsMadeTrue old new w.id clause o) → GoesOn s s old new
+  stays-goes looks =
+      let e = entry-of s old slots walk w at in
+      let made = looks e.clause e.of_clause.at in
+      record { text = text-self s; extends = made.extends; sound = made.sound (all_lits s) e.of_clause.at sound }
+
+  pub stays-on : ((clause : List ℕ) → named (all_lits s) w.id ≡ Some clause → IsMadeTrue old new w.id clause o) → has_double new.falses ≡ false
+      → (left : List Watch) → Walks s old slots walk (w ∷ left) → Walks s new slots (record { lit = walk.lit; place = walk.place; before = Some w; kept = walk.kept + 1 }) left
+  stays-on looks distinct left walks =
+      let e = entry-of s old slots walk w at in
+      let made = looks e.clause e.of_clause.at in
+      walk-stays s old new slots walk w left walks made.extends distinct (ap (λ (l : ℕ). is_false new.falses (complement l)) (sym o-is) ∙ made.true_is)
+
+  pub conflict-goes : ((clause : List ℕ) → named (all_lits s) w.id ≡ Some clause → (new ≡ old) × (is_falsified old.falses clause ≡ true)) → GoesOn s s old new
+  conflict-goes looks =
+      let e = entry-of s old slots walk w at in
+      subst (GoesOn s s old) (sym (looks e.clause e.of_clause.at).0) (goes-self s old sound)
+
+  pub conflict-stuck : ((clause : List ℕ) → named (all_lits s) w.id ≡ Some clause → (new ≡ old) × (is_falsified old.falses clause ≡ true)) → IsStuck s new slots walk.place w.id
+  conflict-stuck looks =
+      let e = entry-of s old slots walk w at in
+      let shown = looks e.clause e.of_clause.at in
+      subst (λ (p : Path). IsStuck s p slots walk.place w.id) (sym shown.0) (stuck-at s old slots walk w at shown.1)
 
 -- ---- an entry goes to another list
 
@@ -126,8 +162,41 @@ module _ (s one two : Stored) (path : Path) (slots now : List ℕ) (walk : Walk)
         sound = subst (λ (cs : List (List ℕ)). IsSound cs path) (sym (text-lits s two text)) sound;
       }
 
--- the literal that may be watched is one of the region's
-pub can-inside : (s : Stored) (path : Path) (slots : List ℕ) (walk : Walk) (w : Watch) (e : Entry s path slots walk w) (to : ℕ) → s.variables ≡ path.variables
-    → CanWatch path.falses e.clause (literal_at slots (other w)) to → is_outside s.variables to ≡ false
-can-inside s path slots walk w e to same can =
-    ap (λ (v : ℕ). is_outside v to) same ∙ own-inside path.variables e.clause to e.valid.inside can.own
+-- where a look has shown that it may go there
+module _ (s one two : Stored) (old new : Path) (slots now : List ℕ) (walk : Walk) (w : Watch) (o to : ℕ) (at : IsAtEntry s old slots walk w) (o-is : o ≡ literal_at slots (other w))
+    (out : (gone : Watch) (rest : List Watch) → Without walk.before gone (list_of s walk.lit) rest → one ≡ with_list s walk.lit rest)
+    (free : (gone : Watch) (rest : List Watch) → Without walk.before gone (list_of s walk.lit) rest → IsLinked one gone → ⊥)
+    (looks : (clause : List ℕ) → named (all_lits s) w.id ≡ Some clause → (new ≡ old) × CanWatch old.falses clause o to) where
+  one-is : one ≡ with_list s walk.lit (at.walks.kept ++ at.left)
+  one-is = out w (at.walks.kept ++ at.left) (entry-without s old slots walk w at.left at.walks)
+
+  can : CanWatch old.falses (entry-of s old slots walk w at).clause (literal_at slots (other w)) to
+  can =
+      let e = entry-of s old slots walk w at in
+      subst (λ (l : ℕ). CanWatch old.falses e.clause l to) o-is (looks e.clause e.of_clause.at).1
+
+  same : new ≡ old
+  same = let e = entry-of s old slots walk w at in (looks e.clause e.of_clause.at).0
+
+  -- the literal is one of the region's
+  pub moves-literal : is_outside one.variables to ≡ false
+  moves-literal =
+      let e = entry-of s old slots walk w at in
+      ap (λ (t : Stored). is_outside t.variables to) one-is ∙ ap (λ (v : ℕ). is_outside v to) at.walks.keeps.variables
+      ∙ own-inside old.variables e.clause to e.valid.inside can.own
+
+  pub moves-to_last : w.id ≤ count_of one
+  moves-to_last =
+      let e = entry-of s old slots walk w at in
+      subst (λ (t : Stored). w.id ≤ count_of t) (sym one-is) e.to_last
+
+  pub moves-free : IsLinked one w → ⊥
+  moves-free = free w (at.walks.kept ++ at.left) (entry-without s old slots walk w at.left at.walks)
+
+  pub moves-goes : two ≡ with_list one to (w ∷ list_of one to) → IsSound (all_lits s) old → GoesOn s two old new
+  moves-goes put sound = subst (GoesOn s two old) (sym same) (goes-moved s one two old slots now walk w to out free put at sound)
+
+  pub moves-on : two ≡ with_list one to (w ∷ list_of one to) → now ≡ set slots (code_of w) to → (left : List Watch) → Walks s old slots walk (w ∷ left) → Walks two new now walk left
+  moves-on put now-is left walks =
+      let e = entry-of s old slots walk w at in
+      subst (λ (p : Path). Walks two p now walk left) (sym same) (step-goes s one two old slots now walk w to out free put left walks e.clause e.of_clause e.literal can now-is)

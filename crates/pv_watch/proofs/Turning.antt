@@ -4,16 +4,19 @@ use Rattle.std.specs.List.{AllByRecursion}
 use Rattle.std.proofs.lemmas.List.{append_assoc, append-nil, length-append}
 use Rattle.std.proofs.lemmas.Option.{same_Some, slice_get-get_or}
 use Rattle.pv_cnf.specs.Literal.{is_outside}
+use Rattle.pv_cnf.specs.Clause.{has_outside}
+use Rattle.pv_log.specs.Propagation.{is_false}
 use Rattle.pv_region.specs.declared.watch.Watch.{Watch}
 use Rattle.pv_region.specs.Stored.{Stored, used_of, count_of, all_lits, list_of, IsLinked}
 use Rattle.pv_watch.specs.declared.turn.Walk.{Walk}
 use Rattle.pv_watch.specs.Trail.{Path, IsSound, Extends}
 use Rattle.pv_watch.specs.Watched.{Keeps}
 use Rattle.pv_watch.specs.Turns.{OtherIsTrue, Walks, IsAtEntry, GoesOn, IsTurned}
+use Rattle.pv_watch.proofs.Clauses.{own-inside}
 use Rattle.pv_watch.proofs.Moving.{count-costs}
 use Rattle.pv_watch.proofs.Walking.{entry-there}
-use Rattle.pv_watch.proofs.Stepping.{text-self, text-on}
-use Rattle.pv_watch.proofs.Looking.{extends-self}
+use Rattle.pv_watch.proofs.Looking.{own-at}
+use Rattle.pv_watch.proofs.Stepping.{text-on}
 
 pub extends-on : (a b c : Path) → Extends a b → Extends b c → Extends a c
 extends-on a b c f g = record {
@@ -22,9 +25,6 @@ extends-on a b c f g = record {
   more = f.more ++ g.more;
   falses = g.falses ∙ ap (λ (xs : List ℕ). xs ++ g.more) f.falses ∙ append_assoc a.falses f.more g.more;
 }
-
-pub goes-self : (s : Stored) (path : Path) → IsSound (all_lits s) path → GoesOn s s path path
-goes-self s path sound = record { text = text-self s; extends = extends-self path; sound = sound }
 
 pub goes-on : (s t u : Stored) (a b c : Path) → GoesOn s t a b → GoesOn t u b c → GoesOn s u a c
 goes-on s t u a b c f g = record { text = text-on s t u f.text g.text; extends = extends-on a b c f.extends g.extends; sound = g.sound }
@@ -77,3 +77,26 @@ pub measure-is : (s : Stored) (path : Path) (slots : List ℕ) (walk : Walk) (le
 measure-is s path slots walk left walks =
     let size : length (list_of s walk.lit) ≡ length (walks.kept ++ left) = ap length walks.list in
     omega (arith, size, length-append walks.kept left, walks.count)
+
+-- what the literal at a place of the trail is
+pub turn-inside : (s : Stored) (path : Path) (slots : List ℕ) (place lit : ℕ) → Keeps s path slots place → lit ≡ slice_index path.falses place → place < length path.falses
+    → has_outside path.variables path.falses ≡ false → is_outside s.variables lit ≡ false
+turn-inside s path slots place lit k is lt inside =
+    ap (λ (v : ℕ). is_outside v lit) k.variables
+    ∙ own-inside path.variables path.falses lit inside (ap (is_false path.falses) is ∙ own-at path.falses place lt)
+
+-- ---- from an entry to the next one
+
+module _ (s t : Stored) (old new : Path) (slots now : List ℕ) (walk after : Walk) (next behind : Option Watch) (w : Watch) (is : IsWalking s old slots walk next) (e : next ≡ Some w)
+    (on : (left : List Watch) → Walks s old slots walk (w ∷ left) → Walks t new now after left) where
+  pub walking-on : ((lit : ℕ) (front rest : List Watch) → list_of s lit ≡ front ++ w ∷ rest → behind ≡ slice_get rest 0) → IsWalking t new now after behind
+  walking-on follows =
+      let at = at-entry s old slots walk next w is e in
+      record { left = at.left; walks = on at.left at.walks; next_is = follows walk.lit at.walks.kept at.left at.walks.list }
+
+  pub walking-falls : length (list_of t after.lit) - after.kept < length (list_of s walk.lit) - walk.kept
+  walking-falls =
+      let at = at-entry s old slots walk next w is e in
+      let before = measure-is s old slots walk (w ∷ at.left) at.walks in
+      let less = measure-is t new now after at.left (on at.left at.walks) in
+      omega (arith, before, less)

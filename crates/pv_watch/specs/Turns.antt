@@ -1,16 +1,17 @@
 -- What the parts of a propagation say.
-use Rattle.std.specs.Prelude.{◌≡◌, ◌≢◌, ℕ, ◌+◌, ◌-◌, ◌<◌, ◌≤◌, true, false, List, [], ◌∷◌, ◌++◌, length, Option, None, Some, slice_get}
+use Rattle.std.specs.Prelude.{◌≡◌, ◌≢◌, ◌⊎◌, ℕ, ◌+◌, ◌-◌, ◌<◌, ◌≤◌, true, false, List, [], ◌∷◌, ◌++◌, length, Contains, Option, None, Some, slice_get}
 use Rattle.std.specs.List.{AllByRecursion}
 use Rattle.pv_cnf.specs.Literal.{complement, is_outside}
+use Rattle.pv_cnf.specs.Clause.{IsClause}
 use Rattle.pv_log.specs.Propagation.{is_false, named, is_falsified}
 use Rattle.pv_region.specs.declared.watch.Watch.{Watch}
-use Rattle.pv_region.specs.Stored.{Stored, all_lits, list_of, with_list}
+use Rattle.pv_region.specs.Stored.{Stored, count_of, all_lits, list_of, with_list}
 use Rattle.pv_watch.specs.declared.visit.Visit.{Visit}
 use Rattle.pv_watch.specs.declared.visit.Visit.TheVariants.{Stays, Moves, Conflict}
 use Rattle.pv_watch.specs.declared.turn.Walk.{Walk}
 use Rattle.pv_watch.specs.Trail.{Path, IsSound, Extends}
 use Rattle.pv_watch.specs.Quiet.{IsConflict}
-use Rattle.pv_watch.specs.Watched.{literal_at, other, Keeps}
+use Rattle.pv_watch.specs.Watched.{literal_at, other, StandsBeside, Keeps, IsTrueFirst}
 
 -- a literal of the clause other than this one that isn't false
 pub record CanWatch (falses clause : List ℕ) (other lit : ℕ) : Type 0 where
@@ -23,6 +24,12 @@ abbrev pub Replaces : List ℕ → List ℕ → ℕ → Option ℕ → Type 0
 Replaces falses clause other None = (lit : ℕ) → is_false clause lit ≡ true → lit ≢ other → is_false falses lit ≡ true
 Replaces falses clause other (Some lit) = CanWatch falses clause other lit
 
+-- all literals of the clause but this one are false
+pub record LeavesOne (path : Path) (clause : List ℕ) (lit : ℕ) : Type 0 where
+  pub valid : IsClause path.variables clause
+  pub own : is_false clause lit ≡ true
+  pub rest : Replaces path.falses clause lit None
+
 -- this literal of the clause is true, for which the clause may be the reason
 pub record IsMadeTrue (old new : Path) (id : ℕ) (clause : List ℕ) (lit : ℕ) : Type 0 where
   pub extends : Extends old new
@@ -34,6 +41,15 @@ abbrev pub Looks : Path → Path → ℕ → List ℕ → ℕ → Visit → Type
 Looks old new id clause other Stays = IsMadeTrue old new id clause other
 Looks old new id clause other (Moves lit) = (new ≡ old) × CanWatch old.falses clause other lit
 Looks old new id clause other Conflict = (new ≡ old) × (is_falsified old.falses clause ≡ true)
+
+-- the clause of an entry, whose other slot watches this literal
+pub record IsVisited (s : Stored) (path : Path) (w : Watch) (other : ℕ) : Type 0 where
+  pub clause : List ℕ
+  pub at : named (all_lits s) w.id ≡ Some clause
+  pub valid : IsClause path.variables clause
+  pub own : is_false clause other ≡ true
+  pub from_one : 0 < w.id
+  pub to_last : w.id ≤ count_of s
 
 -- the last of some entries, if there is one
 abbrev pub IsLastOf : List Watch → Option Watch → Type 0
@@ -89,3 +105,45 @@ pub record IsTurned (s : Stored) (path : Path) (slots : List ℕ) (done lit : �
 pub record IsStuck (s : Stored) (path : Path) (slots : List ℕ) (done id : ℕ) : Type 0 where
   pub keeps : Keeps s path slots done
   pub conflict : IsConflict (all_lits s) path.falses id
+
+-- ---- more clauses
+
+-- a literal of the clause has no value
+pub record HasUnset (falses clause : List ℕ) : Type 0 where
+  pub lit : ℕ
+  pub own : is_false clause lit ≡ true
+  pub not_false : is_false falses lit ≡ false
+  pub not_true : is_false falses (complement lit) ≡ false
+
+-- the place at which the last decision was taken, or 0
+pub record IsLevel (path : Path) (level : ℕ) : Type 0 where
+  pub bound : level ≤ length path.falses
+  pub low : AllByRecursion (λ s. s ≤ level) path.starts
+  pub at : ((path.starts ≡ []) × (level ≡ 0)) ⊎ Contains path.starts level
+
+-- two literals at which a new clause can be watched, where the turns of the first `done` are over
+pub record CanAttach (path : Path) (done : ℕ) (clause : List ℕ) (first second : ℕ) : Type 0 where
+  pub own_first : is_false clause first ≡ true
+  pub own_second : is_false clause second ≡ true
+  pub differ : first ≢ second
+  pub beside_first : StandsBeside path done first second
+  pub beside_second : StandsBeside path done second first
+
+-- a clause of one literal, which is true since before all decisions
+pub record IsOne (path : Path) (clause : List ℕ) : Type 0 where
+  pub one : length clause ≡ 1
+  pub first : IsTrueFirst path clause
+
+-- what comes of a lemma that has entered
+pub record HasEntered (old new : Path) (id : ℕ) (clause : List ℕ) : Type 0 where
+  pub extends : Extends old new
+  pub sound : (clauses : List (List ℕ)) → named clauses id ≡ Some clause → IsSound clauses old → IsSound clauses new
+
+-- a literal of the clause with this number is true, if it has one alone
+pub record IsTrueAt (falses clause : List ℕ) : Type 0 where
+  pub lit : ℕ
+  pub own : is_false clause lit ≡ true
+  pub true_is : is_false falses (complement lit) ≡ true
+
+abbrev pub OneIsTrue : List (List ℕ) → List ℕ → ℕ → Type 0
+OneIsTrue clauses falses id = (clause : List ℕ) → named clauses id ≡ Some clause → length clause ≡ 1 → IsTrueAt falses clause

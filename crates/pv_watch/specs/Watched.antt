@@ -9,7 +9,7 @@ use Rattle.pv_log.specs.Propagation.{is_false, named}
 use Rattle.pv_region.specs.declared.watch.Watch.{Watch}
 use Rattle.pv_region.specs.Stored.{Stored, used_of, all_lits, list_of}
 use Rattle.pv_region.specs.Links.{code_of}
-use Rattle.pv_watch.specs.Trail.{Path}
+use Rattle.pv_watch.specs.Trail.{Path, IsSound}
 
 -- the literal that a slot watches
 abbrev pub literal_at : List ℕ → Watch → ℕ
@@ -82,3 +82,8 @@ pub record IsTrueFirst (path : Path) (clause : List ℕ) : Type 0 where
 abbrev pub OnesAreTrue : List (List ℕ) → Path → Type 0
 OnesAreTrue clauses path =
     (id : ℕ) (clause : List ℕ) → named clauses id ≡ Some clause → length clause ≡ 1 → IsTrueFirst path clause
+
+-- a trail that unit propagation made, and clauses of which those of one literal are true since before all decisions
+pub record IsReady (clauses : List (List ℕ)) (path : Path) : Type 0 where
+  pub sound : IsSound clauses path
+  pub ones : OnesAreTrue clauses path

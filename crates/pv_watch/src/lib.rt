@@ -1,6 +1,7 @@
 //! Unit propagation by two watched literals a clause, over clauses and lemmas in a region of words.
 #![tactic(auto)]
 
+mod enter;
 mod propagator;
 mod trail;
 mod turn;

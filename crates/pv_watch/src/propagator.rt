@@ -1,14 +1,16 @@
 //! Clauses and lemmas with their watches, and the trail.
-ghost use Rattle.std.specs.Prelude.{◌≡◌, ◌↔◌, ℕ, ◌+◌, ◌-◌, ◌*◌, ◌^◌, ◌<◌, ◌≤◌, false, List, [], ◌∷◌, ◌++◌, ◌≢◌, length, take, replicate, slice_set, IfOk, OnOk, OnErr, IfSome, IfNone};
+ghost use Rattle.std.specs.Prelude.{◌≡◌, ◌↔◌, ℕ, ◌+◌, ◌-◌, ◌*◌, ◌<◌, ◌≤◌, false, List, [], ◌∷◌, ◌++◌, length, take, replicate, slice_set, IfOk, OnOk, OnErr, IfSome, IfNone};
+ghost use Rattle.std.specs.List.{AllByRecursion};
 ghost use Rattle.pv_cnf.specs.Literal.{complement, is_outside};
-ghost use Rattle.pv_cnf.specs.Clause.{IsClause};
+ghost use Rattle.pv_cnf.specs.Clause.{IsClause, AreClauses};
 ghost use Rattle.pv_log.specs.Propagation.{is_false};
-ghost use Rattle.pv_region.specs.Stored.{clause_cost, Passes, count_of, all_lits, with_clause, IsLinked};
-ghost use Rattle.pv_watch.specs.Trail.{IsSound, Rise};
-ghost use Rattle.pv_watch.specs.Quiet.{AreQuiet, IsConflict};
-ghost use Rattle.pv_watch.specs.Watched.{OnesAreTrue};
-ghost use Rattle.pv_watch.specs.Turns.{GoesOn, SameText, attached};
+ghost use Rattle.pv_region.specs.Stored.{clause_cost, lemma_cost, Passes, count_of, all_lits, with_clause, with_lemma};
+ghost use Rattle.pv_watch.specs.Trail.{Extends};
+ghost use Rattle.pv_watch.specs.Quiet.{IsQuiet, AreQuiet, IsConflict};
+ghost use Rattle.pv_watch.specs.Watched.{IsReady};
+ghost use Rattle.pv_watch.specs.Turns.{GoesOn, SameText, HasUnset};
 
+use crate::enter::{Pair, attach, enter, settle_one};
 use crate::trail::Trail;
 use crate::turn::turn;
 use pv_region::{Full, MakeFault, Region};
@@ -25,25 +27,6 @@ pub struct Propagator {
     slots: Vec<u32>,
     /// How many literals of the trail have had their turn.
     done: usize,
-}
-
-/// Watches a clause or lemma, the last one, at two of its literals.
-fn attach(region: &mut Region, slots: &mut [u32], id: u32, first: u32, second: u32)
-    requires from_one { 0 < id }
-    requires to_last { id ≤ count_of region.old }
-    requires small { id < 1000000000 }
-    requires first { is_outside region.old.variables first ≡ false }
-    requires second { is_outside region.old.variables second ≡ false }
-    requires room { 2 * id + 1 < length slots.old }
-    requires free { (slot : ℕ) → slot < 2 → IsLinked region.old (record { id = id; slot = slot }) → ⊥ }
-    requires differ { first ≢ second }
-    ensures stored { region.new ≡ attached region.old id first second }
-    ensures slots { slots.new ≡ slice_set (slice_set slots.old (2 * id) first) (2 * id + 1) second }
-{
-    region.watch(first, id, 0);
-    region.watch(second, id, 1);
-    slots[2 * id as usize] = first;
-    slots[2 * id as usize + 1] = second;
 }
 
 impl Model for Propagator {
@@ -69,7 +52,6 @@ impl Propagator {
           lemmas = [];
           lists = replicate (2 * variables) [];
         }) }
-        ensures variables { IfOk result (λ p. p.path.variables ≡ variables) }
         ensures falses { IfOk result (λ p. p.path.falses ≡ []) }
         ensures starts { IfOk result (λ p. p.path.starts ≡ []) }
         ensures full { (need : ℕ) → (result ≡ Err (MakeFault.Full need))
@@ -90,6 +72,22 @@ impl Propagator {
         })
     }
 
+    /// The clauses and lemmas, with their watches.
+    pub fn region(&self) -> &Region
+        ensures stored { result.now ≡ self.now.stored }
+        ensures valid { AreClauses self.now.stored.variables (all_lits self.now.stored) }
+    {
+        &self.region
+    }
+
+    /// The trail.
+    pub fn trail(&self) -> &Trail
+        ensures path { result.now ≡ self.now.path }
+        ensures variables { self.now.stored.variables ≡ self.now.path.variables }
+    {
+        &self.trail
+    }
+
     /// Adds a clause while no literal has a value and no lemma is there, and answers its number.
     pub fn put_clause(&mut self, lits: &[u32]) -> Result<u32, Full>
         requires early { self.old.path.falses ≡ [] }
@@ -107,17 +105,40 @@ impl Propagator {
             Err(full) => return Err(full),
         };
         let _ = self.region.used();
-        if lits.len() > 1 {
-            attach(&mut self.region, &mut self.slots, id, lits[0], lits[1]);
+        if lits.len() < 2 {
+            return Ok(id);
         }
+        let pair = Pair {
+            first: lits[0],
+            second: lits[1],
+        };
+        attach(&mut self.region, &mut self.slots, id, pair);
         Ok(id)
+    }
+
+    /// Before the first decision: makes the literals of the clauses of one literal true, up to a false one, whose
+    /// number it gives.
+    pub fn begin(&mut self) -> Option<u32>
+        requires early { self.old.path.falses ≡ [] }
+        requires undecided { self.old.path.starts ≡ [] }
+        ensures goes { GoesOn self.old.stored self.new.stored self.old.path self.new.path }
+        ensures ready { IfNone result (IsReady (all_lits self.new.stored) self.new.path) }
+        ensures conflict { IfSome result (IsConflict (all_lits self.new.stored) self.new.path.falses) }
+    {
+        let count = self.region.clauses() + self.region.lemmas();
+        for n in 0..count {
+            if !settle_one(&self.region, &mut self.trail, n + 1) {
+                return Some(n + 1);
+            }
+        }
+        None
     }
 
     /// Propagates until nothing changes, or up to a false clause, whose number it gives.
     pub fn propagate(&mut self) -> Option<u32>
-        requires sound { IsSound (all_lits self.old.stored) self.old.path }
-        requires ones { OnesAreTrue (all_lits self.old.stored) self.old.path }
+        requires ready { IsReady (all_lits self.old.stored) self.old.path }
         ensures goes { GoesOn self.old.stored self.new.stored self.old.path self.new.path }
+        ensures ready { IsReady (all_lits self.new.stored) self.new.path }
         ensures ended { IfNone result (self.new.done ≡ length self.new.path.falses) }
         ensures quiet { IfNone result (AreQuiet self.new.path.falses (all_lits self.new.stored)) }
         ensures conflict { IfSome result (IsConflict (all_lits self.new.stored) self.new.path.falses) }
@@ -147,6 +168,8 @@ impl Propagator {
         ensures variables { self.new.path.variables ≡ self.old.path.variables }
         ensures falses { self.new.path.falses ≡ self.old.path.falses ++ lit ∷ [] }
         ensures starts { self.new.path.starts ≡ self.old.path.starts ++ length self.old.path.falses ∷ [] }
+        ensures ready { (clauses : List (List ℕ)) → AreQuiet self.old.path.falses clauses
+            → IsReady clauses self.old.path → IsReady clauses self.new.path }
     {
         self.trail.decide(lit);
     }
@@ -160,8 +183,41 @@ impl Propagator {
         ensures starts { self.old.path.starts ≡ self.new.path.starts ++ length self.new.path.falses ∷ [] }
         ensures falses { self.new.path.falses ≡ take (length self.new.path.falses) self.old.path.falses }
         ensures ended { self.new.done ≡ length self.new.path.falses }
+        ensures ready { (clauses : List (List ℕ)) → IsReady clauses self.old.path → IsReady clauses self.new.path }
     {
         self.trail.undo();
         self.done = self.trail.len();
+    }
+
+    /// Adds a lemma of which a literal has no value, where each literal has had its turn, and answers its number.
+    /// Where all its others are false, that literal becomes true.
+    pub fn learn(&mut self, lits: &[u32], hints: &[u32]) -> Result<u32, Full>
+        requires ended { self.old.done ≡ length self.old.path.falses }
+        requires valid { IsClause self.old.stored.variables lits.now }
+        requires unset { HasUnset self.old.path.falses lits.now }
+        requires quiet { AllByRecursion (λ s. IsQuiet (take s self.old.path.falses) lits.now)
+            self.old.path.starts }
+        ensures id { IfOk result (λ id. id ≡ count_of self.old.stored + 1) }
+        ensures ok { OnOk result (SameText (with_lemma self.old.stored
+            (record { lits = lits.now; hints = hints.now })) self.new.stored) }
+        ensures extends { Extends self.old.path self.new.path }
+        ensures ready { OnOk result (IsReady (all_lits self.old.stored) self.old.path
+            → IsReady (all_lits self.new.stored) self.new.path) }
+        ensures err { OnErr result (self.new ≡ self.old) }
+        ensures full { (need : ℕ) → (result ≡ Err (record { need = need }))
+            ↔ Passes self.old.stored (lemma_cost (record { lits = lits.now; hints = hints.now })) need }
+    {
+        let id = match self.region.put_lemma(lits, hints) {
+            Ok(id) => id,
+            Err(full) => return Err(full),
+        };
+        let _ = self.region.used();
+        match enter(&mut self.trail, lits, id) {
+            None => Ok(id),
+            Some(pair) => {
+                attach(&mut self.region, &mut self.slots, id, pair);
+                Ok(id)
+            }
+        }
     }
 }

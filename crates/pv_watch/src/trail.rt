@@ -5,6 +5,7 @@ ghost use Rattle.pv_cnf.specs.Clause.{has_outside, has_double};
 ghost use Rattle.pv_log.specs.Propagation.{is_false, unit_of};
 ghost use Rattle.pv_watch.specs.Trail.{Path, Agree, LastIs, Rise};
 
+use pv_cnf::flip;
 use std::alloc::{AllocError, Global};
 use std::marker::Model;
 
@@ -85,6 +86,14 @@ impl Trail {
         ensures { result ≡ is_false self.now.falses lit }
     {
         self.is_false_at(self.falses.len(), lit)
+    }
+
+    /// Whether a literal is true.
+    pub fn is_true(&self, lit: u32) -> bool
+        requires { lit < 2 * self.now.variables + 2 }
+        ensures { result ≡ is_false self.now.falses (complement lit) }
+    {
+        self.is_false(flip(lit))
     }
 
     /// How many literals are false: one of each variable at most.
