@@ -1,25 +1,25 @@
 -- A lemma enters: two of its literals can be watched, or it makes its only one true.
-use Rattle.std.proofs.Common.{◌≡◌, ◌≢◌, ℕ, zero, suc, ◌+◌, ◌*◌, ◌<◌, ◌≤◌, ◌⊎◌, true, false, List, [], ◌∷◌, ◌++◌, length, get_or, set, take, drop, refl, sym, ap, subst, ◌∙◌, arith, inl, inr, Option, Some, None, slice_get, Contains}
+use Rattle.std.proofs.Common.{◌≡◌, ◌≢◌, ℕ, zero, suc, ◌+◌, ◌*◌, ◌-◌, ◌<◌, ◌≤◌, ◌⊎◌, Bool, true, false, List, [], ◌∷◌, ◌++◌, length, get_or, set, take, drop, refl, sym, ap, subst, ◌∙◌, arith, inl, inr, Option, Some, None, slice_get, Contains}
 use Rattle.std.specs.List.{AllByRecursion}
 use Rattle.std.proofs.lemmas.Bool.{cases_eq, cases_lt, cases_Bool, both_ways}
 use Rattle.std.proofs.lemmas.List.{take-append-drop}
 use Rattle.std.proofs.lemmas.List.Elements.{Contains-push}
 use Rattle.pv_cnf.specs.Literal.{complement, is_outside}
-use Rattle.pv_cnf.specs.Clause.{has_outside, has_double, IsClause}
-use Rattle.pv_log.specs.Propagation.{is_false, named}
-use Rattle.pv_log.proofs.ForCallers.{slice_get-left}
+use Rattle.pv_cnf.specs.Clause.{has_outside, has_double, IsClause, AreClauses}
+use Rattle.pv_log.specs.Propagation.{is_false, named, is_falsified}
+use Rattle.pv_log.proofs.ForCallers.{slice_get-left, slice_get-all, named-at}
 use Rattle.pv_region.specs.Stored.{Stored, count_of, all_lits}
-use Rattle.pv_watch.specs.Trail.{Path, Rise, LastIs, Extends}
-use Rattle.pv_watch.specs.Quiet.{IsQuiet}
+use Rattle.pv_watch.specs.Trail.{Path, Rise, IsSound, LastIs, Extends}
+use Rattle.pv_watch.specs.Quiet.{IsQuiet, IsConflict}
 use Rattle.pv_watch.specs.Watched.{IsTrueFirst, IsReady}
-use Rattle.pv_watch.specs.Turns.{CanWatch, LeavesOne, IsMadeTrue, HasUnset, IsLevel, CanAttach, IsOne, HasEntered}
+use Rattle.pv_watch.specs.Turns.{CanWatch, LeavesOne, IsMadeTrue, HasUnset, IsLevel, CanAttach, IsOne, HasEntered, OneIsTrue}
 use Rattle.pv_watch.proofs.Lefts.{within-front, quiet-one}
 use Rattle.pv_watch.proofs.Places.{Rise-front}
 use Rattle.pv_watch.proofs.Paths.{below-all, all-push, sound-more}
-use Rattle.pv_watch.proofs.Clauses.{get-false, sole-left, own-inside}
+use Rattle.pv_watch.proofs.Clauses.{get-false, sole-left, none-left, own-inside}
 use Rattle.pv_watch.proofs.Guards.{all-contains, all-follows, get-take, ones-extended}
 use Rattle.pv_watch.proofs.Moving.{from-two}
-use Rattle.pv_watch.proofs.Looking.{own-at, extends-self, made-true}
+use Rattle.pv_watch.proofs.Looking.{own-at, extends-self, made-true, visited-is, sole-rest}
 use Rattle.pv_watch.proofs.Attaching.{named-more}
 use Rattle.pv_watch.proofs.Joining.{count-lits, last-named, two-differ}
 
@@ -41,6 +41,10 @@ level-last path level (front, last) rise lt =
           (all-push (λ (s : ℕ). s ≤ level) front level (all-follows (λ (s : ℕ). s < level) (λ (s : ℕ). s ≤ level) front (λ s below. omega (arith, below)) (below-all front level r.0)) (omega arith));
       at = inr (subst (λ (ss : List ℕ). Contains ss level) (sym last) (Contains-push front level));
     }
+
+pub empty-is : (xs : List ℕ) → length xs ≡ 0 → xs ≡ []
+empty-is [] e = refl
+empty-is (x ∷ xs) e = absurd (omega (arith, e))
 
 -- ---- literals that aren't false
 
@@ -164,3 +168,54 @@ ready-entered s r lits old new id text id-is entered quiet single ready =
             | inr (e, is) ↦ subst (IsTrueFirst new) (sym is) (single (sym (ap (λ (c : List ℕ). length c) is) ∙ one))
           ];
     })
+
+-- ---- a clause of one literal
+
+pub not-one : (clauses : List (List ℕ)) (falses : List ℕ) (id : ℕ) (lits : List ℕ) → 0 < id → slice_get clauses (id - 1) ≡ Some lits → length lits ≢ 1 → OneIsTrue clauses falses id
+not-one clauses falses id lits lt at ne clause name one =
+    absurd (ne (ap (λ (c : List ℕ). length c) (visited-is clauses id lits clause lt at name) ∙ one))
+
+module _ (clauses : List (List ℕ)) (old : Path) (id : ℕ) (lits : List ℕ) (x : ℕ) (lt : 0 < id) (at : slice_get clauses (id - 1) ≡ Some lits) (valid : AreClauses old.variables clauses) (one : length lits ≡ 1) (x-is : x ≡ get_or lits 0 0) where
+  name : named clauses id ≡ Some lits
+  name = named-at clauses id (id - 1) (omega (arith, lt)) ∙ at
+
+  valid-lits : IsClause old.variables lits
+  valid-lits = slice_get-all (IsClause old.variables) clauses (id - 1) lits valid at
+
+  own-one : is_false lits x ≡ true
+  own-one = ap (is_false lits) x-is ∙ own-at lits 0 (omega (arith, one))
+
+  pub one-inside : is_outside old.variables x ≡ false
+  one-inside = own-inside old.variables lits x valid-lits.inside own-one
+
+  leaves : LeavesOne old lits x
+  leaves = record {
+    valid = valid-lits;
+    own = own-one;
+    rest = λ y own ne. sole-rest old.falses lits one y own (λ e. ne (e ∙ sym x-is));
+  }
+
+  module _ (new : Path) (found : Bool) (made : found ≡ true → (clause : List ℕ) → LeavesOne old clause x → IsMadeTrue old new id clause x) (same : found ≡ false → new ≡ old) (gone : found ≡ false → is_false old.falses x ≡ true) where
+    pub one-extends : Extends old new
+    one-extends = elim (cases_Bool found) [
+      | inl t ↦ (made t lits leaves).extends
+      | inr f ↦ subst (Extends old) (sym (same f)) (extends-self old)
+    ]
+
+    pub one-sound : IsSound clauses old → IsSound clauses new
+    one-sound sound = elim (cases_Bool found) [
+      | inl t ↦ (made t lits leaves).sound clauses name sound
+      | inr f ↦ subst (IsSound clauses) (sym (same f)) sound
+    ]
+
+    pub one-true : found ≡ true → OneIsTrue clauses new.falses id
+    one-true t clause at_clause single =
+        let is = visited-is clauses id lits clause lt at at_clause in
+        record { lit = x; own = ap (λ (c : List ℕ). is_false c x) (sym is) ∙ own-one; true_is = (made t lits leaves).true_is }
+
+    pub one-conflict : found ≡ false → IsConflict clauses new.falses id
+    one-conflict f = record {
+      clause = lits;
+      at = name;
+      false_is = ap (λ (p : Path). is_falsified p.falses lits) (same f) ∙ none-left old.falses lits x (gone f) leaves.rest;
+    }

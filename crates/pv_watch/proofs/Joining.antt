@@ -1,18 +1,20 @@
 -- A clause or a lemma joins those of a region, and is watched at two of its literals.
-use Rattle.std.proofs.Common.{◌≡◌, ◌≢◌, ℕ, zero, suc, ◌+◌, ◌-◌, ◌*◌, ◌/◌, ◌<◌, ◌≤◌, ◌||◌, true, false, eqb, List, [], ◌∷◌, ◌++◌, length, map, get_or, set, refl, sym, ap, subst, ◌∙◌, arith, inl, inr, Some, slice_get}
-use Rattle.std.proofs.lemmas.Bool.{both_ways, eqb-true, eq-eqb, or_cases, or_left, or_parts}
-use Rattle.std.proofs.lemmas.List.{append-nil, append_assoc, map-append, length-append, length-map, length_push}
+use Rattle.std.proofs.Common.{◌≡◌, ◌≢◌, ℕ, zero, suc, ◌+◌, ◌-◌, ◌*◌, ◌/◌, ◌<◌, ◌≤◌, ◌||◌, true, false, eqb, List, [], ◌∷◌, ◌++◌, length, map, get_or, set, refl, sym, ap, subst, ◌∙◌, arith, inl, inr, Some, slice_get, Contains}
+use Rattle.std.proofs.lemmas.Bool.{both_ways, cases_eq, cases_lt, eqb-true, eq-eqb, or_cases, or_left, or_parts}
+use Rattle.std.proofs.lemmas.List.{append-nil, append_assoc, map-append, length-append, length-map, length-set, length_push, get_or_past, get_or-set_same, get_or-set_other}
 use Rattle.pv_cnf.specs.Literal.{variable_of, is_outside}
 use Rattle.pv_cnf.specs.Clause.{has_variable, has_double, IsClause}
 use Rattle.pv_log.specs.Propagation.{is_false, named}
 use Rattle.pv_log.proofs.ForCallers.{named-at}
 use Rattle.pv_region.specs.declared.watch.Watch.{Watch}
 use Rattle.pv_region.specs.Stored.{Stored, Hinted, used_of, count_of, all_lits, list_of, with_list, with_clause, with_lemma, IsLinked}
+use Rattle.pv_region.specs.Links.{In}
+use Rattle.pv_region.proofs.ForCallers.{in-contains}
 use Rattle.pv_watch.specs.Trail.{Path}
 use Rattle.pv_watch.specs.Watched.{Keeps, OnesAreTrue, IsReady}
 use Rattle.pv_watch.specs.Turns.{SameText, CanAttach, attached}
 use Rattle.pv_watch.proofs.Clauses.{own-inside}
-use Rattle.pv_watch.proofs.Moving.{count-costs}
+use Rattle.pv_watch.proofs.Moving.{count-costs, in-of}
 use Rattle.pv_watch.proofs.Looking.{own-at}
 use Rattle.pv_watch.proofs.Attaching.{HasOneMore, linked-before, keeps-attached}
 
@@ -95,6 +97,9 @@ can-early path done clause within early distinct long =
       beside_second = λ p lt at. absurd (omega (arith, none, within, lt));
     }
 
+pub can-at : (path : Path) (done : ℕ) (clause : List ℕ) (a b : ℕ) → a ≡ get_or clause 0 0 → b ≡ get_or clause 1 0 → CanAttach path done clause (get_or clause 0 0) (get_or clause 1 0) → CanAttach path done clause a b
+can-at path done clause a b e f can = subst (λ (x : ℕ). CanAttach path done clause x b) (sym e) (subst (CanAttach path done clause (get_or clause 0 0)) (sym f) can)
+
 -- ---- it is watched
 
 module _ (s t : Stored) (path : Path) (slots : List ℕ) (done : ℕ) (clause : List ℕ) (k : Keeps s path slots done) (more : HasOneMore s t clause) (valid : IsClause s.variables clause)
@@ -138,3 +143,29 @@ module _ (s t : Stored) (path : Path) (slots : List ℕ) (done : ℕ) (clause : 
       subst (λ (u : Stored). Keeps u path now done) (sym (r-is ∙ ap (λ (n : ℕ). attached t n a b) id-last))
           (subst (λ (ns : List ℕ). Keeps (attached t i a b) path ns done) (sym slots_are)
           (keeps-attached s t path slots done clause k more valid a b can.own_first can.own_second can.differ attach-long can.beside_first can.beside_second))
+
+-- ---- its slots are put into two lists
+
+-- what is linked with one more entry and isn't that one was linked before
+pub linked-with : (s : Stored) (a : ℕ) (w x : Watch) → IsLinked (with_list s a (w ∷ list_of s a)) x → x ≢ w → IsLinked s x
+linked-with s a w x l ne =
+    elim (cases_eq (l.lit - 2) (a - 2)) [
+      | inl e ↦ elim (cases_lt (a - 2) (length s.lists)) [
+        | inl lt ↦ (let ws : list_of (with_list s a (w ∷ list_of s a)) l.lit ≡ w ∷ list_of s a =
+            ap (λ (i : ℕ). get_or (set s.lists (a - 2) (w ∷ list_of s a)) i []) e ∙ get_or-set_same s.lists (a - 2) (w ∷ list_of s a) [] lt in
+          from (in-of (w ∷ list_of s a) x (subst (λ (vs : List Watch). Contains vs x) ws l.there)))
+        | inr ge ↦ absurd (let none : list_of (with_list s a (w ∷ list_of s a)) l.lit ≡ [] =
+            get_or_past (set s.lists (a - 2) (w ∷ list_of s a)) (l.lit - 2) [] (omega (arith, ge, e, length-set s.lists (a - 2) (w ∷ list_of s a))) in
+          no-entry x (subst (λ (vs : List Watch). Contains vs x) none l.there))
+      ]
+      | inr differ ↦ record {
+        lit = l.lit;
+        there = subst (λ (vs : List Watch). Contains vs x) (get_or-set_other s.lists (a - 2) (l.lit - 2) (w ∷ list_of s a) [] differ) l.there;
+      }
+    ]
+  where
+    from : In x (w ∷ list_of s a) → IsLinked s x
+    from (inl same) = absurd (ne same)
+    from (inr i) = record { lit = a; there = in-contains x (list_of s a) i }
+    no-entry : (y : Watch) → Contains [] y → ⊥
+    no-entry y (k, lt, e) = omega (arith, lt)

@@ -13,3 +13,4 @@ pub mod Turning
 pub mod Readying
 pub mod Joining
 pub mod Entering
+pub mod Making

@@ -29,6 +29,9 @@ other-other w lt = let e : 1 - (1 - w.slot) ≡ w.slot = omega (arith, lt) in ap
 pub other-differs : (w : Watch) → w.slot < 2 → other w ≢ w
 other-differs w lt e = let s : 1 - w.slot ≡ w.slot = ap (λ (v : Watch). v.slot) e in omega (arith, s, lt)
 
+pub slots-apart : (id : ℕ) → ◌≢◌ {A = Watch} (record { id = id; slot = 1 }) (record { id = id; slot = 0 })
+slots-apart id e = let s : 1 ≡ 0 = ap (λ (v : Watch). v.slot) e in omega (arith, s)
+
 -- two slots of one clause are one or the other
 pub one-or-other : (v w : Watch) → v.slot < 2 → w.slot < 2 → v.id ≡ w.id → (v ≡ w) ⊎ (v ≡ other w)
 one-or-other v w a b e =

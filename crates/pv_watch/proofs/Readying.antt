@@ -1,5 +1,6 @@
 -- A trail that propagation made, as it goes on, as decisions are made and taken back, and before the first one.
-use Rattle.std.proofs.Common.{◌≡◌, ◌≢◌, ℕ, zero, suc, ◌+◌, ◌<◌, ◌≤◌, true, List, [], ◌∷◌, ◌++◌, length, set, take, refl, sym, ap, subst, ◌∙◌, arith, inl, inr, Some, slice_get}
+use Rattle.std.proofs.Common.{◌≡◌, ◌≢◌, ℕ, zero, suc, ◌+◌, ◌<◌, ◌≤◌, true, List, [], ◌∷◌, ◌++◌, length, set, take, refl, sym, ap, subst, ◌∙◌, arith, inl, inr, Option, Some, None, slice_get}
+use Rattle.std.specs.Prelude.{IfNone}
 use Rattle.std.specs.List.{AllByRecursion}
 use Rattle.std.proofs.lemmas.Bool.{cases_eq}
 use Rattle.std.proofs.lemmas.Option.{slice_get_within}
@@ -95,3 +96,7 @@ ones-first clauses path count undecided few each = λ id clause at one.
     let t = each id (omega (arith, within, few)) clause at one in
     let (q, there) = false-get path.falses (complement t.lit) t.true_is in
     record { lit = t.lit; own = t.own; place = q; there = there; since = subst (AllByRecursion (λ (s : ℕ). q < s)) (sym undecided) tt }
+
+pub if-none : {A B : Type 0} (found : Option ℕ) → (A → B) → IfNone found A → IfNone found B
+if-none None f a = f a
+if-none (Some n) f a = tt

@@ -30,7 +30,7 @@ pub record Entry (s : Stored) (path : Path) (slots : List ℕ) (walk : Walk) (w 
   pub here : code_of w < length slots
   pub there : code_of (other w) < length slots
 
-named-from-one : (clauses : List (List ℕ)) (id : ℕ) (clause : List ℕ) → named clauses id ≡ Some clause → 0 < id
+pub named-from-one : (clauses : List (List ℕ)) (id : ℕ) (clause : List ℕ) → named clauses id ≡ Some clause → 0 < id
 named-from-one clauses zero clause e = absurd cc
 named-from-one clauses (suc n) clause e = omega arith
 

@@ -13,6 +13,7 @@ use Rattle.pv_watch.specs.Trail.{Path, IsSound, Extends}
 use Rattle.pv_watch.specs.Watched.{Keeps}
 use Rattle.pv_watch.specs.Turns.{OtherIsTrue, Walks, IsAtEntry, GoesOn, IsTurned}
 use Rattle.pv_watch.proofs.Clauses.{own-inside}
+use Rattle.pv_watch.proofs.Guards.{get-extended, keeps-next}
 use Rattle.pv_watch.proofs.Moving.{count-costs}
 use Rattle.pv_watch.proofs.Walking.{entry-there}
 use Rattle.pv_watch.proofs.Looking.{own-at}
@@ -100,3 +101,10 @@ module _ (s t : Stored) (old new : Path) (slots now : List ℕ) (walk after : Wa
       let before = measure-is s old slots walk (w ∷ at.left) at.walks in
       let less = measure-is t new now after at.left (on at.left at.walks) in
       omega (arith, before, less)
+
+-- ---- a turn is over
+
+pub turned-next : (s : Stored) (old new : Path) (slots : List ℕ) (done : ℕ) → IsTurned s new slots done (slice_index old.falses done) → Extends old new → done < length old.falses → Keeps s new slots (done + 1)
+turned-next s old new slots done turned e lt =
+    let there = get-extended old new done (slice_index old.falses done) e (slice_get-get_or old.falses done 0 lt) in
+    keeps-next s new slots done (slice_index old.falses done) turned.keeps there turned.trues

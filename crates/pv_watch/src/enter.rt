@@ -91,7 +91,7 @@ pub(crate) fn enter(trail: &mut Trail, lits: &[u32], id: u32) -> Option<Pair>
 }
 
 /// Makes the literal of clause number `id` true, if it has one alone. Returns whether it isn't false.
-pub(crate) fn settle_one(region: &Region, trail: &mut Trail, id: u32) -> bool
+fn settle_one(region: &Region, trail: &mut Trail, id: u32) -> bool
     requires from_one { 0 < id }
     requires to_last { id ≤ count_of region.now }
     requires valid { AreClauses trail.old.variables (all_lits region.now) }
@@ -108,4 +108,26 @@ pub(crate) fn settle_one(region: &Region, trail: &mut Trail, id: u32) -> bool
         return true;
     }
     settle(trail, id, lits[0])
+}
+
+/// Makes the literals of all clauses of one literal true, up to a false one, whose number it gives.
+pub(crate) fn settle_all(region: &Region, trail: &mut Trail) -> Option<u32>
+    requires small { count_of region.now < 1000000000 }
+    requires valid { AreClauses trail.old.variables (all_lits region.now) }
+    requires sound { IsSound (all_lits region.now) trail.old }
+    requires distinct { has_double trail.old.falses ≡ false }
+    ensures distinct { has_double trail.new.falses ≡ false }
+    ensures extends { Extends trail.old trail.new }
+    ensures sound { IsSound (all_lits region.now) trail.new }
+    ensures ones { IfNone result ((id : ℕ) → id ≤ count_of region.now
+        → OneIsTrue (all_lits region.now) trail.new.falses id) }
+    ensures conflict { IfSome result (IsConflict (all_lits region.now) trail.new.falses) }
+{
+    let count = region.clauses() + region.lemmas();
+    for n in 0..count {
+        if !settle_one(region, trail, n + 1) {
+            return Some(n + 1);
+        }
+    }
+    None
 }

@@ -10,7 +10,7 @@ ghost use Rattle.pv_watch.specs.Quiet.{IsQuiet, AreQuiet, IsConflict};
 ghost use Rattle.pv_watch.specs.Watched.{IsReady};
 ghost use Rattle.pv_watch.specs.Turns.{GoesOn, SameText, HasUnset};
 
-use crate::enter::{Pair, attach, enter, settle_one};
+use crate::enter::{Pair, attach, enter, settle_all};
 use crate::trail::Trail;
 use crate::turn::turn;
 use pv_region::{Full, MakeFault, Region};
@@ -125,13 +125,7 @@ impl Propagator {
         ensures ready { IfNone result (IsReady (all_lits self.new.stored) self.new.path) }
         ensures conflict { IfSome result (IsConflict (all_lits self.new.stored) self.new.path.falses) }
     {
-        let count = self.region.clauses() + self.region.lemmas();
-        for n in 0..count {
-            if !settle_one(&self.region, &mut self.trail, n + 1) {
-                return Some(n + 1);
-            }
-        }
-        None
+        settle_all(&self.region, &mut self.trail)
     }
 
     /// Propagates until nothing changes, or up to a false clause, whose number it gives.
@@ -144,16 +138,15 @@ impl Propagator {
         ensures conflict { IfSome result (IsConflict (all_lits self.new.stored) self.new.path.falses) }
     {
         'turns: while self.done < self.trail.len() {
-            let found = turn(
+            match turn(
                 &mut self.region,
                 &mut self.trail,
                 &mut self.slots,
                 self.done,
-            );
-            if found.is_some() {
-                return found;
+            ) {
+                Some(id) => return Some(id),
+                None => self.done += 1,
             }
-            self.done += 1;
         }
         None
     }
