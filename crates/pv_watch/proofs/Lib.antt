@@ -14,3 +14,4 @@ pub mod Readying
 pub mod Joining
 pub mod Entering
 pub mod Making
+pub mod ForCallers

@@ -138,12 +138,8 @@ impl Propagator {
         ensures conflict { IfSome result (IsConflict (all_lits self.new.stored) self.new.path.falses) }
     {
         'turns: while self.done < self.trail.len() {
-            match turn(
-                &mut self.region,
-                &mut self.trail,
-                &mut self.slots,
-                self.done,
-            ) {
+            let place = self.done;
+            match turn(&mut self.region, &mut self.trail, &mut self.slots, place) {
                 Some(id) => return Some(id),
                 None => self.done += 1,
             }
