@@ -146,6 +146,13 @@ module _ (s t : Stored) (path : Path) (slots : List ℕ) (done : ℕ) (clause : 
 
 -- ---- its slots are put into two lists
 
+no-entry : (w : Watch) → Contains [] w → ⊥
+no-entry w (k, lt, e) = omega (arith, lt)
+
+linked-first : (s : Stored) (a : ℕ) (w x : Watch) → x ≢ w → In x (w ∷ list_of s a) → IsLinked s x
+linked-first s a w x ne (inl same) = absurd (ne same)
+linked-first s a w x ne (inr i) = record { lit = a; there = in-contains x (list_of s a) i }
+
 -- what is linked with one more entry and isn't that one was linked before
 pub linked-with : (s : Stored) (a : ℕ) (w x : Watch) → IsLinked (with_list s a (w ∷ list_of s a)) x → x ≢ w → IsLinked s x
 linked-with s a w x l ne =
@@ -153,7 +160,7 @@ linked-with s a w x l ne =
       | inl e ↦ elim (cases_lt (a - 2) (length s.lists)) [
         | inl lt ↦ (let ws : list_of (with_list s a (w ∷ list_of s a)) l.lit ≡ w ∷ list_of s a =
             ap (λ (i : ℕ). get_or (set s.lists (a - 2) (w ∷ list_of s a)) i []) e ∙ get_or-set_same s.lists (a - 2) (w ∷ list_of s a) [] lt in
-          from (in-of (w ∷ list_of s a) x (subst (λ (vs : List Watch). Contains vs x) ws l.there)))
+          linked-first s a w x ne (in-of (w ∷ list_of s a) x (subst (λ (vs : List Watch). Contains vs x) ws l.there)))
         | inr ge ↦ absurd (let none : list_of (with_list s a (w ∷ list_of s a)) l.lit ≡ [] =
             get_or_past (set s.lists (a - 2) (w ∷ list_of s a)) (l.lit - 2) [] (omega (arith, ge, e, length-set s.lists (a - 2) (w ∷ list_of s a))) in
           no-entry x (subst (λ (vs : List Watch). Contains vs x) none l.there))
@@ -163,9 +170,3 @@ linked-with s a w x l ne =
         there = subst (λ (vs : List Watch). Contains vs x) (get_or-set_other s.lists (a - 2) (l.lit - 2) (w ∷ list_of s a) [] differ) l.there;
       }
     ]
-  where
-    from : In x (w ∷ list_of s a) → IsLinked s x
-    from (inl same) = absurd (ne same)
-    from (inr i) = record { lit = a; there = in-contains x (list_of s a) i }
-    no-entry : (y : Watch) → Contains [] y → ⊥
-    no-entry y (k, lt, e) = omega (arith, lt)

@@ -16,7 +16,7 @@ use pv_cnf::flip;
 use pv_region::Region;
 
 /// Two literals of a clause, at which it is watched.
-#[derive(Clone, Copy, Debug)]
+#[derive(Clone, Copy)]
 pub(crate) struct Pair {
     pub(crate) first: u32,
     pub(crate) second: u32,

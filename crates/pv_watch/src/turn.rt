@@ -12,7 +12,7 @@ use crate::visit::{Visit, visit};
 use pv_region::{Region, Watch};
 
 /// Where the walk over the list of a literal stands.
-#[derive(Clone, Copy, Debug)]
+#[derive(Clone, Copy)]
 pub(crate) struct Walk {
     /// The literal, which is false, and its place in the trail.
     lit: u32,

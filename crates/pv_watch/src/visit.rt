@@ -11,7 +11,7 @@ use pv_cnf::flip;
 use pv_region::{Region, Watch};
 
 /// What comes of a look at a clause one of whose watched literals became false.
-#[derive(Clone, Copy, Debug, PartialEq, Eq)]
+#[derive(Clone, Copy)]
 pub(crate) enum Visit {
     /// The other watched literal is true.
     Stays,
