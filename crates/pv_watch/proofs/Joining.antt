@@ -102,6 +102,12 @@ can-at path done clause a b e f can = subst (λ (x : ℕ). CanAttach path done c
 
 -- ---- it is watched
 
+slots-at : (slots now : List ℕ) (id i a b : ℕ) → id ≡ i → now ≡ set (set slots (2 * id) a) (2 * id + 1) b → now ≡ set (set slots (2 * i + 0) a) (2 * i + 1) b
+slots-at slots now id i a b e is =
+    let first : 2 * id ≡ 2 * i + 0 = omega (arith, e) in
+    let second : 2 * id + 1 ≡ 2 * i + 1 = omega (arith, e) in
+    is ∙ ap (λ (n : ℕ). set (set slots n a) (2 * id + 1) b) first ∙ ap (λ (n : ℕ). set (set slots (2 * i + 0) a) n b) second
+
 module _ (s t : Stored) (path : Path) (slots : List ℕ) (done : ℕ) (clause : List ℕ) (k : Keeps s path slots done) (more : HasOneMore s t clause) (valid : IsClause s.variables clause)
     (id a b : ℕ) (id-is : id ≡ count_of s + 1) (can : CanAttach path done clause a b) where
   id-last : id ≡ length (all_lits s) + 1
@@ -135,13 +141,8 @@ module _ (s t : Stored) (path : Path) (slots : List ℕ) (done : ℕ) (clause : 
 
   pub attach-keeps : (r : Stored) (now : List ℕ) → r ≡ attached t id a b → now ≡ set (set slots (2 * id) a) (2 * id + 1) b → Keeps r path now done
   attach-keeps r now r-is now-is =
-      let i = length (all_lits s) + 1 in
-      let zero_at : 2 * id ≡ 2 * i + 0 = omega (arith, id-last) in
-      let one_at : 2 * id + 1 ≡ 2 * i + 1 = omega (arith, id-last) in
-      let slots_are : now ≡ set (set slots (2 * i + 0) a) (2 * i + 1) b =
-        now-is ∙ ap (λ (n : ℕ). set (set slots n a) (2 * id + 1) b) zero_at ∙ ap (λ (n : ℕ). set (set slots (2 * i + 0) a) n b) one_at in
       subst (λ (u : Stored). Keeps u path now done) (sym (r-is ∙ ap (λ (n : ℕ). attached t n a b) id-last))
-          (subst (λ (ns : List ℕ). Keeps (attached t i a b) path ns done) (sym slots_are)
+          (subst (λ (ns : List ℕ). Keeps (attached t (length (all_lits s) + 1) a b) path ns done) (sym (slots-at slots now id (length (all_lits s) + 1) a b id-last now-is))
           (keeps-attached s t path slots done clause k more valid a b can.own_first can.own_second can.differ attach-long can.beside_first can.beside_second))
 
 -- ---- its slots are put into two lists
