@@ -8,7 +8,7 @@ ghost use Rattle.pv_watch.specs.Watched.{other, Keeps};
 ghost use Rattle.pv_watch.specs.Turns.{Walks, IsAtEntry, GoesOn, IsTurned, IsStuck};
 
 use crate::trail::Trail;
-use crate::visit::{Visit, visit};
+use crate::visit::{Visit, visit_entry};
 use pv_region::{Region, Watch};
 
 /// Where the walk over the list of a literal stands.
@@ -59,7 +59,7 @@ fn step(
     ensures stuck { IsFalse result → IsStuck region.new trail.new slots.new walk.old.place watch.id }
 {
     let other = slots[place_of_other(watch)];
-    match visit(region, trail, watch, other) {
+    match visit_entry(region, trail, watch, other) {
         Visit::Stays => {
             walk.before = Some(watch);
             walk.kept += 1;

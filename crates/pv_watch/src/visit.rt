@@ -76,7 +76,7 @@ fn look(trail: &mut Trail, clause: &[u32], id: u32, other: u32) -> Visit
 }
 
 /// Looks at the clause of an entry, whose other slot watches `other`. It isn't opened where that is true.
-pub(crate) fn visit(region: &Region, trail: &mut Trail, watch: Watch, other: u32) -> Visit
+pub(crate) fn visit_entry(region: &Region, trail: &mut Trail, watch: Watch, other: u32) -> Visit
     requires visited { IsVisited region.now trail.old watch other }
     requires distinct { has_double trail.old.falses ≡ false }
     ensures looks { (clause : List ℕ) → named (all_lits region.now) watch.id ≡ Some clause

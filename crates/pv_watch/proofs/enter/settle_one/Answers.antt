@@ -5,11 +5,11 @@ use Rattle.pv_watch.proofs.Looking.{extends-self}
 use Rattle.pv_watch.proofs.Entering.{not-one, one-inside, one-extends, one-sound, one-true, one-conflict}
 use Rattle.pv_watch.proofs.enter.settle_one.Goals as goal
 
-pub returns-then-clause-extends : goal.returns-then-clause-extends
-returns-then-clause-extends c = extends-self c.args.trail.now
+pub returns-then-len-clause-extends : goal.returns-then-len-clause-extends
+returns-then-len-clause-extends c = extends-self c.args.trail.now
 
-pub returns-then-clause-true_is : goal.returns-then-clause-true_is
-returns-then-clause-true_is c = λ _. not-one (all_lits c.args.region.now) c.args.trail.now.falses c.args.id c.lits-lits.result.now c.requires.from_one c.lits-lits.ensures c.if-ne.true
+pub returns-then-len-clause-true_is : goal.returns-then-len-clause-true_is
+returns-then-len-clause-true_is c = λ _. not-one (all_lits c.args.region.now) c.args.trail.now.falses c.args.id c.lits-lits.result.now c.requires.from_one c.lits-lits.ensures c.if-ne.true
 
 pub settle-requires-clause-inside : goal.settle-requires-clause-inside
 settle-requires-clause-inside c = one-inside (all_lits c.args.region.now) c.args.trail.now c.args.id c.lits-lits.result.now c.index.result.now c.requires.from_one c.lits-lits.ensures c.requires.valid c.if-ne.false (get_or_read c.lits-lits.result.now 0 c.index.result.now (omega (arith, c.if-ne.false)) c.index.ensures 0)

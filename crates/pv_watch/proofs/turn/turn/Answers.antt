@@ -23,10 +23,10 @@ pub step-requires-clause-sound : goal.step-requires-clause-sound
 step-requires-clause-sound c = c.entries.invariant.goes.sound
 
 pub entries-preserved : goal.entries-preserved
-entries-preserved c = record { walking = walking-on c.entries.region c.step.new.region c.entries.trail c.step.new.trail c.entries.slots c.step.new.slots c.entries.walk c.step.new.walk c.entries.next c.next_watch.result c.in-Some.watch c.entries.invariant.walking c.in-Some.is (c.step.ensures.on c.if-step.false) c.next_watch.ensures; goes = goes-on c.args.region.now c.entries.region c.step.new.region c.args.trail.now c.entries.trail c.step.new.trail c.entries.invariant.goes c.step.ensures.goes; place = c.step.ensures.place ∙ c.entries.invariant.place; lit = c.step.ensures.lit ∙ c.entries.invariant.lit }
+entries-preserved c = record { walking = walking-on c.entries.region c.step.new.region c.entries.trail c.step.new.trail c.entries.slots c.step.new.slots c.entries.walk c.step.new.walk c.entries.next c.next_watch.result c.in-Some.watch c.entries.invariant.walking c.in-Some.is (c.step.ensures.on c.if-not-step.false) c.next_watch.ensures; goes = goes-on c.args.region.now c.entries.region c.step.new.region c.args.trail.now c.entries.trail c.step.new.trail c.entries.invariant.goes c.step.ensures.goes; place = c.step.ensures.place ∙ c.entries.invariant.place; lit = c.step.ensures.lit ∙ c.entries.invariant.lit }
 
 pub entries-decreases : goal.entries-decreases
-entries-decreases c = walking-falls c.entries.region c.step.new.region c.entries.trail c.step.new.trail c.entries.slots c.step.new.slots c.entries.walk c.step.new.walk c.entries.next c.next_watch.result c.in-Some.watch c.entries.invariant.walking c.in-Some.is (c.step.ensures.on c.if-step.false)
+entries-decreases c = walking-falls c.entries.region c.step.new.region c.entries.trail c.step.new.trail c.entries.slots c.step.new.slots c.entries.walk c.step.new.walk c.entries.next c.next_watch.result c.in-Some.watch c.entries.invariant.walking c.in-Some.is (c.step.ensures.on c.if-not-step.false)
 
 pub returns-in-None-clause-goes : goal.returns-in-None-clause-goes
 returns-in-None-clause-goes c = c.entries.invariant.goes
@@ -34,8 +34,8 @@ returns-in-None-clause-goes c = c.entries.invariant.goes
 pub returns-in-None-clause-turned : goal.returns-in-None-clause-turned
 returns-in-None-clause-turned c = subst (λ (p : ℕ). IsTurned c.entries.region c.entries.trail c.entries.slots p (slice_index c.args.trail.now.falses c.args.place)) c.entries.invariant.place (subst (IsTurned c.entries.region c.entries.trail c.entries.slots c.entries.walk.place) (c.entries.invariant.lit ∙ (get_or_read c.args.trail.now.falses c.args.place c.index-lit.result.now c.requires.there (subst (λ (xs : List ℕ). c.index-lit.result.now ≡ get_or xs c.args.place c.index-lit.result.now) c.falses-lit.ensures.value c.index-lit.ensures) 0)) (end-walk c.entries.region c.entries.trail c.entries.slots c.entries.walk c.entries.next c.entries.invariant.walking c.in-None.is))
 
-pub returns-then-clause-goes : goal.returns-then-clause-goes
-returns-then-clause-goes c = goes-on c.args.region.now c.entries.region c.step.new.region c.args.trail.now c.entries.trail c.step.new.trail c.entries.invariant.goes c.step.ensures.goes
+pub returns-then-not-step-clause-goes : goal.returns-then-not-step-clause-goes
+returns-then-not-step-clause-goes c = goes-on c.args.region.now c.entries.region c.step.new.region c.args.trail.now c.entries.trail c.step.new.trail c.entries.invariant.goes c.step.ensures.goes
 
-pub returns-then-clause-stuck : goal.returns-then-clause-stuck
-returns-then-clause-stuck c = subst (λ (p : ℕ). IsStuck c.step.new.region c.step.new.trail c.step.new.slots p c.in-Some.watch.id) c.entries.invariant.place (c.step.ensures.stuck c.if-step.true)
+pub returns-then-not-step-clause-stuck : goal.returns-then-not-step-clause-stuck
+returns-then-not-step-clause-stuck c = subst (λ (p : ℕ). IsStuck c.step.new.region c.step.new.trail c.step.new.slots p c.in-Some.watch.id) c.entries.invariant.place (c.step.ensures.stuck c.if-not-step.true)

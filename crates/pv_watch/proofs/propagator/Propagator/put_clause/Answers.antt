@@ -20,8 +20,8 @@ returns-in-Err-clause-err c = ap (λ (s : Stored). record { stored = s; path = c
 pub invariant_of-self-then : goal.invariant_of-self-then
 invariant_of-self-then c = keeps-short c.self.inside.region c.put_clause.new.self c.self.inside.trail c.self.inside.slots.items c.self.inside.done c.args.lits.now c.self.invariant (more-clause c.self.inside.region c.put_clause.new.self c.args.lits.now (ap (λ (p : Propagating). p.stored.lemmas) c.self.view_is ∙ c.requires.lemmas) c.in-Ok.ensures.ok (subst (λ (n : ℕ). n ≤ c.put_clause.new.self.capacity) c.used.ensures.value c.used.ensures.fits)) (subst (λ (p : Propagating). IsClause p.stored.variables c.args.lits.now) (sym c.self.view_is) c.requires.valid) (omega (arith, c.if-lt.true))
 
-pub returns-then-clause-ok : goal.returns-then-clause-ok
-returns-then-clause-ok c = text-same (with_clause c.args.self.now.stored c.args.lits.now) c.put_clause.new.self (c.in-Ok.ensures.ok ∙ ap (λ (s : Stored). with_clause s c.args.lits.now) (ap (λ (p : Propagating). p.stored) c.self.view_is))
+pub returns-then-len-clause-ok : goal.returns-then-len-clause-ok
+returns-then-len-clause-ok c = text-same (with_clause c.args.self.now.stored c.args.lits.now) c.put_clause.new.self (c.in-Ok.ensures.ok ∙ ap (λ (s : Stored). with_clause s c.args.lits.now) (ap (λ (p : Propagating). p.stored) c.self.view_is))
 
 pub attach-requires-clause-from_one : goal.attach-requires-clause-from_one
 attach-requires-clause-from_one c = omega (arith, c.in-Ok.ensures.id)

@@ -5,7 +5,7 @@ use Rattle.pv_region.specs.Stored.{all_lits}
 use Rattle.pv_watch.specs.Turns.{Looks}
 use Rattle.pv_watch.proofs.Clauses.{own-inside}
 use Rattle.pv_watch.proofs.Looking.{below-bound, already-true, visited-is}
-use Rattle.pv_watch.proofs.visit.visit.Goals as goal
+use Rattle.pv_watch.proofs.visit.visit_entry.Goals as goal
 
 pub is_true-requires : goal.is_true-requires
 is_true-requires c =
