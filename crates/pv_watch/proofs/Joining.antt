@@ -1,5 +1,5 @@
 -- A clause or a lemma joins those of a region, and is watched at two of its literals.
-use Rattle.std.proofs.Common.{◌≡◌, ◌≢◌, ℕ, zero, suc, ◌+◌, ◌-◌, ◌*◌, ◌/◌, ◌<◌, ◌≤◌, ◌||◌, true, false, eqb, List, [], ◌∷◌, ◌++◌, length, map, get_or, set, refl, sym, ap, subst, ◌∙◌, arith, inl, inr, Some, slice_get, Contains}
+use Rattle.std.proofs.Common.{◌≡◌, ◌≢◌, ◌↔◌, ℕ, zero, suc, ◌+◌, ◌-◌, ◌*◌, ◌/◌, ◌<◌, ◌≤◌, ◌||◌, true, false, eqb, List, [], ◌∷◌, ◌++◌, length, map, get_or, set, refl, sym, ap, subst, ◌∙◌, arith, inl, inr, Some, slice_get, Contains}
 use Rattle.std.proofs.lemmas.Bool.{both_ways, cases_eq, cases_lt, eqb-true, eq-eqb, or_cases, or_left, or_parts}
 use Rattle.std.proofs.lemmas.List.{append-nil, append_assoc, map-append, length-append, length-map, length-set, length_push, get_or_past, get_or-set_same, get_or-set_other}
 use Rattle.pv_cnf.specs.Literal.{variable_of, is_outside}
@@ -7,7 +7,7 @@ use Rattle.pv_cnf.specs.Clause.{has_variable, has_double, IsClause}
 use Rattle.pv_log.specs.Propagation.{is_false, named}
 use Rattle.pv_log.proofs.ForCallers.{named-at}
 use Rattle.pv_region.specs.declared.watch.Watch.{Watch}
-use Rattle.pv_region.specs.Stored.{Stored, Hinted, used_of, count_of, all_lits, list_of, with_list, with_clause, with_lemma, IsLinked}
+use Rattle.pv_region.specs.Stored.{Stored, Hinted, Passes, used_of, count_of, all_lits, list_of, with_list, with_clause, with_lemma, IsLinked}
 use Rattle.pv_region.specs.Links.{In}
 use Rattle.pv_region.proofs.ForCallers.{in-contains}
 use Rattle.pv_watch.specs.Trail.{Path}
@@ -65,6 +65,9 @@ text-attached s t r id a b same is = subst (SameText s) (sym (is ∙ ap (λ (u :
 
 pub text-same : (s t : Stored) → t ≡ s → SameText s t
 text-same s t same = subst (SameText s) (sym same) (record { variables = refl; capacity = refl; clauses = refl; lemmas = refl })
+
+pub passes-seen : (A : Type 0) (s t : Stored) (cost need : ℕ) → s ≡ t → (A ↔ Passes s cost need) → (A ↔ Passes t cost need)
+passes-seen A s t cost need e h = subst (λ (u : Stored). A ↔ Passes u cost need) e h
 
 -- ---- two literals
 

@@ -9,14 +9,8 @@ use Rattle.pv_watch.proofs.enter.attach.Goals as goal
 pub watch-requires-clause-free : goal.watch-requires-clause-free
 watch-requires-clause-free c = c.requires.free 0 (omega arith)
 
-pub watch-2-requires-clause-literal : goal.watch-2-requires-clause-literal
-watch-2-requires-clause-literal c = ap (λ (s : Stored). is_outside s.variables c.args.pair.second) c.watch.ensures ∙ c.requires.second
-
-pub watch-2-requires-clause-to_last : goal.watch-2-requires-clause-to_last
-watch-2-requires-clause-to_last c = subst (λ (s : Stored). c.args.id ≤ count_of s) (sym c.watch.ensures) c.requires.to_last
-
-pub watch-2-requires-clause-free : goal.watch-2-requires-clause-free
-watch-2-requires-clause-free c = λ l. c.requires.free 1 (omega arith) (linked-with c.args.region.now c.args.pair.first (record { id = c.args.id; slot = 0 }) (record { id = c.args.id; slot = 1 }) (subst (λ (s : Stored). IsLinked s (record { id = c.args.id; slot = 1 })) c.watch.ensures l) (slots-apart c.args.id))
+pub watch-requires-2-clause-free : goal.watch-requires-2-clause-free
+watch-requires-2-clause-free c = λ l. c.requires.free 1 (omega arith) (linked-with c.args.region.now c.args.pair.first (record { id = c.args.id; slot = 0 }) (record { id = c.args.id; slot = 1 }) (subst (λ (s : Stored). IsLinked s (record { id = c.args.id; slot = 1 })) c.watch.ensures l) (slots-apart c.args.id))
 
 pub returns-clause-stored : goal.returns-clause-stored
 returns-clause-stored c = c.watch-2.ensures ∙ ap (λ (s : Stored). with_list s c.args.pair.second ((record { id = c.args.id; slot = 1 }) ∷ list_of s c.args.pair.second)) c.watch.ensures

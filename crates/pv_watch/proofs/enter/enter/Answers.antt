@@ -1,14 +1,12 @@
-use Rattle.std.proofs.Common.{◌≡◌, ◌∙◌, ℕ, None, Some, ap, sym}
+use Rattle.std.proofs.Common.{◌≡◌, ◌∙◌, ℕ, Option, None, Some, length, take, ap, sym, subst}
 use Rattle.pv_cnf.specs.Literal.{is_outside}
 use Rattle.pv_log.specs.Propagation.{is_false}
 use Rattle.pv_log.proofs.ForCallers.{complement-inside, complement-complement}
+use Rattle.pv_watch.specs.Turns.{Replaces}
 use Rattle.pv_watch.proofs.Clauses.{own-inside}
 use Rattle.pv_watch.proofs.Looking.{whole-replaces}
 use Rattle.pv_watch.proofs.Entering.{entered-self, can-free, first-unset, entered-made, can-made, one-made}
 use Rattle.pv_watch.proofs.enter.enter.Goals as goal
-
-pub other_free-2-requires-clause-there : goal.other_free-2-requires-clause-there
-other_free-2-requires-clause-there c = c.last_level.ensures.bound
 
 pub returns-in-Some-clause-entered : goal.returns-in-Some-clause-entered
 returns-in-Some-clause-entered c = entered-self c.args.trail.now c.args.id c.args.lits.now
@@ -25,14 +23,14 @@ imply-requires-clause-not_false c = ap (is_false c.args.trail.now.falses) c.flip
 pub imply-requires-clause-not_true : goal.imply-requires-clause-not_true
 imply-requires-clause-not_true c = ap (is_false c.args.trail.now.falses) c.flip.ensures.back ∙ c.free_of-first.ensures.not_false
 
-pub returns-in-Some-2-clause-entered : goal.returns-in-Some-2-clause-entered
-returns-in-Some-2-clause-entered c = entered-made c.args.trail.now c.imply.new.self c.args.lits.now c.args.id c.free_of-first.result c.flip.result c.last_level.result c.flip.ensures.complement c.requires.valid c.requires.unset c.free_of-first.ensures.own c.free_of-first.ensures.not_false (whole-replaces c.args.trail.now.falses c.args.lits.now c.free_of-first.result c.len.result None c.len.ensures.len c.in-None.ensures) c.last_level.ensures c.imply.ensures.falses c.imply.ensures.starts c.imply.ensures.variables c.imply.ensures.reasons c.imply.ensures.room c.imply.ensures.rise
+pub returns-in-Some-second-clause-entered : goal.returns-in-Some-second-clause-entered
+returns-in-Some-second-clause-entered c = entered-made c.args.trail.now c.imply.new.self c.args.lits.now c.args.id c.free_of-first.result c.flip.result c.last_level.result c.flip.ensures.complement c.requires.valid c.requires.unset c.free_of-first.ensures.own c.free_of-first.ensures.not_false (whole-replaces c.args.trail.now.falses c.args.lits.now c.free_of-first.result c.len.result None c.len.ensures.len c.in-None.ensures) c.last_level.ensures c.imply.ensures.falses c.imply.ensures.starts c.imply.ensures.variables c.imply.ensures.reasons c.imply.ensures.room c.imply.ensures.rise
 
-pub returns-in-Some-2-clause-pair : goal.returns-in-Some-2-clause-pair
-returns-in-Some-2-clause-pair c = can-made c.args.trail.now c.imply.new.self c.args.lits.now c.args.id c.free_of-first.result c.flip.result c.last_level.result c.flip.ensures.complement c.requires.valid c.requires.unset c.free_of-first.ensures.own c.free_of-first.ensures.not_false (whole-replaces c.args.trail.now.falses c.args.lits.now c.free_of-first.result c.len.result None c.len.ensures.len c.in-None.ensures) c.last_level.ensures c.imply.ensures.falses c.imply.ensures.starts c.in-Some-2.second c.in-Some-2.ensures
+pub returns-in-Some-second-clause-pair : goal.returns-in-Some-second-clause-pair
+returns-in-Some-second-clause-pair c = can-made c.args.trail.now c.imply.new.self c.args.lits.now c.args.id c.free_of-first.result c.flip.result c.last_level.result c.flip.ensures.complement c.requires.valid c.requires.unset c.free_of-first.ensures.own c.free_of-first.ensures.not_false (whole-replaces c.args.trail.now.falses c.args.lits.now c.free_of-first.result c.len.result None c.len.ensures.len c.in-None.ensures) c.last_level.ensures c.imply.ensures.falses c.imply.ensures.starts c.in-Some-second.second (subst (Replaces (take c.last_level.result c.args.trail.now.falses) c.args.lits.now c.free_of-first.result) c.in-Some-second.is c.other_free-second.ensures)
 
-pub returns-in-None-2-clause-entered : goal.returns-in-None-2-clause-entered
-returns-in-None-2-clause-entered c = entered-made c.args.trail.now c.imply.new.self c.args.lits.now c.args.id c.free_of-first.result c.flip.result c.last_level.result c.flip.ensures.complement c.requires.valid c.requires.unset c.free_of-first.ensures.own c.free_of-first.ensures.not_false (whole-replaces c.args.trail.now.falses c.args.lits.now c.free_of-first.result c.len.result None c.len.ensures.len c.in-None.ensures) c.last_level.ensures c.imply.ensures.falses c.imply.ensures.starts c.imply.ensures.variables c.imply.ensures.reasons c.imply.ensures.room c.imply.ensures.rise
+pub returns-in-None-second-clause-entered : goal.returns-in-None-second-clause-entered
+returns-in-None-second-clause-entered c = entered-made c.args.trail.now c.imply.new.self c.args.lits.now c.args.id c.free_of-first.result c.flip.result c.last_level.result c.flip.ensures.complement c.requires.valid c.requires.unset c.free_of-first.ensures.own c.free_of-first.ensures.not_false (whole-replaces c.args.trail.now.falses c.args.lits.now c.free_of-first.result c.len.result None c.len.ensures.len c.in-None.ensures) c.last_level.ensures c.imply.ensures.falses c.imply.ensures.starts c.imply.ensures.variables c.imply.ensures.reasons c.imply.ensures.room c.imply.ensures.rise
 
-pub returns-in-None-2-clause-single : goal.returns-in-None-2-clause-single
-returns-in-None-2-clause-single c = one-made c.args.trail.now c.imply.new.self c.args.lits.now c.args.id c.free_of-first.result c.flip.result c.last_level.result c.flip.ensures.complement c.requires.valid c.requires.unset c.free_of-first.ensures.own c.free_of-first.ensures.not_false (whole-replaces c.args.trail.now.falses c.args.lits.now c.free_of-first.result c.len.result None c.len.ensures.len c.in-None.ensures) c.last_level.ensures c.imply.ensures.falses c.imply.ensures.starts c.requires.quiet c.in-None-2.ensures
+pub returns-in-None-second-clause-single : goal.returns-in-None-second-clause-single
+returns-in-None-second-clause-single c = one-made c.args.trail.now c.imply.new.self c.args.lits.now c.args.id c.free_of-first.result c.flip.result c.last_level.result c.flip.ensures.complement c.requires.valid c.requires.unset c.free_of-first.ensures.own c.free_of-first.ensures.not_false (whole-replaces c.args.trail.now.falses c.args.lits.now c.free_of-first.result c.len.result None c.len.ensures.len c.in-None.ensures) c.last_level.ensures c.imply.ensures.falses c.imply.ensures.starts c.requires.quiet (subst (Replaces (take c.last_level.result c.args.trail.now.falses) c.args.lits.now c.free_of-first.result) c.in-None-second.is c.other_free-second.ensures)

@@ -5,9 +5,3 @@ use Rattle.pv_watch.proofs.enter.free_of.Goals as goal
 
 pub unreachable-requires : goal.unreachable-requires
 unreachable-requires c = free-some c.args.trail.now.variables c.args.trail.now.falses c.args.lits.now c.requires.inside c.requires.unset (whole-replaces c.args.trail.now.falses c.args.lits.now 0 c.len.result None c.len.ensures.len c.in-None.ensures)
-
-pub returns-in-Some-clause-own : goal.returns-in-Some-clause-own
-returns-in-Some-clause-own c = c.in-Some.ensures.own
-
-pub returns-in-Some-clause-not_false : goal.returns-in-Some-clause-not_false
-returns-in-Some-clause-not_false c = (whole-replaces c.args.trail.now.falses c.args.lits.now 0 c.len.result (Some c.in-Some.lit) c.len.ensures.len c.in-Some.ensures).free

@@ -4,7 +4,7 @@ use Rattle.std.specs.Vec.{with_items}
 use Rattle.std.proofs.lemmas.Grind.{common_steps}
 use Rattle.std.proofs.lemmas.List.{with_items_is}
 use Rattle.pv_cnf.specs.Clause.{IsClause}
-use Rattle.pv_region.specs.Stored.{Stored, all_lits, with_lemma}
+use Rattle.pv_region.specs.Stored.{Stored, lemma_cost, all_lits, with_lemma}
 use Rattle.pv_watch.specs.Trail.{Extends}
 use Rattle.pv_watch.specs.Quiet.{IsQuiet}
 use Rattle.pv_watch.specs.Watched.{Keeps, IsReady}
@@ -13,15 +13,15 @@ use Rattle.pv_watch.specs.Propagating.{Propagating}
 use Rattle.pv_watch.proofs.Guards.{keeps-extended}
 use Rattle.pv_watch.proofs.Looking.{extends-self}
 use Rattle.pv_watch.proofs.Attaching.{keeps-short}
-use Rattle.pv_watch.proofs.Joining.{more-lemma, text-same, text-attached, attach-to_last, attach-small, attach-room, attach-first, attach-second, attach-free, attach-long, attach-keeps}
+use Rattle.pv_watch.proofs.Joining.{passes-seen, more-lemma, text-same, text-attached, attach-to_last, attach-small, attach-room, attach-first, attach-second, attach-free, attach-long, attach-keeps}
 use Rattle.pv_watch.proofs.Entering.{ready-entered}
 use Rattle.pv_watch.proofs.propagator.Propagator.learn.Goals as goal
 
-pub invariant_of-self-in-Err : goal.invariant_of-self-in-Err
-invariant_of-self-in-Err c = subst (λ (s : Stored). Keeps s c.self.inside.trail c.self.inside.slots.items c.self.inside.done) (sym c.in-Err.ensures.err) c.self.invariant
-
 pub returns-in-Err-clause-extends : goal.returns-in-Err-clause-extends
 returns-in-Err-clause-extends c = subst (λ (p : Propagating). Extends p.path c.self.inside.trail) c.self.view_is (extends-self c.self.inside.trail)
+
+pub returns-in-Err-clause-full : goal.returns-in-Err-clause-full
+returns-in-Err-clause-full c = λ need. passes-seen _ c.self.inside.region c.args.self.now.stored (lemma_cost (record { lits = c.args.lits.now; hints = c.args.hints.now })) need (ap (λ (p : Propagating). p.stored) c.self.view_is) (c.in-Err.ensures.full need)
 
 pub returns-in-Err-clause-err : goal.returns-in-Err-clause-err
 returns-in-Err-clause-err c = ap (λ (s : Stored). record { stored = s; path = c.self.inside.trail; done = c.self.inside.done }) c.in-Err.ensures.err ∙ c.self.view_is

@@ -25,9 +25,6 @@ turn-requires-clause-sound c = c.turns.invariant.goes.sound
 pub turns-preserved : goal.turns-preserved
 turns-preserved c = record { keeps = subst (λ (ns : List ℕ). Keeps c.turn.new.region c.turn.new.trail ns (c.turns.self-inside.done + 1)) (sym (with_items_is c.turns.self-inside.slots c.turn.new.slots (grind (arith, common_steps, c.turn.auto.slots, c.deref_mut.ensures.len)))) (turned-next c.turn.new.region c.turns.self-inside.trail c.turn.new.trail c.turn.new.slots c.turns.self-inside.done c.in-None.ensures.turned c.turn.ensures.goes.extends (omega (arith, c.turns-test.true, c.len.ensures.len))); goes = (goes-on c.self.inside.region c.turns.self-inside.region c.turn.new.region c.self.inside.trail c.turns.self-inside.trail c.turn.new.trail c.turns.invariant.goes c.turn.ensures.goes) }
 
-pub turns-decreases : goal.turns-decreases
-turns-decreases c = omega (arith, c.turns-test.true, c.len.ensures.bound, c.turn.ensures.goes.extends.variables)
-
 pub invariant_of-self-in-Some : goal.invariant_of-self-in-Some
 invariant_of-self-in-Some c = subst (λ (ns : List ℕ). Keeps c.turn.new.region c.turn.new.trail ns c.turns.self-inside.done) (sym (with_items_is c.turns.self-inside.slots c.turn.new.slots (grind (arith, common_steps, c.turn.auto.slots, c.deref_mut.ensures.len)))) c.in-Some.ensures.stuck.keeps
 
