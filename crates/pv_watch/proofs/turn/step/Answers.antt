@@ -21,9 +21,6 @@ visit_entry-requires-clause-visited c = visited-of c.args.region.now c.args.trai
 pub visit_entry-requires-clause-distinct : goal.visit_entry-requires-clause-distinct
 visit_entry-requires-clause-distinct c = c.requires.entry.walks.keeps.distinct
 
-pub overflow_add-walk : goal.overflow_add-walk
-overflow_add-walk c = omega (arith, c.requires.entry.walks.few, c.requires.entry.walks.count)
-
 pub returns-in-Stays-clause-goes : goal.returns-in-Stays-clause-goes
 returns-in-Stays-clause-goes c = stays-goes c.args.region.now c.args.trail.now c.visit_entry.new.trail c.args.slots.now c.args.walk.now c.args.watch (slice_index c.args.slots.now c.place_of_other.result) c.requires.entry (ap (slice_index c.args.slots.now) c.place_of_other.ensures) c.requires.sound c.in-Stays.ensures.looks
 
@@ -37,19 +34,19 @@ pub unwatch-requires-clause-follows : goal.unwatch-requires-clause-follows
 unwatch-requires-clause-follows c = entry-follows c.args.region.now c.args.trail.now c.args.slots.now c.args.walk.now c.args.watch c.requires.entry
 
 pub watch-requires-clause-literal : goal.watch-requires-clause-literal
-watch-requires-clause-literal c = moves-literal c.args.region.now c.unwatch.new.self c.watch.new.self c.args.trail.now c.visit_entry.new.trail c.args.slots.now (set c.args.slots.now c.place_of.result c.in-Moves.lit) c.args.walk.now c.args.watch (slice_index c.args.slots.now c.place_of_other.result) c.in-Moves.lit c.requires.entry (ap (slice_index c.args.slots.now) c.place_of_other.ensures) c.unwatch.ensures.out c.unwatch.ensures.free c.in-Moves.ensures.looks
+watch-requires-clause-literal c = moves-literal c.args.region.now c.unwatch.new.self c.unwatch.new.self c.args.trail.now c.visit_entry.new.trail c.args.slots.now c.args.slots.now c.args.walk.now c.args.watch (slice_index c.args.slots.now c.place_of_other.result) c.in-Moves.lit c.requires.entry (ap (slice_index c.args.slots.now) c.place_of_other.ensures) c.unwatch.ensures.out c.unwatch.ensures.free c.in-Moves.ensures.looks
 
 pub watch-requires-clause-from_one : goal.watch-requires-clause-from_one
 watch-requires-clause-from_one c = (entry-of c.args.region.now c.args.trail.now c.args.slots.now c.args.walk.now c.args.watch c.requires.entry).from_one
 
 pub watch-requires-clause-to_last : goal.watch-requires-clause-to_last
-watch-requires-clause-to_last c = moves-to_last c.args.region.now c.unwatch.new.self c.watch.new.self c.args.trail.now c.visit_entry.new.trail c.args.slots.now (set c.args.slots.now c.place_of.result c.in-Moves.lit) c.args.walk.now c.args.watch (slice_index c.args.slots.now c.place_of_other.result) c.in-Moves.lit c.requires.entry (ap (slice_index c.args.slots.now) c.place_of_other.ensures) c.unwatch.ensures.out c.unwatch.ensures.free c.in-Moves.ensures.looks
+watch-requires-clause-to_last c = moves-to_last c.args.region.now c.unwatch.new.self c.unwatch.new.self c.args.trail.now c.visit_entry.new.trail c.args.slots.now c.args.slots.now c.args.walk.now c.args.watch (slice_index c.args.slots.now c.place_of_other.result) c.in-Moves.lit c.requires.entry (ap (slice_index c.args.slots.now) c.place_of_other.ensures) c.unwatch.ensures.out c.unwatch.ensures.free c.in-Moves.ensures.looks
 
 pub watch-requires-clause-slot : goal.watch-requires-clause-slot
 watch-requires-clause-slot c = (entry-of c.args.region.now c.args.trail.now c.args.slots.now c.args.walk.now c.args.watch c.requires.entry).of_clause.slot
 
 pub watch-requires-clause-free : goal.watch-requires-clause-free
-watch-requires-clause-free c = moves-free c.args.region.now c.unwatch.new.self c.watch.new.self c.args.trail.now c.visit_entry.new.trail c.args.slots.now (set c.args.slots.now c.place_of.result c.in-Moves.lit) c.args.walk.now c.args.watch (slice_index c.args.slots.now c.place_of_other.result) c.in-Moves.lit c.requires.entry (ap (slice_index c.args.slots.now) c.place_of_other.ensures) c.unwatch.ensures.out c.unwatch.ensures.free c.in-Moves.ensures.looks
+watch-requires-clause-free c = moves-free c.args.region.now c.unwatch.new.self c.unwatch.new.self c.args.trail.now c.visit_entry.new.trail c.args.slots.now c.args.slots.now c.args.walk.now c.args.watch (slice_index c.args.slots.now c.place_of_other.result) c.in-Moves.lit c.requires.entry (ap (slice_index c.args.slots.now) c.place_of_other.ensures) c.unwatch.ensures.out c.unwatch.ensures.free c.in-Moves.ensures.looks
 
 pub place_of-requires-clause-small : goal.place_of-requires-clause-small
 place_of-requires-clause-small c = (entry-of c.args.region.now c.args.trail.now c.args.slots.now c.args.walk.now c.args.watch c.requires.entry).small
