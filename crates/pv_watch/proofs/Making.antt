@@ -1,5 +1,5 @@
 -- A propagator without clauses keeps what it has to.
-use Rattle.std.proofs.Common.{◌≡◌, ℕ, zero, suc, ◌+◌, ◌-◌, ◌*◌, ◌/◌, ◌<◌, ◌≤◌, List, [], ◌∷◌, length, get_or, replicate, refl, sym, ap, subst, ◌∙◌, arith, slice_index_or, Contains}
+use Rattle.std.proofs.Common.{◌≡◌, ◌↔◌, Result, Err, ℕ, zero, suc, ◌+◌, ◌-◌, ◌*◌, ◌/◌, ◌<◌, ◌≤◌, List, [], ◌∷◌, length, get_or, replicate, refl, sym, ap, subst, ◌∙◌, arith, slice_index_or, Contains}
 use Rattle.std.specs.List.{AllByRecursion}
 use Rattle.std.proofs.lemmas.List.{length-replicate}
 use Rattle.pv_cnf.specs.Clause.{has_double, AreClauses}
@@ -52,3 +52,11 @@ module _ (s : Stored) (words variables : ℕ) (is : s ≡ empty variables words)
     turns = subst (AllByRecursion (λ (start : ℕ). start ≤ 0)) (sym undecided) tt;
     within = omega arith;
   }
+
+err-one : {A E : Type 0} (e f : E) → ◌≡◌ {A = Result A E} (Err e) (Err f) → e ≡ f
+err-one e f p = cc
+
+-- a refusal that is handed on
+pub full-as : {A B E : Type 0} (e f : E) (P : Type 0) → (◌≡◌ {A = Result A E} (Err e) (Err f) ↔ P) → (◌≡◌ {A = Result B E} (Err e) (Err f) ↔ P)
+full-as {A = A} {B = B} {E = E} e f P h =
+    (λ p. h.0 (ap (λ (x : E). Err x) (err-one e f p)), λ p. ap (λ (x : E). Err x) (err-one e f (h.1 p)))
