@@ -1,8 +1,7 @@
 -- One more clause, which is watched at two of its literals where it has two.
-use Rattle.std.proofs.Common.{◌≡◌, ◌≢◌, ℕ, zero, suc, ◌+◌, ◌-◌, ◌*◌, ◌/◌, ◌<◌, ◌≤◌, ◌⊎◌, true, false, List, [], ◌∷◌, ◌++◌, length, map, get_or, set, replicate, refl, sym, ap, subst, ◌∙◌, arith, inl, inr, Some, slice_get, slice_index, slice_index_or, Contains}
-use Rattle.std.specs.List.{AllByRecursion}
+use Rattle.std.proofs.Common.{◌≡◌, ◌≢◌, ℕ, zero, suc, ◌+◌, ◌-◌, ◌*◌, ◌/◌, ◌<◌, ◌≤◌, ◌⊎◌, true, List, [], ◌∷◌, ◌++◌, length, map, set, refl, sym, ap, subst, ◌∙◌, arith, inl, inr, Some, slice_get, slice_index_or, Contains}
 use Rattle.std.proofs.lemmas.Bool.{cases_eq, cases_lt}
-use Rattle.std.proofs.lemmas.List.{length-set, length-append, length-map, length_push, length-replicate, get_or-replicate, get_or_past, get_or-set_same, get_or-set_other}
+use Rattle.std.proofs.lemmas.List.{length-set, length-append, length-map, length_push, get_or-set_same, get_or-set_other}
 use Rattle.std.proofs.lemmas.Option.{slice_get_within, same_Some}
 use Rattle.pv_cnf.specs.Clause.{IsClause, AreClauses}
 use Rattle.pv_log.specs.Propagation.{is_false, named}
@@ -10,11 +9,11 @@ use Rattle.pv_log.proofs.ForCallers.{slice_get-left, named-at}
 use Rattle.pv_region.specs.declared.watch.Watch.{Watch}
 use Rattle.pv_region.specs.Stored.{Stored, Hinted, used_of, count_of, all_lits, list_of, with_list, IsLinked}
 use Rattle.pv_region.specs.Links.{code_of, In}
-use Rattle.pv_region.proofs.ForCallers.{contains-in, in-contains}
+use Rattle.pv_region.proofs.ForCallers.{in-contains}
 use Rattle.pv_watch.specs.Trail.{Path}
 use Rattle.pv_watch.specs.Watched.{literal_at, other, IsSlotOf, Watches, IsWatch, StandsBeside, AreGuarded, Keeps}
 use Rattle.pv_watch.proofs.Clauses.{own-inside}
-use Rattle.pv_watch.proofs.Moving.{same-code, one-or-other, other-other, other-differs, count-costs, named-within, from-two, list-set, list-kept, in-of, eq-watch, literal-inside}
+use Rattle.pv_watch.proofs.Moving.{one-or-other, count-costs, named-within, from-two, list-set, list-kept, in-of, literal-inside}
 
 pub named-more : (clauses : List (List ℕ)) (c : List ℕ) (id : ℕ) (clause : List ℕ) → named (clauses ++ c ∷ []) id ≡ Some clause → (named clauses id ≡ Some clause) ⊎ ((id ≡ length clauses + 1) × (clause ≡ c))
 named-more clauses c zero clause e = absurd cc
@@ -67,8 +66,8 @@ module _ (s t : Stored) (path : Path) (slots : List ℕ) (done : ℕ) (clause : 
       let inside : Contains (list_of s l.lit) w = subst (λ (ws : List Watch). Contains ws w) (list-same l.lit) l.there in
       elim (cases_lt l.lit 2) [
         | inl low ↦ (let same : l.lit - 2 ≡ 2 - 2 = omega (arith, low) in
-          let is = k.watched.only 2 w (omega arith) (subst (λ (i : ℕ). Contains (slice_index_or s.lists i []) w) same inside) in
-          named-within (all_lits s) w.id is.clause is.of_clause.at)
+            let is = k.watched.only 2 w (omega arith) (subst (λ (i : ℕ). Contains (slice_index_or s.lists i []) w) same inside) in
+            named-within (all_lits s) w.id is.clause is.of_clause.at)
         | inr le ↦ (let is = k.watched.only l.lit w le inside in named-within (all_lits s) w.id is.clause is.of_clause.at)
       ]
 
@@ -284,12 +283,12 @@ module _ (s t : Stored) (path : Path) (slots : List ℕ) (done : ℕ) (clause : 
     guarded-now x c o =
         elim (old-slot x c (record { slot = o.slot; at = o.at; long = o.long })) [
           | inl before ↦ subst (λ (l : ℕ). StandsBeside path done l (literal_at now (other x))) (sym (now-old x o.slot (old-id x c before)))
-            (subst (StandsBeside path done (literal_at slots x)) (sym (now-old (other x) (omega arith) (old-id x c before))) (k.guarded x c before))
+              (subst (StandsBeside path done (literal_at slots x)) (sym (now-old (other x) (omega arith) (old-id x c before))) (k.guarded x c before))
           | inr (at, is) ↦ elim (new-one x o.slot at) [
             | inl e ↦ subst (λ (w : Watch). StandsBeside path done (literal_at now w) (literal_at now (other w))) (sym e)
-              (subst (λ (l : ℕ). StandsBeside path done l (literal_at now second)) (sym now-first) (subst (StandsBeside path done a) (sym now-second) beside_a))
+                (subst (λ (l : ℕ). StandsBeside path done l (literal_at now second)) (sym now-first) (subst (StandsBeside path done a) (sym now-second) beside_a))
             | inr e ↦ subst (λ (w : Watch). StandsBeside path done (literal_at now w) (literal_at now (other w))) (sym e)
-              (subst (λ (l : ℕ). StandsBeside path done l (literal_at now first)) (sym now-second) (subst (StandsBeside path done b) (sym now-first) beside_b))
+                (subst (λ (l : ℕ). StandsBeside path done l (literal_at now first)) (sym now-second) (subst (StandsBeside path done b) (sym now-first) beside_b))
           ]
         ]
 

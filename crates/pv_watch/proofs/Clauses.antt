@@ -1,11 +1,11 @@
 -- The literals of a clause: two that aren't false, one that is true, and one beside which all are false.
-use Rattle.std.proofs.Common.{◌≡◌, ◌≢◌, ℕ, zero, suc, ◌+◌, ◌-◌, ◌*◌, ◌/◌, ◌%◌, ◌<◌, ◌≤◌, ◌||◌, Bool, true, false, eqb, List, [], ◌∷◌, ◌++◌, length, refl, sym, ap, subst, ◌∙◌, arith, inl, inr, Some, slice_get}
+use Rattle.std.proofs.Common.{◌≡◌, ◌≢◌, ℕ, zero, suc, true, false, eqb, List, [], ◌∷◌, refl, sym, ap, ◌∙◌, arith, inl, inr, Some, slice_get}
 use Rattle.std.proofs.lemmas.Bool.{eqb-true, eq-eqb, cases_eq, cases_Bool, both_ways, or_cases, or_left, or_right, or_parts}
 use Rattle.pv_cnf.specs.Literal.{complement, variable_of, is_outside}
 use Rattle.pv_cnf.specs.Clause.{has_outside, has_double, has_variable}
-use Rattle.pv_log.specs.Propagation.{is_false, left_of, unit_of, is_falsified}
+use Rattle.pv_log.specs.Propagation.{is_false, left_of, is_falsified}
 use Rattle.pv_watch.specs.Quiet.{IsQuiet}
-use Rattle.pv_watch.proofs.Lefts.{left-in, left-out, true-quiet, two-quiet, unit-when, nil-falsified}
+use Rattle.pv_watch.proofs.Lefts.{left-in, left-out, true-quiet, two-quiet, nil-falsified}
 use Rattle.pv_watch.proofs.Alone.{itself-left}
 
 -- ---- places
@@ -30,7 +30,7 @@ variable-there [] x e = absurd (both_ways false refl e)
 variable-there (y ∷ xs) x e =
     elim (or_cases (eqb x y) (is_false xs x) e) [
       | inl here ↦ or_left (eqb (variable_of x) (variable_of y)) (has_variable (variable_of x) xs)
-        (eq-eqb (variable_of x) (variable_of y) (ap variable_of (eqb-true x y here)))
+          (eq-eqb (variable_of x) (variable_of y) (ap variable_of (eqb-true x y here)))
       | inr more ↦ or_right (eqb (variable_of x) (variable_of y)) (has_variable (variable_of x) xs) (variable-there xs x more)
     ]
 
@@ -44,11 +44,11 @@ not-both (y ∷ F) x d e f =
       | inl here ↦ elim (or_cases (eqb (complement x) y) (is_false F (complement x)) f) [
         | inl there ↦ (let a = eqb-true x y here in let b = eqb-true (complement x) y there in let c : complement x ≡ x = b ∙ sym a in omega (arith, c))
         | inr more ↦ both_ways (has_variable (variable_of y) F) parts.0
-          (ap (λ (v : ℕ). has_variable v F) (ap variable_of (sym (eqb-true x y here)) ∙ sym same) ∙ variable-there F (complement x) more)
+            (ap (λ (v : ℕ). has_variable v F) (ap variable_of (sym (eqb-true x y here)) ∙ sym same) ∙ variable-there F (complement x) more)
       ]
       | inr more ↦ elim (or_cases (eqb (complement x) y) (is_false F (complement x)) f) [
         | inl there ↦ both_ways (has_variable (variable_of y) F) parts.0
-          (ap (λ (v : ℕ). has_variable v F) (ap variable_of (sym (eqb-true (complement x) y there)) ∙ same) ∙ variable-there F x more)
+            (ap (λ (v : ℕ). has_variable v F) (ap variable_of (sym (eqb-true (complement x) y there)) ∙ same) ∙ variable-there F x more)
         | inr too ↦ not-both F x parts.1 more too
       ]
     ]
@@ -64,10 +64,10 @@ stays-left F (y ∷ ys) x own free =
         | inr more ↦ ap (λ (xs : List ℕ). is_false xs x) (left-in F y ys gone) ∙ stays-left F ys x more free
       ]
       | inr kept ↦ ap (λ (xs : List ℕ). is_false xs x) (left-out F y ys kept)
-        ∙ elim (or_cases (eqb x y) (is_false ys x) own) [
-          | inl here ↦ or_left (eqb x y) (is_false (left_of F ys) x) here
-          | inr more ↦ or_right (eqb x y) (is_false (left_of F ys) x) (stays-left F ys x more free)
-        ]
+          ∙ elim (or_cases (eqb x y) (is_false ys x) own) [
+            | inl here ↦ or_left (eqb x y) (is_false (left_of F ys) x) here
+            | inr more ↦ or_right (eqb x y) (is_false (left_of F ys) x) (stays-left F ys x more free)
+          ]
     ]
 
 only-one : (x y : ℕ) → is_false (x ∷ []) y ≡ true → y ≡ x
@@ -106,13 +106,13 @@ sole-left F (y ∷ ys) other d own free rest =
     let parts = or_parts (has_variable (variable_of y) ys) (has_double ys) d in
     elim (cases_eq y other) [
       | inl e ↦ left-out F y ys (ap (is_false F) e ∙ free)
-        ∙ ap (λ (xs : List ℕ). y ∷ xs) (itself-left F ys (λ x there. rest x (or_right (eqb x y) (is_false ys x) there)
+          ∙ ap (λ (xs : List ℕ). y ∷ xs) (itself-left F ys (λ x there. rest x (or_right (eqb x y) (is_false ys x) there)
           (λ same. both_ways (has_variable (variable_of y) ys) parts.0 (ap (λ (v : ℕ). has_variable v ys) (ap variable_of (e ∙ sym same)) ∙ variable-there ys x there))))
-        ∙ ap (λ (x : ℕ). x ∷ []) e
+          ∙ ap (λ (x : ℕ). x ∷ []) e
       | inr ne ↦ elim (or_cases (eqb other y) (is_false ys other) own) [
         | inl here ↦ absurd (ne (sym (eqb-true other y here)))
         | inr more ↦ left-in F y ys (rest y (or_left (eqb y y) (is_false ys y) (eq-eqb y y refl)) ne)
-          ∙ sole-left F ys other parts.1 more free (λ x there differs. rest x (or_right (eqb x y) (is_false ys x) there) differs)
+            ∙ sole-left F ys other parts.1 more free (λ x there differs. rest x (or_right (eqb x y) (is_false ys x) there) differs)
       ]
     ]
 

@@ -1,5 +1,5 @@
 -- A lemma enters: two of its literals can be watched, or it makes its only one true.
-use Rattle.std.proofs.Common.{◌≡◌, ◌≢◌, ℕ, zero, suc, ◌+◌, ◌*◌, ◌-◌, ◌<◌, ◌≤◌, ◌⊎◌, Bool, true, false, List, [], ◌∷◌, ◌++◌, length, get_or, set, take, drop, refl, sym, ap, subst, ◌∙◌, arith, inl, inr, Option, Some, None, slice_get, Contains}
+use Rattle.std.proofs.Common.{◌≡◌, ◌≢◌, ℕ, ◌+◌, ◌-◌, ◌<◌, ◌≤◌, Bool, true, false, List, [], ◌∷◌, ◌++◌, length, get_or, set, take, drop, refl, sym, ap, subst, ◌∙◌, arith, inl, inr, Some, slice_get, Contains}
 use Rattle.std.specs.List.{AllByRecursion}
 use Rattle.std.proofs.lemmas.Bool.{cases_eq, cases_lt, cases_Bool, both_ways}
 use Rattle.std.proofs.lemmas.List.{take-append-drop}
@@ -120,7 +120,7 @@ module _ (old new : Path) (clause : List ℕ) (id first made level : ℕ) (made-
     beside_second = λ p lt at.
         let from : level ≤ p = elim (cases_lt p level) [
           | inl low ↦ absurd (both_ways (is_false (take level old.falses) second) can.free
-            (get-false (take level old.falses) p second (get-take old.falses level p low ∙ before p second lt at)))
+              (get-false (take level old.falses) p second (get-take old.falses level p low ∙ before p second lt at)))
           | inr le ↦ le
         ] in
         record {
@@ -137,7 +137,7 @@ module _ (old new : Path) (clause : List ℕ) (id first made level : ℕ) (made-
         | inl (none, zero_is) ↦ record {
           one = elim (cases_lt 1 (length clause)) [
             | inl long ↦ (let (y, own_y, ne) = another clause valid.distinct long first in
-              absurd (both_ways (is_false (take 0 old.falses) y) refl (subst (λ (n : ℕ). is_false (take n old.falses) y ≡ true) zero_is (others y own_y ne))))
+                absurd (both_ways (is_false (take 0 old.falses) y) refl (subst (λ (n : ℕ). is_false (take n old.falses) y ≡ true) zero_is (others y own_y ne))))
             | inr short ↦ omega (arith, short, valid.nonempty)
           ];
           first = record {
@@ -149,9 +149,9 @@ module _ (old new : Path) (clause : List ℕ) (id first made level : ℕ) (made-
           };
         }
         | inr c ↦ absurd (let q = all-contains (λ (s : ℕ). IsQuiet (take s old.falses) clause) old.starts level quiet c in
-          let left = sole-left (take level old.falses) clause first valid.distinct own (take-out old.falses level first not_false) others in
-          let true_there = quiet-one (take level old.falses) clause first q left in
-          both_ways (is_false old.falses (complement first)) (first-unset old.falses clause first unset rest) (take-in old.falses level (complement first) true_there))
+            let left = sole-left (take level old.falses) clause first valid.distinct own (take-out old.falses level first not_false) others in
+            let true_there = quiet-one (take level old.falses) clause first q left in
+            both_ways (is_false old.falses (complement first)) (first-unset old.falses clause first unset rest) (take-in old.falses level (complement first) true_there))
       ]
 
 -- ---- what is ready stays so

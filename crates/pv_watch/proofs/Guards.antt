@@ -1,8 +1,8 @@
 -- What a propagation keeps as more literals become false, as a literal's turn ends, and as decisions are made and taken back; and
 -- that all clauses are quiet where each literal has had its turn.
-use Rattle.std.proofs.Common.{◌≡◌, ◌≢◌, ℕ, zero, suc, ◌+◌, ◌-◌, ◌*◌, ◌<◌, ◌≤◌, true, false, List, [], ◌∷◌, ◌++◌, length, take, drop, refl, sym, ap, subst, ◌∙◌, arith, inl, inr, Option, Some, None, slice_get, slice_index_or, Contains}
+use Rattle.std.proofs.Common.{◌≡◌, ℕ, zero, suc, ◌+◌, ◌<◌, ◌≤◌, false, List, [], ◌∷◌, ◌++◌, length, take, drop, refl, sym, ap, subst, ◌∙◌, arith, inl, inr, Some, slice_get, Contains}
 use Rattle.std.specs.List.{AllByRecursion}
-use Rattle.std.proofs.lemmas.Bool.{cases_eq, cases_lt, cases_Bool}
+use Rattle.std.proofs.lemmas.Bool.{cases_eq, cases_Bool}
 use Rattle.std.proofs.lemmas.List.{take-append-drop, length-append, length_push}
 use Rattle.std.proofs.lemmas.Option.{slice_get_within, same_Some}
 use Rattle.pv_cnf.specs.Literal.{complement}
@@ -13,7 +13,7 @@ use Rattle.pv_region.specs.declared.watch.Watch.{Watch}
 use Rattle.pv_region.specs.Stored.{Stored, all_lits, list_of}
 use Rattle.pv_watch.specs.Trail.{Path, Rise, Extends}
 use Rattle.pv_watch.specs.Quiet.{IsQuiet, AreQuiet}
-use Rattle.pv_watch.specs.Watched.{literal_at, other, IsSlotOf, Watches, IsWatch, AreWatched, IsTrueSince, StandsBeside, AreGuarded, Keeps, IsTrueFirst, OnesAreTrue}
+use Rattle.pv_watch.specs.Watched.{literal_at, other, IsSlotOf, StandsBeside, Keeps, OnesAreTrue}
 use Rattle.pv_watch.specs.Turns.{OtherIsTrue}
 use Rattle.pv_watch.proofs.Places.{Rise-front}
 use Rattle.pv_watch.proofs.Paths.{below-all, all-push}
@@ -84,8 +84,8 @@ keeps-extended s old new slots done k e distinct = record {
 pub trues-extended : (old new : Path) (slots : List ℕ) (ws : List Watch) → Extends old new → AllByRecursion (OtherIsTrue old.falses slots) ws → AllByRecursion (OtherIsTrue new.falses slots) ws
 trues-extended old new slots ws e trues =
     all-follows (OtherIsTrue old.falses slots) (OtherIsTrue new.falses slots) ws (λ w there.
-      let (q, at) = false-get old.falses (complement (literal_at slots (other w))) there in
-      get-false new.falses q (complement (literal_at slots (other w))) (get-extended old new q (complement (literal_at slots (other w))) e at)) trues
+    let (q, at) = false-get old.falses (complement (literal_at slots (other w))) there in
+    get-false new.falses q (complement (literal_at slots (other w))) (get-extended old new q (complement (literal_at slots (other w))) e at)) trues
 
 -- ---- a turn ends
 
@@ -107,13 +107,13 @@ keeps-next s path slots done lit k turn trues = record {
   guarded = λ w clause of. λ p lt at.
       elim (cases_eq p done) [
         | inl e ↦ (let same : literal_at slots w ≡ lit = same_Some (literal_at slots w) lit (sym at ∙ ap (slice_get path.falses) e ∙ turn) in
-          let there : Contains (list_of s lit) w = subst (λ (l : ℕ). Contains (list_of s l) w) same (k.watched.each w clause of).there in
-          let (q, there_q) = false-get path.falses (complement (literal_at slots (other w))) (all-contains (OtherIsTrue path.falses slots) (list_of s lit) w trues there) in
-          record {
-            place = q;
-            there = there_q;
-            since = not-past path.starts p q (all-follows (λ (start : ℕ). start ≤ done) (λ (start : ℕ). start ≤ p) path.starts (λ start le. omega (arith, le, e)) k.turns);
-          })
+            let there : Contains (list_of s lit) w = subst (λ (l : ℕ). Contains (list_of s l) w) same (k.watched.each w clause of).there in
+            let (q, there_q) = false-get path.falses (complement (literal_at slots (other w))) (all-contains (OtherIsTrue path.falses slots) (list_of s lit) w trues there) in
+            record {
+              place = q;
+              there = there_q;
+              since = not-past path.starts p q (all-follows (λ (start : ℕ). start ≤ done) (λ (start : ℕ). start ≤ p) path.starts (λ start le. omega (arith, le, e)) k.turns);
+            })
         | inr ne ↦ k.guarded w clause of p (omega (arith, lt, ne)) at
       ];
   turns = all-follows (λ (start : ℕ). start ≤ done) (λ (start : ℕ). start ≤ done + 1) path.starts (λ start le. omega (arith, le)) k.turns;
@@ -127,24 +127,24 @@ quiet-clause : (s : Stored) (path : Path) (slots : List ℕ) (done : ℕ) → Ke
 quiet-clause s path slots done k all ones id clause at valid =
     elim (cases_eq (length clause) 1) [
       | inl one ↦ (let first = ones id clause at one in
-        quiet-true path.falses clause first.lit k.distinct first.own (get-false path.falses first.place (complement first.lit) first.there))
+          quiet-true path.falses clause first.lit k.distinct first.own (get-false path.falses first.place (complement first.lit) first.there))
       | inr more ↦ (let a : Watch = record { id = id; slot = 0 } in let b : Watch = record { id = id; slot = 1 } in
-        let long : 1 < length clause = omega (arith, more, valid.nonempty) in
-        let of_a : IsSlotOf s a clause = record { slot = omega arith; at = at; long = long } in
-        let of_b : IsSlotOf s b clause = record { slot = omega arith; at = at; long = long } in
-        let wa = k.watched.each a clause of_a in
-        let wb = k.watched.each b clause of_b in
-        elim (cases_Bool (is_false path.falses (literal_at slots a))) [
-          | inl gone ↦ (let (p, there) = false-get path.falses (literal_at slots a) gone in
-            let beside = k.guarded a clause of_a p (let lt = slice_get_within path.falses p (literal_at slots a) there in omega (arith, lt, all)) there in
-            quiet-true path.falses clause (literal_at slots b) k.distinct wb.own (get-false path.falses beside.place (complement (literal_at slots b)) beside.there))
-          | inr free_a ↦ elim (cases_Bool (is_false path.falses (literal_at slots b))) [
-            | inl gone ↦ (let (p, there) = false-get path.falses (literal_at slots b) gone in
-              let beside = k.guarded b clause of_b p (let lt = slice_get_within path.falses p (literal_at slots b) there in omega (arith, lt, all)) there in
-              quiet-true path.falses clause (literal_at slots a) k.distinct wa.own (get-false path.falses beside.place (complement (literal_at slots a)) beside.there))
-            | inr free_b ↦ quiet-two path.falses clause (literal_at slots a) (literal_at slots b) wa.own wb.own wa.differs free_a free_b
-          ]
-        ])
+          let long : 1 < length clause = omega (arith, more, valid.nonempty) in
+          let of_a : IsSlotOf s a clause = record { slot = omega arith; at = at; long = long } in
+          let of_b : IsSlotOf s b clause = record { slot = omega arith; at = at; long = long } in
+          let wa = k.watched.each a clause of_a in
+          let wb = k.watched.each b clause of_b in
+          elim (cases_Bool (is_false path.falses (literal_at slots a))) [
+            | inl gone ↦ (let (p, there) = false-get path.falses (literal_at slots a) gone in
+                let beside = k.guarded a clause of_a p (let lt = slice_get_within path.falses p (literal_at slots a) there in omega (arith, lt, all)) there in
+                quiet-true path.falses clause (literal_at slots b) k.distinct wb.own (get-false path.falses beside.place (complement (literal_at slots b)) beside.there))
+            | inr free_a ↦ elim (cases_Bool (is_false path.falses (literal_at slots b))) [
+              | inl gone ↦ (let (p, there) = false-get path.falses (literal_at slots b) gone in
+                  let beside = k.guarded b clause of_b p (let lt = slice_get_within path.falses p (literal_at slots b) there in omega (arith, lt, all)) there in
+                  quiet-true path.falses clause (literal_at slots a) k.distinct wa.own (get-false path.falses beside.place (complement (literal_at slots a)) beside.there))
+              | inr free_b ↦ quiet-two path.falses clause (literal_at slots a) (literal_at slots b) wa.own wb.own wa.differs free_a free_b
+            ]
+          ])
     ]
 
 pub all-quiet : (s : Stored) (path : Path) (slots : List ℕ) (done : ℕ) → Keeps s path slots done → done ≡ length path.falses → OnesAreTrue (all_lits s) path

@@ -1,5 +1,5 @@
 -- A clause or a lemma joins those of a region, and is watched at two of its literals.
-use Rattle.std.proofs.Common.{◌≡◌, ◌≢◌, ◌↔◌, ℕ, zero, suc, ◌+◌, ◌-◌, ◌*◌, ◌/◌, ◌<◌, ◌≤◌, ◌||◌, true, false, eqb, List, [], ◌∷◌, ◌++◌, length, map, get_or, set, refl, sym, ap, subst, ◌∙◌, arith, inl, inr, Some, slice_get, Contains}
+use Rattle.std.proofs.Common.{◌≡◌, ◌≢◌, ◌↔◌, ℕ, ◌+◌, ◌-◌, ◌*◌, ◌<◌, ◌≤◌, true, false, eqb, List, [], ◌∷◌, ◌++◌, length, map, get_or, set, refl, sym, ap, subst, ◌∙◌, arith, inl, inr, Some, slice_get, Contains}
 use Rattle.std.proofs.lemmas.Bool.{both_ways, cases_eq, cases_lt, eqb-true, eq-eqb, or_cases, or_left, or_parts}
 use Rattle.std.proofs.lemmas.List.{append-nil, append_assoc, map-append, length-append, length-map, length-set, length_push, get_or_past, get_or-set_same, get_or-set_other}
 use Rattle.pv_cnf.specs.Literal.{variable_of, is_outside}
@@ -11,7 +11,7 @@ use Rattle.pv_region.specs.Stored.{Stored, Hinted, Passes, used_of, count_of, al
 use Rattle.pv_region.specs.Links.{In}
 use Rattle.pv_region.proofs.ForCallers.{in-contains}
 use Rattle.pv_watch.specs.Trail.{Path}
-use Rattle.pv_watch.specs.Watched.{Keeps, OnesAreTrue, IsReady}
+use Rattle.pv_watch.specs.Watched.{Keeps}
 use Rattle.pv_watch.specs.Turns.{SameText, CanAttach, attached}
 use Rattle.pv_watch.proofs.Clauses.{own-inside}
 use Rattle.pv_watch.proofs.Moving.{count-costs, in-of}
@@ -145,8 +145,8 @@ module _ (s t : Stored) (path : Path) (slots : List ℕ) (done : ℕ) (clause : 
   pub attach-keeps : (r : Stored) (now : List ℕ) → r ≡ attached t id a b → now ≡ set (set slots (2 * id) a) (2 * id + 1) b → Keeps r path now done
   attach-keeps r now r-is now-is =
       subst (λ (u : Stored). Keeps u path now done) (sym (r-is ∙ ap (λ (n : ℕ). attached t n a b) id-last))
-          (subst (λ (ns : List ℕ). Keeps (attached t (length (all_lits s) + 1) a b) path ns done) (sym (slots-at slots now id (length (all_lits s) + 1) a b id-last now-is))
-          (keeps-attached s t path slots done clause k more valid a b can.own_first can.own_second can.differ attach-long can.beside_first can.beside_second))
+      (subst (λ (ns : List ℕ). Keeps (attached t (length (all_lits s) + 1) a b) path ns done) (sym (slots-at slots now id (length (all_lits s) + 1) a b id-last now-is))
+      (keeps-attached s t path slots done clause k more valid a b can.own_first can.own_second can.differ attach-long can.beside_first can.beside_second))
 
 -- ---- its slots are put into two lists
 
@@ -164,10 +164,10 @@ linked-with s a w x l ne =
       | inl e ↦ elim (cases_lt (a - 2) (length s.lists)) [
         | inl lt ↦ (let ws : list_of (with_list s a (w ∷ list_of s a)) l.lit ≡ w ∷ list_of s a =
             ap (λ (i : ℕ). get_or (set s.lists (a - 2) (w ∷ list_of s a)) i []) e ∙ get_or-set_same s.lists (a - 2) (w ∷ list_of s a) [] lt in
-          linked-first s a w x ne (in-of (w ∷ list_of s a) x (subst (λ (vs : List Watch). Contains vs x) ws l.there)))
+            linked-first s a w x ne (in-of (w ∷ list_of s a) x (subst (λ (vs : List Watch). Contains vs x) ws l.there)))
         | inr ge ↦ absurd (let none : list_of (with_list s a (w ∷ list_of s a)) l.lit ≡ [] =
             get_or_past (set s.lists (a - 2) (w ∷ list_of s a)) (l.lit - 2) [] (omega (arith, ge, e, length-set s.lists (a - 2) (w ∷ list_of s a))) in
-          no-entry x (subst (λ (vs : List Watch). Contains vs x) none l.there))
+            no-entry x (subst (λ (vs : List Watch). Contains vs x) none l.there))
       ]
       | inr differ ↦ record {
         lit = l.lit;

@@ -1,13 +1,12 @@
 -- A clause of whose watched literals one is false is looked at.
-use Rattle.std.proofs.Common.{◌≡◌, ◌≢◌, ℕ, zero, suc, ◌+◌, ◌-◌, ◌*◌, ◌/◌, ◌<◌, ◌≤◌, ◌||◌, true, false, eqb, List, [], ◌∷◌, ◌++◌, length, get_or, set, take, refl, sym, ap, subst, ◌∙◌, arith, inl, inr, Option, Some, None, slice_get}
-use Rattle.std.proofs.lemmas.Bool.{eqb-true, eq-eqb, cases_Bool, or_cases, or_left, or_right, both_ways}
+use Rattle.std.proofs.Common.{◌≡◌, ◌≢◌, ℕ, zero, suc, ◌+◌, ◌-◌, ◌*◌, ◌<◌, ◌||◌, true, false, eqb, List, [], ◌∷◌, ◌++◌, length, get_or, set, take, refl, sym, ap, subst, ◌∙◌, arith, inl, inr, Option, Some, slice_get}
+use Rattle.std.proofs.lemmas.Bool.{eqb-true, eq-eqb, or_cases, or_left, or_right, both_ways}
 use Rattle.std.proofs.lemmas.List.{append-nil, take_more, take_all}
 use Rattle.std.proofs.lemmas.Option.{same_Some}
 use Rattle.pv_cnf.specs.Literal.{complement, is_outside}
-use Rattle.pv_cnf.specs.Clause.{has_double}
 use Rattle.pv_log.specs.Propagation.{is_false, named, unit_of}
 use Rattle.pv_log.proofs.ForCallers.{false-push, inside-bounds, named-at}
-use Rattle.pv_watch.specs.Trail.{Path, Rise, IsSound, Extends}
+use Rattle.pv_watch.specs.Trail.{Path, Rise, Extends}
 use Rattle.pv_watch.specs.Turns.{Replaces, LeavesOne, IsMadeTrue}
 use Rattle.pv_watch.proofs.Lefts.{unit-when}
 use Rattle.pv_watch.proofs.Paths.{sound-imply}
@@ -27,12 +26,12 @@ pub falses-more : (falses clause : List ℕ) (other i : ℕ) → i < length clau
     → (x : ℕ) → is_false (take (i + 1) clause) x ≡ true → x ≢ other → is_false falses x ≡ true
 falses-more falses clause other i lt before here x own ne =
     let more : is_false (take (i + 1) clause) x ≡ (is_false (take i clause) x || (eqb x (get_or clause i 0) || false)) =
-        ap (λ (xs : List ℕ). is_false xs x) (take_more clause i 0 lt) ∙ false-push (take i clause) (get_or clause i 0) x in
+    ap (λ (xs : List ℕ). is_false xs x) (take_more clause i 0 lt) ∙ false-push (take i clause) (get_or clause i 0) x in
     elim (or_cases (is_false (take i clause) x) (eqb x (get_or clause i 0) || false) (sym more ∙ own)) [
       | inl there ↦ before x there ne
       | inr last ↦ elim (or_cases (eqb x (get_or clause i 0)) false last) [
         | inl e ↦ (let same : x ≡ get_or clause i 0 = eqb-true x (get_or clause i 0) e in
-          ap (is_false falses) same ∙ here (λ is. ne (same ∙ is)))
+            ap (is_false falses) same ∙ here (λ is. ne (same ∙ is)))
         | inr none ↦ absurd (both_ways false refl none)
       ]
     ]

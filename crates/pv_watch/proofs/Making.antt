@@ -1,5 +1,5 @@
 -- A propagator without clauses keeps what it has to.
-use Rattle.std.proofs.Common.{◌≡◌, ◌↔◌, Result, Err, ℕ, zero, suc, ◌+◌, ◌-◌, ◌*◌, ◌/◌, ◌<◌, ◌≤◌, List, [], ◌∷◌, length, get_or, replicate, refl, sym, ap, subst, ◌∙◌, arith, slice_index_or, Contains}
+use Rattle.std.proofs.Common.{◌≡◌, ◌↔◌, Result, Err, ℕ, zero, suc, ◌+◌, ◌-◌, ◌*◌, ◌/◌, ◌≤◌, List, [], length, get_or, replicate, refl, sym, ap, subst, ◌∙◌, arith, Contains}
 use Rattle.std.specs.List.{AllByRecursion}
 use Rattle.std.proofs.lemmas.List.{length-replicate}
 use Rattle.pv_cnf.specs.Clause.{has_double, AreClauses}

@@ -1,20 +1,20 @@
 -- A slot that goes from the list of a literal to that of another one, which it watches then.
-use Rattle.std.proofs.Common.{◌≡◌, ◌≢◌, ℕ, zero, suc, ◌+◌, ◌-◌, ◌*◌, ◌/◌, ◌<◌, ◌≤◌, ◌⊎◌, true, false, List, [], ◌∷◌, ◌++◌, length, map, get_or, set, refl, sym, ap, subst, ◌∙◌, arith, inl, inr, Some, slice_get, slice_index, slice_index_or, slice_set, Contains, sum_by}
+use Rattle.std.proofs.Common.{◌≡◌, ◌≢◌, ℕ, zero, suc, ◌+◌, ◌-◌, ◌*◌, ◌<◌, ◌≤◌, ◌⊎◌, true, false, List, [], ◌∷◌, ◌++◌, length, map, set, refl, sym, ap, subst, ◌∙◌, arith, inl, inr, Some, slice_get, Contains, sum_by}
 use Rattle.std.specs.List.{AllByRecursion}
-use Rattle.std.proofs.lemmas.Bool.{cases_eq, cases_Bool, both_ways}
+use Rattle.std.proofs.lemmas.Bool.{cases_eq, both_ways}
 use Rattle.std.proofs.lemmas.List.{length-set, length-append, length-map, get_or-set_same, get_or-set_other}
 use Rattle.std.proofs.lemmas.List.Sums.{sum_by-cons}
 use Rattle.std.proofs.lemmas.Option.{slice_get_within, same_Some}
 use Rattle.pv_cnf.specs.Literal.{complement, is_outside}
-use Rattle.pv_cnf.specs.Clause.{has_outside, IsClause}
+use Rattle.pv_cnf.specs.Clause.{IsClause}
 use Rattle.pv_log.specs.Propagation.{is_false, named}
 use Rattle.pv_log.proofs.ForCallers.{slice_get-all, inside-bounds}
 use Rattle.pv_region.specs.declared.watch.Watch.{Watch}
 use Rattle.pv_region.specs.Stored.{Stored, Hinted, clause_cost, lemma_cost, used_of, count_of, all_lits, list_of, with_list, IsLinked}
 use Rattle.pv_region.specs.Links.{code_of, In}
-use Rattle.pv_region.proofs.ForCallers.{watch-code, in-left, in-right, contains-in, in-contains}
+use Rattle.pv_region.proofs.ForCallers.{watch-code, contains-in, in-contains}
 use Rattle.pv_watch.specs.Trail.{Path}
-use Rattle.pv_watch.specs.Watched.{literal_at, other, IsSlotOf, Watches, IsWatch, AreWatched, IsTrueSince, StandsBeside, AreGuarded, Keeps}
+use Rattle.pv_watch.specs.Watched.{literal_at, other, IsSlotOf, Watches, IsWatch, AreGuarded, Keeps}
 use Rattle.pv_watch.specs.Turns.{CanWatch}
 use Rattle.pv_watch.proofs.Clauses.{get-false, not-both, own-inside}
 
@@ -38,7 +38,7 @@ one-or-other v w a b e =
     elim (cases_eq v.slot w.slot) [
       | inl same ↦ inl (ap (λ (i : ℕ). record { id = i; slot = v.slot }) e ∙ ap (λ (s : ℕ). record { id = w.id; slot = s }) same)
       | inr differ ↦ (let turned : v.slot ≡ 1 - w.slot = omega (arith, a, b, differ) in
-        inr (ap (λ (i : ℕ). record { id = i; slot = v.slot }) e ∙ ap (λ (s : ℕ). record { id = w.id; slot = s }) turned))
+          inr (ap (λ (i : ℕ). record { id = i; slot = v.slot }) e ∙ ap (λ (s : ℕ). record { id = w.id; slot = s }) turned))
     ]
 
 -- ---- room
@@ -184,7 +184,7 @@ module _ (s : Stored) (path : Path) (slots : List ℕ) (done : ℕ) (k : Keeps s
   differs-now x c o ne =
       elim (eq-watch (other x) w (other-slot x) of.slot) [
         | inl e ↦ λ same. (let x_is : x ≡ other w = sym (other-other x o.slot) ∙ ap other e in
-          can.differs (sym (same ∙ ap (literal_at now) e ∙ now-same) ∙ ap (literal_at slots) x_is))
+            can.differs (sym (same ∙ ap (literal_at now) e ∙ now-same) ∙ ap (literal_at slots) x_is))
         | inr differ ↦ λ same. (k.watched.each x c o).differs (same ∙ now-else (other x) (other-slot x) differ)
       ]
 
@@ -193,18 +193,18 @@ module _ (s : Stored) (path : Path) (slots : List ℕ) (done : ℕ) (k : Keeps s
       let o : IsSlotOf s x c = record { slot = o'.slot; at = o'.at; long = o'.long } in
       elim (eq-watch x w o.slot of.slot) [
         | inl e ↦ (let same_clause : c ≡ clause = named-one (all_lits s) w.id c clause (ap (λ (v : Watch). named (all_lits s) v.id) (sym e) ∙ o.at) of.at in
-          let at : literal_at now x ≡ to = ap (literal_at now) e ∙ now-same in
-          record {
-            own = ap (is_false c) at ∙ ap (λ (cl : List ℕ). is_false cl to) same_clause ∙ can.own;
-            differs = λ same. can.differs (sym at ∙ same ∙ ap (λ (v : Watch). literal_at now (other v)) e ∙ now-else (other w) (other-slot w) (other-differs w of.slot));
-            there = subst (λ (l : ℕ). Contains (list_of moved l) x) (sym at) (in-contains x (list_of moved to) (subst (In x) (sym list-to) (inl e)));
-          })
+            let at : literal_at now x ≡ to = ap (literal_at now) e ∙ now-same in
+            record {
+              own = ap (is_false c) at ∙ ap (λ (cl : List ℕ). is_false cl to) same_clause ∙ can.own;
+              differs = λ same. can.differs (sym at ∙ same ∙ ap (λ (v : Watch). literal_at now (other v)) e ∙ now-else (other w) (other-slot w) (other-differs w of.slot));
+              there = subst (λ (l : ℕ). Contains (list_of moved l) x) (sym at) (in-contains x (list_of moved to) (subst (In x) (sym list-to) (inl e)));
+            })
         | inr ne ↦ (let at : literal_at now x ≡ literal_at slots x = now-else x o.slot ne in
-          record {
-            own = ap (is_false c) at ∙ (k.watched.each x c o).own;
-            differs = λ same. differs-now x c o ne (sym at ∙ same);
-            there = subst (λ (l : ℕ). Contains (list_of moved l) x) (sym at) (there-now x c o ne);
-          })
+            record {
+              own = ap (is_false c) at ∙ (k.watched.each x c o).own;
+              differs = λ same. differs-now x c o ne (sym at ∙ same);
+              there = subst (λ (l : ℕ). Contains (list_of moved l) x) (sym at) (there-now x c o ne);
+            })
       ]
 
   is-watch : (l : ℕ) (x : Watch) → 2 ≤ l → In x (list_of s l) → x ≢ w → IsWatch moved now l x
@@ -221,12 +221,12 @@ module _ (s : Stored) (path : Path) (slots : List ℕ) (done : ℕ) (k : Keeps s
       let i : In x (list_of moved l) = in-of (list_of moved l) x c in
       elim (cases_eq l lit) [
         | inl e ↦ (let inside : In x (front ++ rest) = subst (In x) (ap (list_of moved) e ∙ list-lit) i in
-          let ne : x ≢ w = linked-out lit x (subst (In x) (sym (list-set s lit (front ++ rest) (omega (arith, k.lists, lit-inside.1)))) inside) in
-          is-watch l x two (subst (In x) (sym (ap (list_of s) e ∙ list)) (in-with w x front rest inside)) ne)
+            let ne : x ≢ w = linked-out lit x (subst (In x) (sym (list-set s lit (front ++ rest) (omega (arith, k.lists, lit-inside.1)))) inside) in
+            is-watch l x two (subst (In x) (sym (ap (list_of s) e ∙ list)) (in-with w x front rest inside)) ne)
         | inr no_lit ↦ elim (cases_eq l to) [
           | inl e ↦ at-to l x two e (subst (In x) (ap (list_of moved) e ∙ list-to) i)
           | inr no_to ↦ (let old : In x (list_of s l) = subst (In x) (list-else l two no_lit no_to) i in
-            is-watch l x two old (linked-out l x (subst (In x) (sym (list-kept s lit l (front ++ rest) lit-inside.0 two no_lit)) old)))
+              is-watch l x two old (linked-out l x (subst (In x) (sym (list-kept s lit l (front ++ rest) lit-inside.0 two no_lit)) old)))
         ]
       ]
     where
@@ -248,20 +248,20 @@ module _ (s : Stored) (path : Path) (slots : List ℕ) (done : ℕ) (k : Keeps s
       let o : IsSlotOf s x c = record { slot = o'.slot; at = o'.at; long = o'.long } in
       elim (eq-watch x w o.slot of.slot) [
         | inl e ↦ λ p lt at. (let at_to : slice_get path.falses p ≡ Some to = at ∙ ap (λ (l : ℕ). Some l) (ap (literal_at now) e ∙ now-same) in
-          absurd (both_ways (is_false path.falses to) can.free (get-false path.falses p to at_to)))
+            absurd (both_ways (is_false path.falses to) can.free (get-false path.falses p to at_to)))
         | inr ne ↦ (let at_x : literal_at now x ≡ literal_at slots x = now-else x o.slot ne in
-          elim (eq-watch (other x) w (other-slot x) of.slot) [
-            | inl e ↦ λ p lt at. (let old = k.guarded x c o p lt (at ∙ ap (λ (l : ℕ). Some l) at_x) in
-              let true_lit : is_false path.falses (complement lit) ≡ true =
-                ap (λ (l : ℕ). is_false path.falses (complement l)) (sym (ap (literal_at slots) e ∙ watches)) ∙ get-false path.falses old.place (complement (literal_at slots (other x))) old.there in
-              absurd (not-both path.falses lit k.distinct false_is true_lit))
-            | inr differ ↦ λ p lt at. (let old = k.guarded x c o p lt (at ∙ ap (λ (l : ℕ). Some l) at_x) in
-              record {
-                place = old.place;
-                there = old.there ∙ ap (λ (l : ℕ). Some (complement l)) (sym (now-else (other x) (other-slot x) differ));
-                since = old.since;
-              })
-          ])
+            elim (eq-watch (other x) w (other-slot x) of.slot) [
+              | inl e ↦ λ p lt at. (let old = k.guarded x c o p lt (at ∙ ap (λ (l : ℕ). Some l) at_x) in
+                  let true_lit : is_false path.falses (complement lit) ≡ true =
+                  ap (λ (l : ℕ). is_false path.falses (complement l)) (sym (ap (literal_at slots) e ∙ watches)) ∙ get-false path.falses old.place (complement (literal_at slots (other x))) old.there in
+                  absurd (not-both path.falses lit k.distinct false_is true_lit))
+              | inr differ ↦ λ p lt at. (let old = k.guarded x c o p lt (at ∙ ap (λ (l : ℕ). Some l) at_x) in
+                  record {
+                    place = old.place;
+                    there = old.there ∙ ap (λ (l : ℕ). Some (complement l)) (sym (now-else (other x) (other-slot x) differ));
+                    since = old.since;
+                  })
+            ])
       ]
 
   pub keeps-moved : Keeps moved path now done

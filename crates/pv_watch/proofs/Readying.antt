@@ -1,17 +1,17 @@
 -- A trail that propagation made, as it goes on, as decisions are made and taken back, and before the first one.
-use Rattle.std.proofs.Common.{◌≡◌, ◌≢◌, ℕ, zero, suc, ◌+◌, ◌<◌, ◌≤◌, true, List, [], ◌∷◌, ◌++◌, length, set, take, refl, sym, ap, subst, ◌∙◌, arith, inl, inr, Option, Some, None, slice_get}
+use Rattle.std.proofs.Common.{◌≡◌, ℕ, zero, suc, ◌+◌, ◌<◌, ◌≤◌, List, [], ◌∷◌, ◌++◌, length, set, take, sym, ap, subst, ◌∙◌, arith, inl, inr, Option, Some, None, slice_get}
 use Rattle.std.specs.Prelude.{IfNone}
 use Rattle.std.specs.List.{AllByRecursion}
 use Rattle.std.proofs.lemmas.Bool.{cases_eq}
 use Rattle.std.proofs.lemmas.Option.{slice_get_within}
 use Rattle.pv_cnf.specs.Literal.{complement}
-use Rattle.pv_log.specs.Propagation.{is_false, named}
+use Rattle.pv_log.specs.Propagation.{is_false}
 use Rattle.pv_log.proofs.ForCallers.{slice_get-left}
 use Rattle.pv_region.specs.Stored.{Stored, all_lits}
 use Rattle.pv_watch.specs.Trail.{Path, Rise, IsSound, Extends}
 use Rattle.pv_watch.specs.Quiet.{AreQuiet}
 use Rattle.pv_watch.specs.Watched.{OnesAreTrue, IsReady}
-use Rattle.pv_watch.specs.Turns.{GoesOn, IsTrueAt, OneIsTrue}
+use Rattle.pv_watch.specs.Turns.{GoesOn, OneIsTrue}
 use Rattle.pv_watch.proofs.Lefts.{within-front}
 use Rattle.pv_watch.proofs.Paths.{all-push, sound-decide, sound-undo}
 use Rattle.pv_watch.proofs.Clauses.{false-get}

@@ -1,5 +1,5 @@
 -- What is known of the entry at which a walk stands, and what comes of a step.
-use Rattle.std.proofs.Common.{◌≡◌, ◌≢◌, ℕ, zero, suc, ◌+◌, ◌-◌, ◌*◌, ◌/◌, ◌<◌, ◌≤◌, true, false, List, [], ◌∷◌, ◌++◌, length, map, set, refl, sym, ap, subst, ◌∙◌, arith, Option, Some, None, slice_get, slice_index, Contains}
+use Rattle.std.proofs.Common.{◌≡◌, ℕ, zero, suc, ◌+◌, ◌<◌, ◌≤◌, true, false, List, ◌∷◌, ◌++◌, length, map, set, refl, sym, ap, subst, ◌∙◌, arith, Some}
 use Rattle.std.proofs.lemmas.List.{length-append, length-map}
 use Rattle.pv_cnf.specs.Literal.{complement, is_outside}
 use Rattle.pv_cnf.specs.Clause.{has_double, IsClause}
@@ -9,8 +9,7 @@ use Rattle.pv_region.specs.Stored.{Stored, Hinted, count_of, all_lits, list_of, 
 use Rattle.pv_region.specs.Links.{code_of}
 use Rattle.pv_watch.specs.declared.turn.Walk.{Walk}
 use Rattle.pv_watch.specs.Trail.{Path, IsSound}
-use Rattle.pv_watch.specs.Quiet.{IsConflict}
-use Rattle.pv_watch.specs.Watched.{literal_at, other, IsSlotOf, Keeps}
+use Rattle.pv_watch.specs.Watched.{literal_at, other, IsSlotOf}
 use Rattle.pv_watch.specs.Turns.{CanWatch, IsMadeTrue, IsVisited, Walks, IsAtEntry, IsStuck, SameText, GoesOn}
 use Rattle.pv_watch.proofs.Moving.{named-within, named-valid, count-costs, slot-room, from-two}
 use Rattle.pv_watch.proofs.Walking.{entry-there, entry-without, walk-stays, walk-goes}
@@ -149,13 +148,13 @@ module _ (s one two : Stored) (path : Path) (slots now : List ℕ) (walk : Walk)
       let wo = entry-without s path slots walk w left walks in
       let none = λ (l : IsLinked (with_list s walk.lit (walks.kept ++ left)) w). free w (walks.kept ++ left) wo (subst (λ (t : Stored). IsLinked t w) (sym (out w (walks.kept ++ left) wo)) l) in
       subst (λ (t : Stored). Walks t path now walk left) (sym (both-lists left walks))
-          (subst (λ (ns : List ℕ). Walks (with_list (with_list s walk.lit (walks.kept ++ left)) to (w ∷ list_of (with_list s walk.lit (walks.kept ++ left)) to)) path ns walk left) (sym now-is)
-          (walk-goes s path slots walk w clause to left walks of literal can none))
+      (subst (λ (ns : List ℕ). Walks (with_list (with_list s walk.lit (walks.kept ++ left)) to (w ∷ list_of (with_list s walk.lit (walks.kept ++ left)) to)) path ns walk left) (sym now-is)
+      (walk-goes s path slots walk w clause to left walks of literal can none))
 
   pub goes-moved : IsAtEntry s path slots walk w → IsSound (all_lits s) path → GoesOn s two path path
   goes-moved at sound =
       let text : SameText s two = subst (SameText s) (sym (both-lists at.left at.walks))
-          (text-lists s walk.lit to (at.walks.kept ++ at.left) (w ∷ list_of (with_list s walk.lit (at.walks.kept ++ at.left)) to)) in
+      (text-lists s walk.lit to (at.walks.kept ++ at.left) (w ∷ list_of (with_list s walk.lit (at.walks.kept ++ at.left)) to)) in
       record {
         text = text;
         extends = extends-self path;

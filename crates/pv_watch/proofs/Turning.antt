@@ -1,5 +1,5 @@
 -- A whole turn: the walk over the list of a literal, from its first entry to its end.
-use Rattle.std.proofs.Common.{◌≡◌, ◌≢◌, ℕ, zero, suc, ◌+◌, ◌-◌, ◌*◌, ◌<◌, ◌≤◌, true, false, List, [], ◌∷◌, ◌++◌, length, refl, sym, ap, subst, ◌∙◌, arith, Option, Some, None, slice_get, slice_index}
+use Rattle.std.proofs.Common.{◌≡◌, ℕ, ◌+◌, ◌-◌, ◌*◌, ◌<◌, ◌≤◌, false, List, [], ◌∷◌, ◌++◌, length, refl, sym, ap, subst, ◌∙◌, arith, Option, Some, None, slice_get, slice_index}
 use Rattle.std.specs.List.{AllByRecursion}
 use Rattle.std.proofs.lemmas.List.{append_assoc, append-nil, length-append}
 use Rattle.std.proofs.lemmas.Option.{same_Some, slice_get-get_or}
@@ -7,9 +7,9 @@ use Rattle.pv_cnf.specs.Literal.{is_outside}
 use Rattle.pv_cnf.specs.Clause.{has_outside}
 use Rattle.pv_log.specs.Propagation.{is_false}
 use Rattle.pv_region.specs.declared.watch.Watch.{Watch}
-use Rattle.pv_region.specs.Stored.{Stored, used_of, count_of, all_lits, list_of, IsLinked}
+use Rattle.pv_region.specs.Stored.{Stored, count_of, list_of, IsLinked}
 use Rattle.pv_watch.specs.declared.turn.Walk.{Walk}
-use Rattle.pv_watch.specs.Trail.{Path, IsSound, Extends}
+use Rattle.pv_watch.specs.Trail.{Path, Extends}
 use Rattle.pv_watch.specs.Watched.{Keeps}
 use Rattle.pv_watch.specs.Turns.{OtherIsTrue, Walks, IsAtEntry, GoesOn, IsTurned}
 use Rattle.pv_watch.proofs.Clauses.{own-inside}

@@ -1,19 +1,18 @@
 -- The walk over the list of a literal that is false: entries stay where the other literal of their clause is true, or go to another list.
-use Rattle.std.proofs.Common.{◌≡◌, ◌≢◌, ℕ, ◌+◌, ◌-◌, ◌*◌, ◌<◌, ◌≤◌, true, false, List, [], ◌∷◌, ◌++◌, length, set, refl, sym, ap, subst, ◌∙◌, arith, inl, inr, Option, Some, None, slice_get, Contains}
+use Rattle.std.proofs.Common.{◌≡◌, ◌≢◌, ℕ, ◌+◌, ◌≤◌, true, false, List, [], ◌∷◌, ◌++◌, set, refl, sym, ap, subst, ◌∙◌, arith, inl, inr, Option, Some, None, Contains}
 use Rattle.std.specs.List.{AllByRecursion}
-use Rattle.std.proofs.lemmas.List.{append_assoc, append-nil, length-append, length_push}
+use Rattle.std.proofs.lemmas.List.{append_assoc, length_push}
 use Rattle.pv_cnf.specs.Literal.{complement}
 use Rattle.pv_cnf.specs.Clause.{has_double}
-use Rattle.pv_log.specs.Propagation.{is_false, named}
+use Rattle.pv_log.specs.Propagation.{is_false}
 use Rattle.pv_region.specs.declared.watch.Watch.{Watch}
-use Rattle.pv_region.specs.Stored.{Stored, all_lits, list_of, with_list, IsLinked, WithoutFirst, WithoutNext, Without, HasNext}
+use Rattle.pv_region.specs.Stored.{Stored, list_of, with_list, IsLinked, Without}
 use Rattle.pv_region.specs.Links.{code_of, In}
 use Rattle.pv_region.proofs.ForCallers.{in-left, in-right, in-contains}
 use Rattle.pv_watch.specs.declared.turn.Walk.{Walk}
 use Rattle.pv_watch.specs.Trail.{Path, Extends}
-use Rattle.pv_watch.specs.Watched.{literal_at, other, IsSlotOf, Watches, IsWatch, Keeps}
+use Rattle.pv_watch.specs.Watched.{literal_at, other, IsSlotOf}
 use Rattle.pv_watch.specs.Turns.{CanWatch, IsLastOf, OtherIsTrue, Walks}
-use Rattle.pv_watch.proofs.Paths.{all-push}
 use Rattle.pv_watch.proofs.Clauses.{get-false}
 use Rattle.pv_watch.proofs.Guards.{get-extended, keeps-extended, trues-extended}
 use Rattle.pv_watch.proofs.Moving.{other-other, keeps-moved, list-moved, slots-moved, from-two, literal-inside}
@@ -84,7 +83,7 @@ walk-goes s path slots walk w clause to left walks of watches can free =
           let in_list : Contains (list_of s walk.lit) x = in-contains x (list_of s walk.lit) (subst (In x) (sym walks.list) (in-left x walks.kept (w ∷ left) i)) in
           let is = walks.keeps.watched.only walk.lit x (subst (λ (l : ℕ). 2 ≤ l) watches two) in_list in
           let ne : other x ≢ w = λ e. (walks.keeps.watched.each w clause of).differs
-              (watches ∙ sym is.literal ∙ ap (literal_at slots) (sym (other-other x is.of_clause.slot) ∙ ap other e)) in
+          (watches ∙ sym is.literal ∙ ap (literal_at slots) (sym (other-other x is.of_clause.slot) ∙ ap other e)) in
           ap (λ (l : ℕ). is_false path.falses (complement l)) (slots-moved s path slots walk.place walks.keeps walk.lit to w clause of walks.kept left walks.list watches false_is can free (other x) (omega arith) ne)
           ∙ true_is) walks.trues;
       few = omega (arith, walks.few);

@@ -1,5 +1,5 @@
 -- Where unit propagation ends.
-use Rattle.std.specs.Prelude.{◌≡◌, ℕ, true, false, ◌≤◌, List, None, Some, length}
+use Rattle.std.specs.Prelude.{◌≡◌, ℕ, true, false, List, None, Some}
 use Rattle.std.specs.List.{AllByRecursion}
 use Rattle.pv_log.specs.Propagation.{named, unit_of, is_falsified}
 

@@ -1,7 +1,5 @@
-use Rattle.std.proofs.Common.{◌≡◌, ◌∙◌, ◌≤◌, ◌∷◌, ℕ, sym, ap, subst, arith, refl}
-use Rattle.pv_cnf.specs.Literal.{is_outside}
-use Rattle.pv_region.specs.declared.watch.Watch.{Watch}
-use Rattle.pv_region.specs.Stored.{Stored, count_of, list_of, with_list, IsLinked}
+use Rattle.std.proofs.Common.{◌∙◌, ◌∷◌, ap, subst, arith}
+use Rattle.pv_region.specs.Stored.{Stored, list_of, with_list, IsLinked}
 use Rattle.pv_watch.proofs.Joining.{linked-with}
 use Rattle.pv_watch.proofs.Moving.{slots-apart}
 use Rattle.pv_watch.proofs.enter.attach.Goals as goal

@@ -1,7 +1,7 @@
-use Rattle.std.proofs.Common.{◌≡◌, ◌∙◌, ℕ, Option, None, Some, length, take, ap, sym, subst}
+use Rattle.std.proofs.Common.{◌∙◌, None, Some, length, take, ap, subst}
 use Rattle.pv_cnf.specs.Literal.{is_outside}
 use Rattle.pv_log.specs.Propagation.{is_false}
-use Rattle.pv_log.proofs.ForCallers.{complement-inside, complement-complement}
+use Rattle.pv_log.proofs.ForCallers.{complement-inside}
 use Rattle.pv_watch.specs.Turns.{Replaces}
 use Rattle.pv_watch.proofs.Clauses.{own-inside}
 use Rattle.pv_watch.proofs.Looking.{whole-replaces}

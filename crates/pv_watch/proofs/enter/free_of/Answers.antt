@@ -1,4 +1,4 @@
-use Rattle.std.proofs.Common.{◌≡◌, None, Some}
+use Rattle.std.proofs.Common.{None}
 use Rattle.pv_watch.proofs.Looking.{whole-replaces}
 use Rattle.pv_watch.proofs.Entering.{free-some}
 use Rattle.pv_watch.proofs.enter.free_of.Goals as goal

@@ -1,4 +1,4 @@
-use Rattle.std.proofs.Common.{◌≡◌, ◌∙◌, ◌+◌, ◌≤◌, ℕ, sym, ap, subst, arith}
+use Rattle.std.proofs.Common.{ℕ, sym, subst, arith}
 use Rattle.pv_cnf.specs.Clause.{AreClauses}
 use Rattle.pv_region.specs.Stored.{all_lits}
 use Rattle.pv_watch.proofs.Looking.{extends-self}

@@ -1,4 +1,4 @@
-use Rattle.std.proofs.Common.{◌≡◌, ◌-◌, ℕ, List, length, slice_index, refl}
+use Rattle.std.proofs.Common.{slice_index, refl}
 use Rattle.pv_region.specs.Stored.{all_lits}
 use Rattle.pv_watch.proofs.Entering.{not-one, one-inside, one-extends, one-sound, one-true, one-conflict}
 use Rattle.pv_watch.proofs.enter.settle_one.Goals as goal

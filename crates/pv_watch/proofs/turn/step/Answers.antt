@@ -1,8 +1,4 @@
-use Rattle.std.proofs.Common.{◌≡◌, ◌∙◌, ◌<◌, ◌+◌, ◌*◌, ℕ, List, length, set, refl, sym, ap, subst, arith, slice_index}
-use Rattle.std.proofs.lemmas.List.{get_or_read}
-use Rattle.pv_region.specs.declared.watch.Watch.{Watch}
-use Rattle.pv_region.specs.Links.{code_of}
-use Rattle.pv_watch.specs.Watched.{literal_at, other}
+use Rattle.std.proofs.Common.{ℕ, set, ap, arith, slice_index}
 use Rattle.pv_watch.proofs.Stepping.{entry-of, entry-follows, visited-of, stays-goes, stays-on, conflict-goes, conflict-stuck, moves-literal, moves-to_last, moves-free, moves-goes, moves-on}
 use Rattle.pv_watch.proofs.turn.step.Goals as goal
 

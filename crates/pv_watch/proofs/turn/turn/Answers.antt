@@ -1,6 +1,4 @@
-use Rattle.std.proofs.Common.{◌≡◌, ◌∙◌, ◌<◌, ◌+◌, ◌-◌, ◌*◌, ℕ, List, length, get_or, refl, sym, ap, subst, arith, slice_index}
-use Rattle.std.proofs.lemmas.List.{get_or_read}
-use Rattle.pv_region.specs.declared.watch.Watch.{Watch}
+use Rattle.std.proofs.Common.{◌∙◌, ℕ, List, refl, ap, subst, slice_index}
 use Rattle.pv_region.specs.Stored.{list_of}
 use Rattle.pv_watch.specs.Turns.{IsTurned, IsStuck}
 use Rattle.pv_watch.proofs.Stepping.{goes-self}

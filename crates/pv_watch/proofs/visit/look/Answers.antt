@@ -1,4 +1,4 @@
-use Rattle.std.proofs.Common.{◌≡◌, refl, Some, None}
+use Rattle.std.proofs.Common.{refl, Some, None}
 use Rattle.pv_watch.proofs.Clauses.{own-inside, none-left}
 use Rattle.pv_watch.proofs.Looking.{whole-replaces}
 use Rattle.pv_watch.proofs.visit.look.Goals as goal

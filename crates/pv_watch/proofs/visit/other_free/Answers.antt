@@ -1,4 +1,4 @@
-use Rattle.std.proofs.Common.{◌≡◌, ℕ, true, take, sym, ap, subst, ◌∙◌, List}
+use Rattle.std.proofs.Common.{ℕ, ap, ◌∙◌, List}
 use Rattle.std.proofs.lemmas.List.{take_all}
 use Rattle.pv_log.specs.Propagation.{is_false}
 use Rattle.pv_watch.proofs.visit.other_free.Goals as goal

@@ -1,4 +1,4 @@
-use Rattle.std.proofs.Common.{◌≡◌, ◌∙◌, ℕ, false, sym, ap}
+use Rattle.std.proofs.Common.{◌∙◌, sym, ap}
 use Rattle.pv_cnf.specs.Literal.{is_outside}
 use Rattle.pv_log.specs.Propagation.{is_false}
 use Rattle.pv_log.proofs.ForCallers.{complement-inside}

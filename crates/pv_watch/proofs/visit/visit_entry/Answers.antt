@@ -1,4 +1,4 @@
-use Rattle.std.proofs.Common.{◌≡◌, ◌∙◌, ℕ, List, true, sym, ap, subst}
+use Rattle.std.proofs.Common.{◌≡◌, ◌∙◌, ℕ, List, true, sym, subst}
 use Rattle.pv_cnf.specs.Clause.{IsClause}
 use Rattle.pv_log.specs.Propagation.{is_false}
 use Rattle.pv_region.specs.Stored.{all_lits}
@@ -26,16 +26,16 @@ pub look-requires-clause-valid : goal.look-requires-clause-valid
 look-requires-clause-valid c =
     let v = c.requires.visited in
     subst (IsClause c.args.trail.now.variables)
-        (sym (visited-is (all_lits c.args.region.now) c.args.watch.id c.lits.result.now v.clause v.from_one c.lits.ensures v.at)) v.valid
+    (sym (visited-is (all_lits c.args.region.now) c.args.watch.id c.lits.result.now v.clause v.from_one c.lits.ensures v.at)) v.valid
 
 pub look-requires-clause-own : goal.look-requires-clause-own
 look-requires-clause-own c =
     let v = c.requires.visited in
     subst (λ (cl : List ℕ). is_false cl c.args.other ≡ true)
-        (sym (visited-is (all_lits c.args.region.now) c.args.watch.id c.lits.result.now v.clause v.from_one c.lits.ensures v.at)) v.own
+    (sym (visited-is (all_lits c.args.region.now) c.args.watch.id c.lits.result.now v.clause v.from_one c.lits.ensures v.at)) v.own
 
 pub returns-clause-looks : goal.returns-clause-looks
 returns-clause-looks c = λ clause at.
     subst (λ (cl : List ℕ). Looks c.args.trail.now c.look.new.trail c.args.watch.id cl c.args.other c.look.result)
-        (visited-is (all_lits c.args.region.now) c.args.watch.id c.lits.result.now clause c.requires.visited.from_one c.lits.ensures at)
-        c.look.ensures.looks
+    (visited-is (all_lits c.args.region.now) c.args.watch.id c.lits.result.now clause c.requires.visited.from_one c.lits.ensures at)
+    c.look.ensures.looks

@@ -1,4 +1,4 @@
-use Rattle.std.proofs.Common.{◌≡◌, ◌∙◌, ◌≤◌, ℕ, List, [], refl, sym, ap, subst, arith}
+use Rattle.std.proofs.Common.{◌∙◌, ℕ, ap, subst, arith}
 use Rattle.pv_cnf.specs.Clause.{AreClauses}
 use Rattle.pv_region.specs.Stored.{all_lits}
 use Rattle.pv_watch.specs.Turns.{GoesOn}
@@ -30,6 +30,6 @@ returns-clause-goes c = subst (λ (p : Propagating). GoesOn p.stored c.self.insi
 
 pub returns-clause-ready : goal.returns-clause-ready
 returns-clause-ready c = if-none c.settle_all.result (λ each. record {
-      sound = c.settle_all.ensures.sound;
-      ones = ones-first (all_lits c.self.inside.region) c.settle_all.new.trail _ (c.settle_all.ensures.extends.starts ∙ ap (λ (p : Propagating). p.path.starts) c.self.view_is ∙ c.requires.undecided) (omega (arith, count-lits c.self.inside.region)) each;
-    }) c.settle_all.ensures.ones
+  sound = c.settle_all.ensures.sound;
+  ones = ones-first (all_lits c.self.inside.region) c.settle_all.new.trail _ (c.settle_all.ensures.extends.starts ∙ ap (λ (p : Propagating). p.path.starts) c.self.view_is ∙ c.requires.undecided) (omega (arith, count-lits c.self.inside.region)) each;
+}) c.settle_all.ensures.ones

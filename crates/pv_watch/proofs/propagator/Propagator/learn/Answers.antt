@@ -1,4 +1,4 @@
-use Rattle.std.proofs.Common.{◌≡◌, ◌∙◌, ◌+◌, ◌*◌, ◌≤◌, ◌<◌, ℕ, List, length, set, take, refl, sym, ap, subst, arith}
+use Rattle.std.proofs.Common.{◌∙◌, ◌+◌, ◌*◌, ◌≤◌, ℕ, List, length, set, take, sym, ap, subst, arith}
 use Rattle.std.specs.List.{AllByRecursion}
 use Rattle.std.specs.Vec.{with_items}
 use Rattle.std.proofs.lemmas.Grind.{common_steps}
@@ -7,8 +7,8 @@ use Rattle.pv_cnf.specs.Clause.{IsClause}
 use Rattle.pv_region.specs.Stored.{Stored, lemma_cost, all_lits, with_lemma}
 use Rattle.pv_watch.specs.Trail.{Extends}
 use Rattle.pv_watch.specs.Quiet.{IsQuiet}
-use Rattle.pv_watch.specs.Watched.{Keeps, IsReady}
-use Rattle.pv_watch.specs.Turns.{SameText, HasUnset, CanAttach}
+use Rattle.pv_watch.specs.Watched.{IsReady}
+use Rattle.pv_watch.specs.Turns.{HasUnset, CanAttach}
 use Rattle.pv_watch.specs.Propagating.{Propagating}
 use Rattle.pv_watch.proofs.Guards.{keeps-extended}
 use Rattle.pv_watch.proofs.Looking.{extends-self}

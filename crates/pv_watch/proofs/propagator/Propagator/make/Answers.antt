@@ -1,5 +1,4 @@
-use Rattle.std.proofs.Common.{◌≡◌, ◌∙◌, ℕ, ◌≤◌, sym, ap, subst, arith}
-use Rattle.pv_region.specs.Stored.{Stored, used_of}
+use Rattle.std.proofs.Common.{ℕ, ◌≤◌, subst, arith}
 use Rattle.pv_watch.proofs.Making.{keeps-made, full-as}
 use Rattle.pv_watch.proofs.propagator.Propagator.make.Goals as goal
 

@@ -1,9 +1,7 @@
-use Rattle.std.proofs.Common.{◌≡◌, ◌∙◌, ◌+◌, ◌≤◌, ◌<◌, ℕ, List, length, refl, sym, ap, subst, arith, slice_index}
-use Rattle.std.specs.Vec.{with_items}
+use Rattle.std.proofs.Common.{◌+◌, ℕ, List, sym, subst, arith}
 use Rattle.std.proofs.lemmas.Grind.{common_steps}
 use Rattle.std.proofs.lemmas.List.{with_items_is}
 use Rattle.pv_region.specs.Stored.{all_lits}
-use Rattle.pv_watch.specs.Trail.{IsSound}
 use Rattle.pv_watch.specs.Watched.{Keeps, IsReady}
 use Rattle.pv_watch.specs.Turns.{GoesOn}
 use Rattle.pv_watch.specs.Propagating.{Propagating}

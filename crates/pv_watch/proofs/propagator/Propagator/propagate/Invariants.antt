@@ -1,4 +1,4 @@
-use Rattle.std.proofs.Common.{◌≡◌, ◌-◌}
+use Rattle.std.proofs.Common.{◌-◌}
 use Rattle.pv_watch.specs.Watched.{Keeps}
 use Rattle.pv_watch.specs.Turns.{GoesOn}
 use Rattle.pv_watch.proofs.propagator.Propagator.propagate.Given as goal

@@ -1,14 +1,13 @@
-use Rattle.std.proofs.Common.{◌≡◌, ◌∙◌, ◌+◌, ◌*◌, ◌≤◌, ◌<◌, ℕ, List, length, set, refl, sym, ap, subst, arith, slice_index}
+use Rattle.std.proofs.Common.{◌∙◌, ◌+◌, ◌*◌, ◌≤◌, ℕ, List, length, set, refl, sym, ap, subst, arith, slice_index}
 use Rattle.std.specs.Vec.{with_items}
 use Rattle.std.proofs.lemmas.Grind.{common_steps}
 use Rattle.std.proofs.lemmas.List.{with_items_is}
 use Rattle.pv_cnf.specs.Clause.{IsClause}
 use Rattle.pv_region.specs.Stored.{Stored, clause_cost, with_clause}
 use Rattle.pv_watch.specs.Watched.{Keeps}
-use Rattle.pv_watch.specs.Turns.{SameText}
 use Rattle.pv_watch.specs.Propagating.{Propagating}
 use Rattle.pv_watch.proofs.Attaching.{keeps-short}
-use Rattle.pv_watch.proofs.Joining.{passes-seen, more-clause, can-early, can-at, text-same, text-attached, attach-to_last, attach-small, attach-room, attach-first, attach-second, attach-free, attach-keeps}
+use Rattle.pv_watch.proofs.Joining.{passes-seen, more-clause, can-early, can-at, text-attached, attach-to_last, attach-small, attach-room, attach-first, attach-second, attach-free, attach-keeps}
 use Rattle.pv_watch.proofs.propagator.Propagator.put_clause.Goals as goal
 
 pub invariant_of-self : goal.invariant_of-self

@@ -1,4 +1,4 @@
-use Rattle.std.proofs.Common.{◌≡◌, ap, subst}
+use Rattle.std.proofs.Common.{ap, subst}
 use Rattle.pv_cnf.specs.Clause.{AreClauses}
 use Rattle.pv_region.specs.Stored.{all_lits}
 use Rattle.pv_watch.specs.Propagating.{Propagating}
