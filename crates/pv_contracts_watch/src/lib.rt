@@ -11,6 +11,7 @@ ghost use Rattle.pv_watch.specs.Trail.{Extends, LastIs, Rise};
 ghost use Rattle.pv_watch.specs.Quiet.{IsQuiet, AreQuiet, IsConflict};
 ghost use Rattle.pv_watch.specs.Watched.{IsReady};
 ghost use Rattle.pv_watch.specs.Turns.{GoesOn, SameText, HasUnset};
+
 use pv_region::{Full, MakeFault};
 use pv_watch::{Propagator, Trail};
 use std::alloc::Global;
