@@ -13,3 +13,5 @@ mod trace;
 mod views;
 #[cfg(test)]
 mod walks;
+#[cfg(test)]
+mod watched;
