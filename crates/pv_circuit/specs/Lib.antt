@@ -1,2 +1,3 @@
 pub mod Circuits
 pub mod Made
+pub mod Starts

@@ -3,9 +3,9 @@ ghost use Rattle.std.specs.Prelude.{◌≡◌, ◌<◌, ◌≤◌, ◌+◌, leng
 ghost use Rattle.pv_gate.specs.declared.fault.GateFault.TheVariants.{Limit};
 ghost use Rattle.pv_gate.specs.Node.{gate_count};
 ghost use Rattle.pv_bool.specs.Programs.{program_tree};
+ghost use Rattle.pv_circuit.specs.Circuits.{IsCircuit};
+ghost use Rattle.pv_circuit.specs.Made.{IsStepCircuit};
 ghost use Rattle.pv_step.specs.Circuits.{circuit_of};
-ghost use Rattle.pv_step.specs.Correct.{IsCircuit};
-ghost use Rattle.pv_step.specs.Made.{IsStepCircuit};
 
 use pv_bool::Program;
 use pv_gate::{GateFault, MAX_GATES, MAX_INPUTS};

@@ -6,4 +6,7 @@ pub mod GateValues
 pub mod NodeValues
 pub mod StepValues
 pub mod FrameLists
+pub mod Giving
+pub mod Agreeing
+pub mod Inside
 pub mod ForCallers

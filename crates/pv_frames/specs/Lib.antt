@@ -3,3 +3,5 @@ pub mod Formulas
 pub mod Values
 pub mod Pushing
 pub mod Short
+pub mod Queries
+pub mod Tables
