@@ -6,6 +6,10 @@ use Rattle.pv_gate.proofs.ForCallers.{int_eq-true}
 use Rattle.pv_frames.specs.Queries.{given_for, is_own, own_below, numbered}
 use Rattle.pv_frames.specs.Tables.{table_frame, IsBegin}
 
+-- a test as a number
+abbrev pub bit : Bool → ℕ
+bit b = cond b 1 0
+
 -- one more node with its literal
 pub given-more : (found : Option ℕ) (ls : List ℤ) (gs : List (Option ℕ)) (k n : ℕ) (d : ℤ) (e : Option ℕ) → k < length ls → k < length gs
     → given_for found (take (suc k) ls) (take (suc k) gs) n
@@ -40,7 +44,7 @@ own-behind given m (suc n) two le none = elim (cases_eq m (suc n)) [
   | inl e ↦ subst (λ (i : ℕ). own_below given i ≡ own_below given m + (i - m)) e (omega arith)
   | inr ne ↦
       let rest = own-behind given m n two (omega arith) none in
-      ap (λ (b : Bool). own_below given n + cond b 1 0) (own-none given n (omega arith) (none n (omega arith))) ∙ omega (arith, rest)
+      ap (λ (b : Bool). own_below given n + bit b) (own-none given n (omega arith) (none n (omega arith))) ∙ omega (arith, rest)
 ]
 
 -- ---- the list of the input nodes' literals

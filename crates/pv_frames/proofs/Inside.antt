@@ -20,8 +20,8 @@ use Rattle.pv_frames.specs.Frames.{Frame, literal_in, node_clauses, frame_clause
 use Rattle.pv_frames.specs.Formulas.{written}
 use Rattle.pv_frames.specs.Queries.{constant, first_of, given_for, is_own, own_below, numbered, frame_at, next_literals, table, asked_in, frame_count}
 use Rattle.pv_frames.proofs.Literals.{outside-complement}
-use Rattle.pv_frames.proofs.FrameLists.{AreInside, written-all, inside-variable, and-inside, xor-inside, mux-inside, frame-valid, unit-valid}
-use Rattle.pv_frames.proofs.Giving.{own-none, numbered-is}
+use Rattle.pv_frames.proofs.FrameLists.{AreInside, written-all, inside-variable, and-inside, xor-inside, mux-inside, frame-valid}
+use Rattle.pv_frames.proofs.Giving.{bit, own-none, numbered-is}
 
 -- the literals of the first m nodes are inside
 abbrev pub Inside : ℕ → ℕ → Frame → Type 0
@@ -83,8 +83,8 @@ variable-inside : (v : ℕ) (given : ℕ → Option ℕ) (first m n : ℕ) (o : 
     → given n ≡ o → GivenInside v o → is_outside v (unwrap_or o (2 * (first + own_below given n))) ≡ false
 variable-inside v given first m n (Some lit) one room two few is h = h
 variable-inside v given first m n None one room two few is h =
-    let own = ap (λ (b : Bool). cond b 1 0) (own-none given n two is) in
-    let up : own_below given n + cond (is_own given n) 1 0 ≤ own_below given (1 + m) = own-rises given (suc n) (1 + m) (omega arith) in
+    let own : bit (is_own given n) ≡ 1 = ap bit (own-none given n two is) in
+    let up : own_below given n + bit (is_own given n) ≤ own_below given (1 + m) = own-rises given (suc n) (1 + m) (omega arith) in
     inside-variable v (2 * (first + own_below given n)) (omega arith) (omega (arith, own, up))
 
 -- each literal of a frame is given or one of its variables
@@ -162,10 +162,10 @@ table-inside c start q ins outs (suc j) v room =
     (literals-inside v (length c.nodes) f c.state_in before ins) (literals-inside v (length c.nodes) f c.state_out before outs)))
 
 -- what has to be true in a frame
-pub asked-valid : (c : Circuit) (start : List Start) (q : Query) → All (Names (length c.nodes)) c.state_in → All (Names (length c.nodes)) c.state_out
+pub asked-inside : (c : Circuit) (start : List Start) (q : Query) → All (Names (length c.nodes)) c.state_in → All (Names (length c.nodes)) c.state_out
     → Names (length c.nodes) c.ok → Names (length c.nodes) c.fail
-    → (j v : ℕ) → (frame_at c start q j).next ≤ 1 + v → AreClauses v ((asked_in c start q j ∷ []) ∷ [])
-asked-valid c start q ins outs ok fail j v room = unit-valid v (asked_in c start q j) (by (eqb (suc j) (frame_count q)))
+    → (j v : ℕ) → (frame_at c start q j).next ≤ 1 + v → is_outside v (asked_in c start q j) ≡ false
+asked-inside c start q ins outs ok fail j v room = by (eqb (suc j) (frame_count q))
   where
     by : (b : Bool) → is_outside v (literal_in (table c start q j) (cond b c.fail c.ok)) ≡ false
     by true = literal-inside v (length c.nodes) (table c start q j) c.fail (table-inside c start q ins outs j v room) fail

@@ -11,9 +11,9 @@
 mod gate;
 pub mod laws;
 mod push;
+pub mod query;
 #[cfg(test)]
 mod rows;
-pub mod query;
 mod short;
 mod table;
 

@@ -1,6 +1,6 @@
 //! The formula of a query over a step circuit, pushed into a store.
 
-ghost use Rattle.std.specs.Prelude.{◌≡◌, ◌≢◌, ℕ, ◌+◌, ◌*◌, ◌^◌, ◌<◌, ◌≤◌, List, length, map, count_by, Some, All, IsTrue, IfOk, OnOk, IfErr};
+ghost use Rattle.std.specs.Prelude.{◌≡◌, ◌≢◌, ℕ, ◌+◌, ◌*◌, ◌^◌, ◌<◌, ◌≤◌, List, length, map, count_by, if◌then◌else◌, Some, All, IsTrue, IfOk, OnOk, IfErr};
 ghost use Rattle.std.specs.List.{flat_map};
 ghost use Rattle.std.specs.Option.{is_some};
 ghost use Rattle.pv_gate.specs.Node.{Names, gate_count};
@@ -9,10 +9,12 @@ ghost use Rattle.pv_circuit.specs.Starts.{next_of, is_moved};
 ghost use Rattle.pv_circuit.specs.Made.{circuit_seen};
 ghost use Rattle.pv_frames.specs.Frames.{literal_in, node_clauses, frame_clauses};
 ghost use Rattle.pv_frames.specs.Formulas.{written};
-ghost use Rattle.pv_frames.specs.Queries.{IsAsked, frame_count, first_of, constant, query_clauses, variable_count};
+ghost use Rattle.pv_frames.specs.Queries.{IsAsked, frame_count, frame_at, first_of, constant, asked, query_clauses, variable_count};
+ghost use Rattle.pv_frames.specs.declared.push.TheConstants.{MAX_QUERY_GATES, MAX_CLAUSES_BEFORE};
 ghost use Rattle.pv_frames.specs.Pushing.{ArePushed, StopsAt, Pushes};
 ghost use Rattle.pv_frames.specs.Short.{clauses_of};
-ghost use Rattle.pv_frames.specs.Tables.{table_frame, NamesOperands};
+ghost use Rattle.pv_frames.specs.declared.short.Short.TheVariants.{One};
+ghost use Rattle.pv_frames.specs.Tables.{table_frame, NamesOperands, IsTable, IsFit, gate_clauses};
 
 use crate::gate::{and_gate, mux_gate, xor_gate};
 use crate::push::{push_all, push_short};
@@ -83,6 +85,7 @@ pub fn variables(c: &StepCircuit, start: &[Start], query: Query) -> u32
     ensures count { result ≡ variable_count (circuit_seen c.now) start.now query }
     ensures few { result < 2 ^ 31 }
 {
+    fit(c, start, query);
     let nodes = c.gates.nodes();
     let first = nodes - constants(query, start) as u32;
     let later = nodes - (1 + start.len() as u32);
@@ -90,11 +93,7 @@ pub fn variables(c: &StepCircuit, start: &[Start], query: Query) -> u32
 }
 
 /// The literals that the state's bits have in the first frame.
-fn first_given(
-    alloc: Global,
-    query: Query,
-    start: &[Start],
-) -> Result<Vec<Option<u32>>, AllocError>
+fn first_given(alloc: Global, query: Query, start: &[Start]) -> Result<Vec<Option<u32>>, AllocError>
     ensures { IfOk result (λ given. given.items ≡ map (first_of query) start.now) }
 {
     let mut given = Vec::with_capacity(alloc, start.len())?;
@@ -188,6 +187,108 @@ fn push_frame<C: Clauses>(
     Ok(())
 }
 
+/// What the frames of a query need of its circuit, as its type keeps it.
+fn fit(c: &StepCircuit, start: &[Start], query: Query)
+    requires start { length start.now ≡ length c.now.state_in.items }
+    requires query { IsAsked query }
+    requires nodes { length c.now.gates.nodes ≤ MAX_QUERY_NODES }
+    ensures { IsFit (circuit_seen c.now) start.now query }
+{
+    // The nodes are in order.
+    let _count = c.gates.nodes();
+}
+
+/// What has to be true in a frame: the last scan fails, and each before it is done and doesn't.
+fn goal(c: &StepCircuit, begins: &[Option<u32>], gates: u32, is_last: bool) -> Short
+    requires ok { Names (length c.now.gates.nodes) c.now.ok }
+    requires fail { Names (length c.now.gates.nodes) c.now.fail }
+    requires few { gates + length c.now.gates.nodes < 2 ^ 31 }
+    ensures { result ≡ One (literal_in (table_frame begins.now gates)
+        (if is_last then c.now.fail else c.now.ok)) }
+{
+    if is_last {
+        Short::One(literal(begins, gates, c.fail))
+    } else {
+        Short::One(literal(begins, gates, c.ok))
+    }
+}
+
+/// The clauses of all frames' gates. What has to be true in each frame
+/// is filled into `goals`.
+fn push_scans<C: Clauses>(
+    c: &StepCircuit,
+    start: &[Start],
+    query: Query,
+    begins: &mut [Option<u32>],
+    first: u32,
+    given: &mut [Option<u32>],
+    goals: &mut [Short],
+    into: &mut C,
+) -> Result<(), PushFault>
+    requires fit { IsFit (circuit_seen c.now) start.now query }
+    requires query { IsAsked query }
+    requires table { IsTable (circuit_seen c.now) begins.old first
+        (frame_at (circuit_seen c.now) start.now query 0) }
+    requires begins { length begins.old ≡ length c.now.state_in.items + length c.now.input.items }
+    requires given { length given.old ≡ length c.now.state_in.items }
+    requires goals { length goals.old ≡ frame_count query }
+    requires few_gates { gate_count c.now.gates.nodes ≤ MAX_QUERY_GATES }
+    requires takes { IsTrue (C.takes_clauses into.old) }
+    requires variables { variable_count (circuit_seen c.now) start.now query ≤ C.variables into.old }
+    requires room { length (C.clauses into.old) ≤ 1 + MAX_CLAUSES_BEFORE }
+    ensures pushes { Pushes (C.overflow into.old) (C.clauses into.old)
+        (gate_clauses (circuit_seen c.now) start.now query (frame_count query))
+        (C.clauses into.new) result }
+    ensures goals { OnOk result (goals.new
+        ≡ map (λ lit. One lit) (asked (circuit_seen c.now) start.now query)) }
+    ensures variables_kept { C.variables into.new ≡ C.variables into.old }
+    ensures takes_kept { C.takes_clauses into.new ≡ C.takes_clauses into.old }
+    ensures overflow_kept { (all : List (List ℕ)) → C.overflow into.new all ≡ C.overflow into.old all }
+{
+    let behind = c.gates.nodes() - (1 + begins.len() as u32);
+    let mut gates = first;
+    for j in 0..goals.len() {
+        push_frame(&c.gates, begins, gates, into)?;
+        goals[j] = goal(c, begins, gates, j + 1 == goals.len());
+        advance(c, start, begins, gates, given);
+        gates = lay(begins, &c.state_in, given, gates + behind);
+    }
+    Ok(())
+}
+
+/// The clauses of a query, where the first frame's literals are laid.
+fn push_laid<C: Clauses>(
+    c: &StepCircuit,
+    start: &[Start],
+    query: Query,
+    begins: &mut [Option<u32>],
+    first: u32,
+    given: &mut [Option<u32>],
+    goals: &mut [Short],
+    into: &mut C,
+) -> Result<(), PushFault>
+    requires fit { IsFit (circuit_seen c.now) start.now query }
+    requires query { IsAsked query }
+    requires table { IsTable (circuit_seen c.now) begins.old first
+        (frame_at (circuit_seen c.now) start.now query 0) }
+    requires begins { length begins.old ≡ length c.now.state_in.items + length c.now.input.items }
+    requires given { length given.old ≡ length c.now.state_in.items }
+    requires goals { length goals.old ≡ frame_count query }
+    requires few_gates { gate_count c.now.gates.nodes ≤ MAX_QUERY_GATES }
+    requires takes { IsTrue (C.takes_clauses into.old) }
+    requires variables { variable_count (circuit_seen c.now) start.now query ≤ C.variables into.old }
+    requires room { length (C.clauses into.old) ≤ MAX_CLAUSES_BEFORE }
+    ensures pushes { Pushes (C.overflow into.old) (C.clauses into.old)
+        (query_clauses (circuit_seen c.now) start.now query) (C.clauses into.new) result }
+    ensures variables_kept { C.variables into.new ≡ C.variables into.old }
+    ensures takes_kept { C.takes_clauses into.new ≡ C.takes_clauses into.old }
+    ensures overflow_kept { (all : List (List ℕ)) → C.overflow into.new all ≡ C.overflow into.old all }
+{
+    push_short(Short::One(constant(true)), into)?;
+    push_scans(c, start, query, begins, first, given, goals, into)?;
+    push_all(goals, into)
+}
+
 /// Pushes the clauses of a query over a step circuit.
 ///
 /// `start` has one entry for each bit of the circuit's state. A base query's number is in 1..64, a
@@ -226,20 +327,20 @@ pub fn push_frames<C: Clauses>(
     ensures overflow_kept { (all : List (List ℕ)) → C.overflow into.new all ≡ C.overflow into.old all }
 {
     // All memory is taken before the first clause.
-    let inputs = c.state_in.len() + c.input.len();
-    let mut begins = vec![in alloc; None; inputs]?;
+    let mut begins = vec![in alloc; None; c.state_in.len() + c.input.len()]?;
     let mut given = first_given(alloc, query, start)?;
-    let mut asked = vec![in alloc; Short::Omitted; frame_count(query) as usize]?;
+    let mut goals = vec![in alloc; Short::Omitted; frame_count(query) as usize]?;
 
-    let behind = c.gates.nodes() - (1 + inputs as u32);
-    let mut gates = lay(&mut begins, &c.state_in, &given, 2);
-    push_short(Short::One(constant(true)), into)?;
-    for j in 0..asked.len() {
-        push_frame(&c.gates, &begins, gates, into)?;
-        let goal = if j + 1 == asked.len() { c.fail } else { c.ok };
-        asked[j] = Short::One(literal(&begins, gates, goal));
-        advance(c, start, &begins, gates, &mut given);
-        gates = lay(&mut begins, &c.state_in, &given, gates + behind);
-    }
-    push_all(&asked, into)
+    fit(c, start, query);
+    let gates = lay(&mut begins, &c.state_in, &given, 2);
+    push_laid(
+        c,
+        start,
+        query,
+        &mut begins,
+        gates,
+        &mut given,
+        &mut goals,
+        into,
+    )
 }

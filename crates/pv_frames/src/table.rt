@@ -1,7 +1,8 @@
 //! A frame's literals: those of the input nodes in a list, those of the nodes behind them by
 //! arithmetic.
 
-ghost use Rattle.std.specs.Prelude.{◌≡◌, ℕ, ◌+◌, ◌<◌, ◌≤◌, ◌^◌, ℤ, unsigned_abs, length, slice_index_or, None, Some, All};
+ghost use Rattle.std.specs.Prelude.{◌≡◌, ℕ, ◌+◌, ◌*◌, ◌<◌, ◌≤◌, ◌^◌, ℤ, unsigned_abs, length, slice_index_or, if◌then◌else◌, unwrap_or, Option, None, Some, All};
+ghost use Rattle.std.specs.Option.{is_none};
 ghost use Rattle.pv_frames.specs.Frames.{literal_in};
 ghost use Rattle.pv_frames.specs.Queries.{given_for, own_below, numbered};
 ghost use Rattle.pv_frames.specs.Tables.{table_frame, IsBegin};
@@ -35,6 +36,16 @@ pub(crate) fn literal(begins: &[Option<u32>], gates: u32, l: i32) -> u32
     if l < 0 { flip(node) } else { node }
 }
 
+/// No literal at any place.
+fn clear(begins: &mut [Option<u32>])
+    ensures cleared { (i : ℕ) → i < length begins.old → slice_index_or begins.new i None ≡ None }
+    ensures long { length begins.new ≡ length begins.old }
+{
+    for i in 0..begins.len() {
+        begins[i] = None;
+    }
+}
+
 /// Each given literal at its node's place, and none at the others.
 fn place(begins: &mut [Option<u32>], nodes: &[i32], given: &[Option<u32>])
     requires nodes { All (IsBegin (length begins.old)) nodes.now }
@@ -43,9 +54,21 @@ fn place(begins: &mut [Option<u32>], nodes: &[i32], given: &[Option<u32>])
         → slice_index_or begins.new i None ≡ given_for None nodes.now given.now (2 + i) }
     ensures long { length begins.new ≡ length begins.old }
 {
-    begins.fill(None);
+    clear(begins);
     for k in 0..nodes.len() {
         begins[nodes[k] as usize - 2] = given[k];
+    }
+}
+
+/// The literal of a place, which is of the next variable where it has none, and the variable behind it.
+fn numbered_one(lit: Option<u32>, next: u32) -> (u32, u32)
+    requires few { next < 2 ^ 31 }
+    ensures literal { result.0 ≡ unwrap_or lit (2 * next) }
+    ensures next { result.1 ≡ next + (if is_none lit then 1 else 0) }
+{
+    match lit {
+        Some(lit) => (lit, next),
+        None => (2 * next, next + 1),
     }
 }
 
@@ -63,10 +86,9 @@ fn number(begins: &mut [Option<u32>], first: u32) -> u32
 {
     let mut next = first;
     for i in 0..begins.len() {
-        if begins[i].is_none() {
-            begins[i] = Some(2 * next);
-            next += 1;
-        }
+        let (lit, behind) = numbered_one(begins[i], next);
+        begins[i] = Some(lit);
+        next = behind;
     }
     next
 }
