@@ -1,7 +1,7 @@
 -- The literals of some of the bits: what holds of all bits holds of some. Literals beside the bits are a list like a frame, and a frame of
 -- values is `map` over them: `state_of-picked`, `input_of-picked`, `begin_parts` and `begin_given` are all that the laws need.
 use Rattle.std.proofs.Common.{◌≡◌, ◌+◌, ◌<◌, ◌++◌, ℕ, suc, ℤ, pos, List, [], ◌∷◌, length, map, Bool, true, false, cond, refl, sym, ◌∙◌, ap}
-use Rattle.std.proofs.Common.{subst, arith}
+use Rattle.std.proofs.Common.{arith}
 use Rattle.std.proofs.Common.{drop, get_or, drop-cons, append_assoc}
 use Rattle.std.specs.Prelude.{filter}
 use Rattle.std.specs.List.{AllByRecursion}

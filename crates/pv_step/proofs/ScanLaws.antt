@@ -1,6 +1,6 @@
 -- The laws that join the circuit with the scan.
-use Rattle.std.proofs.Common.{◌≡◌, ◌+◌, ◌<◌, ◌++◌, ℕ, zero, suc, ℤ, pos, neg_ℤ, List, length, Bool, true, false, not, sym, ◌∙◌, ap, subst}
-use Rattle.std.proofs.Common.{arith, get_or, All, [], ◌∷◌, cond}
+use Rattle.std.proofs.Common.{◌≡◌, ◌+◌, ◌<◌, ◌++◌, ℕ, zero, suc, ℤ, pos, neg_ℤ, List, length, Bool, false, not, sym, ◌∙◌, ap, subst}
+use Rattle.std.proofs.Common.{arith, get_or, All}
 use Rattle.std.specs.List.{AllByRecursion}
 use Rattle.std.specs.List.Sorted.{IsPermutation}
 use Rattle.std.proofs.lemmas.List.{length-map}

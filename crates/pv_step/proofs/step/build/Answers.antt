@@ -1,9 +1,8 @@
-use Rattle.std.proofs.Common.{◌≡◌, ◌∙◌, sym, ap, length, List, rules, neg_ℤ, refl}
+use Rattle.std.proofs.Common.{◌≡◌, ◌∙◌, sym, ap, length, rules, neg_ℤ, refl}
 use Rattle.std.proofs.lemmas.List.{take_at}
 use Rattle.std.proofs.lemmas.Result.{err_from_is_err_and, IfOk-at_ok}
 use Rattle.pv_gate.specs.declared.fault.GateFault.TheVariants.{Limit}
 use Rattle.pv_gate.specs.Netlist.{Netlist}
-use Rattle.pv_bool.specs.declared.program.Bit.{Bit}
 use Rattle.pv_bool.specs.Programs.{program_tree}
 use Rattle.pv_circuit.specs.Circuits.{begin_nodes, input_literals}
 use Rattle.pv_step.specs.Circuits.{begin_literals}
