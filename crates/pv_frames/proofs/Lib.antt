@@ -15,4 +15,5 @@ pub mod FromCircuit
 pub mod QueryLists
 pub mod Scanning
 pub mod FrameValues
+pub mod RunValues
 pub mod ForCallers

@@ -5,3 +5,4 @@ pub mod Pushing
 pub mod Short
 pub mod Queries
 pub mod Tables
+pub mod Runs

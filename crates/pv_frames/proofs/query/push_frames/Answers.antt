@@ -30,3 +30,11 @@ returns-clause-ok g c =
 pub returns-clause-err : goal.returns-clause-err
 returns-clause-err g c =
     pushes-err (g.C.Clauses.overflow c.args.into.now) (g.C.Clauses.clauses c.args.into.now) (query_clauses (circuit_seen c.args.c.now) c.args.start.now c.args.query) (g.C.Clauses.clauses c.push_laid.new.into) c.push_laid.result c.push_laid.ensures.pushes
+
+pub push_laid-requires-clause-table : goal.push_laid-requires-clause-table
+push_laid-requires-clause-table g c =
+    let long : length c.lay-gates.new.begins ≡ length c.args.c.now.state_in.items + length c.args.c.now.input.items =
+    omega (arith, c.lay-gates.ensures.long, c.in_ok-begins.ensures.len, c.len.ensures, c.len-2.ensures) in
+    table-first (circuit_seen c.args.c.now) c.args.start.now c.args.query c.deref.result.now _ c.lay-gates.new.begins c.lay-gates.result _
+    c.in_ok-given.ensures (subst (λ (n : ℕ). All (IsBegin n) c.args.c.now.state_in.items) (sym long) c.fit.ensures.begins)
+    (omega (arith, long, c.fit.ensures.inputs)) c.deref.ensures.value c.lay-gates.ensures.long c.lay-gates.ensures.laid c.lay-gates.ensures.next

@@ -1,10 +1,12 @@
 use Rattle.std.proofs.Common.{arith, ◌≡◌, ◌+◌, ◌*◌, ◌++◌, ℕ, List, [], ◌∷◌, length, map, refl, sym, ◌∙◌, ap, subst, mul-le-mul, length-append}
 use Rattle.std.specs.List.{flat_map}
+use Rattle.std.proofs.lemmas.List.{length-map}
+use Rattle.std.proofs.lemmas.List.FromFn.{length-map-range_with_len}
 use Rattle.std.proofs.lemmas.Result.{err_from_is_err_and}
 use Rattle.pv_gate.specs.Node.{gate_count}
 use Rattle.pv_cnf.specs.Clause.{AreClauses}
 use Rattle.pv_circuit.specs.Made.{circuit_seen}
-use Rattle.pv_frames.specs.Queries.{frame_count, asked}
+use Rattle.pv_frames.specs.Queries.{frame_count, asked, asked_in}
 use Rattle.pv_frames.specs.Pushing.{ArePushed, StopsAt, Pushes}
 use Rattle.pv_frames.specs.Short.{clauses_of}
 use Rattle.pv_frames.specs.Tables.{gate_clauses}
@@ -65,11 +67,12 @@ push_all-requires-clause-room g c =
     omega (
       arith,
       c.requires.room,
-      c.requires.goals,
       frames,
       few,
       most,
-      c.push_scans.auto.goals,
+      ap (λ (xs : List Short). length xs) c.in_ok-push_scans.ensures.goals,
+      length-map (asked seen start q) (λ (lit : ℕ). One lit),
+      length-map-range_with_len (asked_in seen start q) 0 (frame_count q),
       ap (λ (t : List (List ℕ)). length t) front.stand,
       length-append (g.C.Clauses.clauses c.args.into.now) (((2 ∷ []) ∷ []) ++ gate_clauses seen start q (frame_count q)),
     )

@@ -1,4 +1,4 @@
-use Rattle.std.proofs.Common.{arith, ◌≡◌, ◌+◌, ◌*◌, ◌++◌, ℕ, ℤ, suc, List, [], ◌∷◌, length, map, get_or, Option, Some, None, All, sym, ◌∙◌, ap, subst, mul-le-mul, length-append}
+use Rattle.std.proofs.Common.{arith, ◌≡◌, ◌+◌, ◌-◌, ◌*◌, ◌++◌, ℕ, ℤ, suc, List, [], ◌∷◌, length, map, get_or, Option, Some, None, All, sym, ◌∙◌, ap, subst, mul-le-mul, length-append}
 use Rattle.std.specs.List.{flat_map}
 use Rattle.std.proofs.lemmas.List.{length-set}
 use Rattle.std.proofs.lemmas.Result.{err_from_is_err_and}
@@ -87,7 +87,7 @@ loop-j-preserved g c =
           c.requires.fit.ok c.requires.fit.fail (c.loop-j.invariant.long_goals ∙ c.requires.goals)))
           c.loop-j.invariant.goals;
       table = subst (λ (n : ℕ). IsTable seen c.lay-gates.new.begins c.lay-gates.result (frame_at seen c.args.start.now c.args.query n)) next
-          (table-next seen c.args.start.now c.args.query j c.loop-j.begins c.loop-j.gates c.deref.result.now c.advance.new.given c.lay-gates.new.begins _ c.lay-gates.result (length c.loop-j.begins)
+          (table-next seen c.args.start.now c.args.query j c.loop-j.begins c.loop-j.gates c.deref.result.now c.advance.new.given c.lay-gates.new.begins (c.loop-j.gates + (c.nodes.result - (1 + length c.args.begins.now))) c.lay-gates.result (length c.loop-j.begins)
           c.loop-j.invariant.table c.requires.fit.state_in c.requires.fit.state_out c.advance.ensures
           (omega (arith, c.nodes.ensures.count, c.loop-j.invariant.long_begins))
           (subst (λ (n : ℕ). All (IsBegin n) c.args.c.now.state_in.items) (sym long) c.requires.fit.begins)
