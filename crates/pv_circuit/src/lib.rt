@@ -3,5 +3,7 @@
 #![tactic(auto)]
 
 mod circuit;
+mod start;
 
 pub use circuit::StepCircuit;
+pub use start::Start;

@@ -6,4 +6,14 @@ pub mod GateValues
 pub mod NodeValues
 pub mod StepValues
 pub mod FrameLists
+pub mod Giving
+pub mod Laying
+pub mod Agreeing
+pub mod Inside
+pub mod Counting
+pub mod FromCircuit
+pub mod QueryLists
+pub mod Scanning
+pub mod FrameValues
+pub mod RunValues
 pub mod ForCallers

@@ -7,6 +7,11 @@ ghost use Rattle.pv_gate.specs.Value.{value_of};
 ghost use Rattle.pv_cnf.specs.Clause.{AreClauses, Holds};
 ghost use Rattle.pv_frames.specs.Formulas.{step_clauses};
 ghost use Rattle.pv_frames.specs.Values.{AreNodeValues};
+ghost use Rattle.pv_circuit.specs.declared.start.Start.{Start};
+ghost use Rattle.pv_circuit.specs.Circuits.{Circuit, IsCircuit};
+ghost use Rattle.pv_cert.specs.declared.proof.Query.{Query};
+ghost use Rattle.pv_frames.specs.Queries.{IsAsked, query_clauses};
+ghost use Rattle.pv_frames.specs.Runs.{Meets, run_of};
 
 /// The clauses of step(0) are over one variable for each node: no store of as many variables finds a
 /// clause out of range, doubled or empty.
@@ -30,4 +35,12 @@ pub fn step_refuted_where_nothing_fails()
     ensures { (nodes : List Node) (fail : ℤ) → IsNetlist nodes → Names (length nodes) fail
         → ((values : ℕ → Bool) → Holds values (step_clauses nodes fail) → ⊥)
         ↔ ((inputs : ℕ → Bool) → value_of inputs nodes fail ≡ false) }
+{}
+
+/// Values that make the formula of a query hold stand for a run of the circuit's bits that meets it: a
+/// base query's from the start, a step query's from some state.
+pub fn values_are_runs()
+    ensures { (c : Circuit) (start : List Start) (q : Query) (values : ℕ → Bool)
+        → IsCircuit c → length start ≡ length c.state_in → IsAsked q
+        → Holds values (query_clauses c start q) → Meets c start q (run_of c start q values) }
 {}

@@ -11,6 +11,10 @@
 mod gate;
 pub mod laws;
 mod push;
+pub mod query;
+#[cfg(test)]
+mod rows;
 mod short;
+mod table;
 
 pub use push::{MAX_CLAUSES_BEFORE, MAX_QUERY_GATES, push_step, variables};
