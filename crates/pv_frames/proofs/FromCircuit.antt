@@ -111,6 +111,7 @@ fit c start q h net starts asks small = record {
   ends = same-kept (length c.state_out) (length c.state_in) h (λ is. is.same_state);
   begins = begins-kept c h;
   state_in = names-kept c c.state_in h (λ is. is.state_in);
+  input = names-kept c c.input h (λ is. is.input);
   state_out = names-kept c c.state_out h (λ is. is.state_out);
   ok = name-kept c c.ok h (λ is. is.ok);
   fail = name-kept c c.fail h (λ is. is.fail);

@@ -19,13 +19,10 @@ use Rattle.pv_cnf.specs.Clause.{AreClauses}
 use Rattle.pv_frames.specs.Frames.{Frame, literal_in, node_clauses, frame_clauses}
 use Rattle.pv_frames.specs.Formulas.{written}
 use Rattle.pv_frames.specs.Queries.{constant, first_of, given_for, is_own, own_below, numbered, frame_at, next_literals, table, asked_in, frame_count}
+use Rattle.pv_frames.specs.Tables.{Inside}
 use Rattle.pv_frames.proofs.Literals.{outside-complement}
 use Rattle.pv_frames.proofs.FrameLists.{AreInside, written-all, inside-variable, and-inside, xor-inside, mux-inside, frame-valid}
 use Rattle.pv_frames.proofs.Giving.{bit, own-none, numbered-is}
-
--- the literals of the first m nodes are inside
-abbrev pub Inside : ℕ → ℕ → Frame → Type 0
-Inside v m f = (n : ℕ) → 1 ≤ n → n ≤ m → is_outside v (f n) ≡ false
 
 pub literal-inside : (v m : ℕ) (f : Frame) (l : ℤ) → Inside v m f → Names m l → is_outside v (literal_in f l) ≡ false
 literal-inside v m f (pos n) all h = all n (omega (arith, h.from_one)) (omega (arith, h.to_last))
@@ -58,11 +55,11 @@ gates-valid v f nodes net all = frame-valid f v 1 nodes (λ k node at.
 
 -- ---- literals that are given
 
-abbrev GivenInside : ℕ → Option ℕ → Type 0
+abbrev pub GivenInside : ℕ → Option ℕ → Type 0
 GivenInside v None = Unit {0}
 GivenInside v (Some lit) = is_outside v lit ≡ false
 
-given-inside : (v : ℕ) (found : Option ℕ) (ls : List ℤ) (gs : List (Option ℕ)) (n : ℕ) → GivenInside v found → AllByRecursion (GivenInside v) gs
+pub given-inside : (v : ℕ) (found : Option ℕ) (ls : List ℤ) (gs : List (Option ℕ)) (n : ℕ) → GivenInside v found → AllByRecursion (GivenInside v) gs
     → GivenInside v (given_for found ls gs n)
 given-inside v found [] gs n here all = here
 given-inside v found (l ∷ ls) [] n here all = here
@@ -103,7 +100,7 @@ constant-inside : (v : ℕ) (b : Bool) → 1 ≤ v → is_outside v (constant b)
 constant-inside v true some = inside-variable v 2 (lit≤ tt) (omega arith)
 constant-inside v false some = inside-variable v 3 (lit≤ tt) (omega arith)
 
-first-inside : (v : ℕ) (q : Query) (start : List Start) → 1 ≤ v → AllByRecursion (GivenInside v) (map (first_of q) start)
+pub first-inside : (v : ℕ) (q : Query) (start : List Start) → 1 ≤ v → AllByRecursion (GivenInside v) (map (first_of q) start)
 first-inside v q [] some = tt
 first-inside v q (s ∷ start) some = (by q s, first-inside v q start some)
   where
@@ -115,12 +112,12 @@ first-inside v q (s ∷ start) some = (by q s, first-inside v q start some)
     by (Step k) (Begins b) = tt
     by (Step k) Free = tt
 
-literals-inside : (v m : ℕ) (f : Frame) (ls : List ℤ) → Inside v m f → All (Names m) ls → AllByRecursion (λ lit. is_outside v lit ≡ false) (map (literal_in f) ls)
+pub literals-inside : (v m : ℕ) (f : Frame) (ls : List ℤ) → Inside v m f → All (Names m) ls → AllByRecursion (λ lit. is_outside v lit ≡ false) (map (literal_in f) ls)
 literals-inside v m f [] all names = tt
 literals-inside v m f (l ∷ ls) all names =
     (literal-inside v m f l all (names 0 l (omega arith)), literals-inside v m f ls all (λ k d lt. names (suc k) d (omega arith)))
 
-next-inside : (v : ℕ) (start : List Start) (xs ys : List ℕ) → AllByRecursion (λ lit. is_outside v lit ≡ false) xs → AllByRecursion (λ lit. is_outside v lit ≡ false) ys
+pub next-inside : (v : ℕ) (start : List Start) (xs ys : List ℕ) → AllByRecursion (λ lit. is_outside v lit ≡ false) xs → AllByRecursion (λ lit. is_outside v lit ≡ false) ys
     → AllByRecursion (GivenInside v) (map (λ lit. Some lit) (next_of start xs ys))
 next-inside v [] xs ys p q = tt
 next-inside v (s ∷ start) [] ys p q = tt

@@ -14,6 +14,9 @@ pub mod Counting
 pub mod FromCircuit
 pub mod QueryLists
 pub mod Scanning
+pub mod Reading
 pub mod FrameValues
 pub mod RunValues
+pub mod RunsHold
+pub mod StepZero
 pub mod ForCallers

@@ -23,7 +23,7 @@ use Rattle.pv_frames.specs.Frames.{Frame, literal_in, frame_clauses}
 use Rattle.pv_frames.specs.Formulas.{unit}
 use Rattle.pv_frames.specs.Values.{AreFrameValues}
 use Rattle.pv_frames.specs.Queries.{IsAsked, frame_count, first_of, constant, given_for, numbered, own_below, frame_at, next_literals, table, frames, asked_in, asked, query_clauses}
-use Rattle.pv_frames.specs.Runs.{BitRun, BeginsWith, FailsAtLast, Meets, run_of}
+use Rattle.pv_frames.specs.Runs.{BitRun, BeginsWith, FailsAtLast, Meets, input_in, run_of}
 use Rattle.pv_frames.specs.Tables.{IsBegin}
 use Rattle.pv_frames.proofs.Written.{written-means}
 use Rattle.pv_frames.proofs.Giving.{given-more, numbered-is}
@@ -33,7 +33,7 @@ use Rattle.pv_frames.proofs.FrameValues.{frame-only, literal-is}
 
 -- ---- the formula's parts
 
-or_false : (b : Bool) → (b || false) ≡ b
+pub or_false : (b : Bool) → (b || false) ≡ b
 or_false true = refl
 or_false false = refl
 
@@ -66,12 +66,12 @@ unit-true values f a (suc n) h j from to =
     by false e here more = more (eqb-false j a e)
 
 -- what a formula that holds says
-record Parts (c : Circuit) (start : List Start) (q : Query) (values : ℕ → Bool) : Type 0 where
-  first : values 1 ≡ true
-  gates : (j : ℕ) → j < frame_count q → list_all (clause_value values) (frame_clauses (table c start q j) 1 c.nodes) ≡ true
-  goals : (j : ℕ) → j < frame_count q → literal_value values (asked_in c start q j) ≡ true
+pub record Parts (c : Circuit) (start : List Start) (q : Query) (values : ℕ → Bool) : Type 0 where
+  pub first : values 1 ≡ true
+  pub gates : (j : ℕ) → j < frame_count q → list_all (clause_value values) (frame_clauses (table c start q j) 1 c.nodes) ≡ true
+  pub goals : (j : ℕ) → j < frame_count q → literal_value values (asked_in c start q j) ≡ true
 
-parts-of : (c : Circuit) (start : List Start) (q : Query) (values : ℕ → Bool) → Holds values (query_clauses c start q) → Parts c start q values
+pub parts-of : (c : Circuit) (start : List Start) (q : Query) (values : ℕ → Bool) → Holds values (query_clauses c start q) → Parts c start q values
 parts-of c start q values holds =
     let n = frame_count q in
     let gates = flat_map (λ (f : Frame). frame_clauses f 1 c.nodes) (map (table c start q) (range_with_len 0 n)) in
@@ -161,7 +161,7 @@ next-literals c start q j is starts =
     get_or-map (literal_in f) c.state_in k (pos 0) 0 below
     ∙ (found.1 ∙ ap (λ (o : Option ℕ). unwrap_or o found.0) (get_or-map (λ (lit : ℕ). Some lit) lits k 0 None (omega (arith, below, long)))))
 
-map-next_of : (g : ℕ → Bool) (start : List Start) (xs ys : List ℕ) → map g (next_of start xs ys) ≡ next_of start (map g xs) (map g ys)
+pub map-next_of : (g : ℕ → Bool) (start : List Start) (xs ys : List ℕ) → map g (next_of start xs ys) ≡ next_of start (map g xs) (map g ys)
 map-next_of g [] xs ys = refl
 map-next_of g (s ∷ start) [] ys = refl
 map-next_of g (s ∷ start) (x ∷ xs) [] = refl
@@ -172,11 +172,11 @@ map-next_of g (s ∷ start) (x ∷ xs) (y ∷ ys) =
     by true = refl
     by false = refl
 
-map-twice : {A B C : Type 0} (g : B → C) (f : A → B) (xs : List A) → map g (map f xs) ≡ map (λ x. g (f x)) xs
+pub map-twice : {A B C : Type 0} (g : B → C) (f : A → B) (xs : List A) → map g (map f xs) ≡ map (λ x. g (f x)) xs
 map-twice g f [] = refl
 map-twice g f (x ∷ xs) = ap (λ ys. g (f x) ∷ ys) (map-twice g f xs)
 
-map-values : (values inputs : ℕ → Bool) (f : Frame) (nodes : List Node) (ls : List ℤ) → AreFrameValues inputs nodes values f → All (Names (length nodes)) ls
+pub map-values : (values inputs : ℕ → Bool) (f : Frame) (nodes : List Node) (ls : List ℤ) → AreFrameValues inputs nodes values f → All (Names (length nodes)) ls
     → map (λ l. literal_value values (literal_in f l)) ls ≡ values_of inputs nodes ls
 map-values values inputs f nodes [] are names = refl
 map-values values inputs f nodes (l ∷ ls) are names =
@@ -195,16 +195,13 @@ first-bits P_all none more (s ∷ start) [] long each = absurd (omega (arith, lo
 first-bits {P} P_all none more (s ∷ start) (b ∷ bits) long each =
     more s start b bits (each 0 (omega arith)) (first-bits {P = P} P_all none more start bits (omega (arith, long)) (λ k lt. each (suc k) (omega (arith, lt))))
 
-constant-value : (values : ℕ → Bool) (b : Bool) → values 1 ≡ true → literal_value values (constant b) ≡ b
+pub constant-value : (values : ℕ → Bool) (b : Bool) → values 1 ≡ true → literal_value values (constant b) ≡ b
 constant-value values true h = h
 constant-value values false h = ap not h
 
 -- the bits of frame j's state and input
-abbrev state_at : Circuit → List Start → Query → (ℕ → Bool) → ℕ → List Bool
+abbrev pub state_at : Circuit → List Start → Query → (ℕ → Bool) → ℕ → List Bool
 state_at c start q values j = map (λ l. literal_value values (literal_in (table c start q j) l)) c.state_in
-
-abbrev input_in : Circuit → (ℕ → Bool) → Frame → List Bool
-input_in c values f = map (λ l. literal_value values (literal_in f l)) c.input
 
 first-bit : (c : Circuit) (start : List Start) (q : Query) (values : ℕ → Bool) (k : ℕ) → IsCircuit c → length start ≡ length c.state_in → k < length start
     → (own : ℕ) × (get_or (state_at c start q values 0) k false ≡ literal_value values (unwrap_or (first_of q (get_or start k Free)) own))
@@ -242,11 +239,11 @@ are-state c start n values is starts first =
 
 -- ---- frame by frame
 
-first-node : (c : Circuit) (start : List Start) (q : Query) (j : ℕ) → table c start q j 1 ≡ 2
+pub first-node : (c : Circuit) (start : List Start) (q : Query) (j : ℕ) → table c start q j 1 ≡ 2
 first-node c start q zero = refl
 first-node c start q (suc j) = refl
 
-scan-of : (c : Circuit) (start : List Start) (q : Query) (values : ℕ → Bool) → IsCircuit c → Parts c start q values → (j : ℕ) → j < frame_count q
+pub scan-of : (c : Circuit) (start : List Start) (q : Query) (values : ℕ → Bool) → IsCircuit c → Parts c start q values → (j : ℕ) → j < frame_count q
     → (inputs : ℕ → Bool) × AreFrameValues inputs c.nodes values (table c start q j)
 scan-of c start q values is parts j lt =
     frame-only values (table c start q j) c.nodes is.netlist (ap (literal_value values) (first-node c start q j) ∙ parts.first) (parts.gates j lt)

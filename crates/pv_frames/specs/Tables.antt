@@ -1,12 +1,13 @@
 -- A frame's literals as the code has them: those of the input nodes in a list, and the others by arithmetic. No public clause cites
 -- this.
-use Rattle.std.specs.Prelude.{◌≡◌, ℕ, zero, suc, [], ◌++◌, ◌+◌, ◌-◌, ◌*◌, ◌^◌, ◌<◌, ◌≤◌, ◌==◌, nat_lt, ℤ, pos, unsigned_abs, All}
+use Rattle.std.specs.Prelude.{◌≡◌, ℕ, false, zero, suc, [], ◌++◌, ◌+◌, ◌-◌, ◌*◌, ◌^◌, ◌<◌, ◌≤◌, ◌==◌, nat_lt, ℤ, pos, unsigned_abs, All}
 use Rattle.std.specs.Prelude.{if◌then◌else◌, List, length, Option, Some, None, unwrap_or, slice_index_or}
 use Rattle.std.specs.List.{flat_map}
 use Rattle.pv_gate.specs.declared.netlist.Node.{Node}
 use Rattle.pv_gate.specs.declared.netlist.Node.TheVariants.{True, Input, And, Xor, Mux}
 use Rattle.pv_gate.specs.Node.{Names}
 use Rattle.pv_gate.specs.Netlist.{IsNetlist}
+use Rattle.pv_cnf.specs.Literal.{is_outside}
 use Rattle.pv_circuit.specs.declared.start.Start.{Start}
 use Rattle.pv_circuit.specs.Circuits.{Circuit}
 use Rattle.pv_cert.specs.declared.proof.Query.{Query}
@@ -40,6 +41,10 @@ pub record IsTable (c : Circuit) (begins : List (Option ℕ)) (gates : ℕ) (f :
   pub same : (n : ℕ) → 1 ≤ n → n ≤ length c.nodes → table_frame begins gates n ≡ f.frame n
   pub next : gates + (length c.nodes - (1 + length begins)) ≡ f.next
 
+-- the literals of the first m nodes are over the variables 1 to v
+abbrev pub Inside : ℕ → ℕ → Frame → Type 0
+Inside v m f = (n : ℕ) → 1 ≤ n → n ≤ m → is_outside v (f n) ≡ false
+
 -- what the frames of a query need of its circuit
 pub record IsFit (c : Circuit) (start : List Start) (q : Query) : Type 0 where
   pub netlist : IsNetlist c.nodes
@@ -47,6 +52,7 @@ pub record IsFit (c : Circuit) (start : List Start) (q : Query) : Type 0 where
   pub ends : length c.state_out ≡ length c.state_in
   pub begins : All (IsBegin (length c.state_in + length c.input)) c.state_in
   pub state_in : All (Names (length c.nodes)) c.state_in
+  pub input : All (Names (length c.nodes)) c.input
   pub state_out : All (Names (length c.nodes)) c.state_out
   pub ok : Names (length c.nodes) c.ok
   pub fail : Names (length c.nodes) c.fail

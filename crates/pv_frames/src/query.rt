@@ -14,7 +14,7 @@ ghost use Rattle.pv_frames.specs.declared.push.TheConstants.{MAX_QUERY_GATES, MA
 ghost use Rattle.pv_frames.specs.Pushing.{ArePushed, StopsAt, Pushes};
 ghost use Rattle.pv_frames.specs.Short.{clauses_of};
 ghost use Rattle.pv_frames.specs.declared.short.Short.TheVariants.{One};
-ghost use Rattle.pv_frames.specs.Tables.{table_frame, NamesOperands, IsTable, IsFit, gate_clauses};
+ghost use Rattle.pv_frames.specs.Tables.{table_frame, NamesOperands, IsBegin, IsTable, IsFit, gate_clauses};
 
 use crate::gate::{and_gate, mux_gate, xor_gate};
 use crate::push::{push_all, push_short};
@@ -37,7 +37,7 @@ fn constant(value: bool) -> u32
 }
 
 /// How many frames a query has.
-fn frame_count(query: Query) -> u32
+pub(crate) fn frame_count(query: Query) -> u32
     requires { IsAsked query }
     ensures { result ≡ frame_count query }
 {
@@ -93,7 +93,7 @@ pub fn variables(c: &StepCircuit, start: &[Start], query: Query) -> u32
 }
 
 /// The literals that the state's bits have in the first frame.
-fn first_given(alloc: Global, query: Query, start: &[Start]) -> Result<Vec<Option<u32>>, AllocError>
+pub(crate) fn first_given(alloc: Global, query: Query, start: &[Start]) -> Result<Vec<Option<u32>>, AllocError>
     ensures { IfOk result (λ given. given.items ≡ map (first_of query) start.now) }
 {
     let mut given = Vec::with_capacity(alloc, start.len())?;
@@ -137,6 +137,38 @@ fn advance(
         let end = literal(begins, gates, c.state_out[k]);
         given[k] = Some(next_literal(start[k], begin, end));
     }
+}
+
+/// The literals of the next frame in place of those of a frame, `gates` being the variable of its first
+/// node behind the inputs. That variable of the next frame.
+pub(crate) fn next_table(
+    c: &StepCircuit,
+    start: &[Start],
+    begins: &mut [Option<u32>],
+    gates: u32,
+    given: &mut [Option<u32>],
+) -> u32
+    requires start { length start.now ≡ length c.now.state_in.items }
+    requires end { length c.now.state_out.items ≡ length c.now.state_in.items }
+    requires begins { length begins.old ≡ length c.now.state_in.items + length c.now.input.items }
+    requires given { length given.old ≡ length c.now.state_in.items }
+    requires state_begins { All (IsBegin (length c.now.state_in.items + length c.now.input.items))
+        c.now.state_in.items }
+    requires state_in { All (Names (length c.now.gates.nodes)) c.now.state_in.items }
+    requires state_out { All (Names (length c.now.gates.nodes)) c.now.state_out.items }
+    requires inputs { 1 + (length c.now.state_in.items + length c.now.input.items)
+        ≤ length c.now.gates.nodes }
+    requires few { gates + length c.now.gates.nodes < 2 ^ 31 }
+    ensures next { (q : Query) (j : ℕ)
+        → IsTable (circuit_seen c.now) begins.old gates (frame_at (circuit_seen c.now) start.now q j)
+        → IsTable (circuit_seen c.now) begins.new result
+        (frame_at (circuit_seen c.now) start.now q (j + 1)) }
+    ensures long_begins { length begins.new ≡ length begins.old }
+    ensures long_given { length given.new ≡ length given.old }
+{
+    advance(c, start, begins, gates, given);
+    let behind = c.gates.nodes() - (1 + begins.len() as u32);
+    lay(begins, &c.state_in, given, gates + behind)
 }
 
 /// The clauses of node number `n` in a frame: none where it is no gate.
@@ -188,7 +220,7 @@ fn push_frame<C: Clauses>(
 }
 
 /// What the frames of a query need of its circuit, as its type keeps it.
-fn fit(c: &StepCircuit, start: &[Start], query: Query)
+pub(crate) fn fit(c: &StepCircuit, start: &[Start], query: Query)
     requires start { length start.now ≡ length c.now.state_in.items }
     requires query { IsAsked query }
     requires nodes { length c.now.gates.nodes ≤ MAX_QUERY_NODES }
@@ -245,13 +277,11 @@ fn push_scans<C: Clauses>(
     ensures takes_kept { C.takes_clauses into.new ≡ C.takes_clauses into.old }
     ensures overflow_kept { (all : List (List ℕ)) → C.overflow into.new all ≡ C.overflow into.old all }
 {
-    let behind = c.gates.nodes() - (1 + begins.len() as u32);
     let mut gates = first;
     for j in 0..goals.len() {
         push_frame(&c.gates, begins, gates, into)?;
         goals[j] = goal(c, begins, gates, j + 1 == goals.len());
-        advance(c, start, begins, gates, given);
-        gates = lay(begins, &c.state_in, given, gates + behind);
+        gates = next_table(c, start, begins, gates, given);
     }
     Ok(())
 }

@@ -15,7 +15,7 @@ use Rattle.pv_frames.proofs.Agreeing.{frames-agree}
 use Rattle.pv_frames.proofs.FromCircuit.{few-frames}
 use Rattle.pv_frames.proofs.Pushed.{pushed_more, stops_within}
 use Rattle.pv_frames.proofs.QueryLists.{frame-clauses-valid, gates-few}
-use Rattle.pv_frames.proofs.Scanning.{table-next, goals-more, goal-is, gates-around}
+use Rattle.pv_frames.proofs.Scanning.{goals-more, goal-is, gates-around}
 use Rattle.pv_frames.proofs.query.push_scans.Goals as goal
 
 pub push_frame-requires-clause-valid : goal.push_frame-requires-clause-valid
@@ -65,6 +65,10 @@ returns-in_err-push_frame-clause-pushes g c =
     (subst (λ (cs : List (List ℕ)). StopsAt (g.C.Clauses.overflow c.loop-j.into) (g.C.Clauses.clauses c.loop-j.into) (flat_map written cs) (g.C.Clauses.clauses c.push_frame.new.into) c.in_err-push_frame.field-0.0)
     same c.in_err-push_frame.ensures.pushes)))
 
+pub next_table-requires-clause-few : goal.next_table-requires-clause-few
+next_table-requires-clause-few g c =
+    omega (arith, c.requires.fit.few c.loop-j.j (omega (arith, c.loop-j-test.true, c.requires.goals)), c.loop-j.invariant.table.next)
+
 pub loop-j-preserved : goal.loop-j-preserved
 loop-j-preserved g c =
     let seen = circuit_seen c.args.c.now in
@@ -73,8 +77,6 @@ loop-j-preserved g c =
     let f = table_frame c.loop-j.begins c.loop-j.gates in
     let same = frames-agree f (table seen c.args.start.now c.args.query j) nodes c.requires.fit.netlist c.loop-j.invariant.table.same in
     let next : suc j ≡ j + 1 = omega arith in
-    let long : length c.lay-gates.new.begins ≡ length c.args.c.now.state_in.items + length c.args.c.now.input.items =
-    c.lay-gates.ensures.long ∙ (c.loop-j.invariant.long_begins ∙ c.requires.begins) in
     record {
       pushed = subst (λ (n : ℕ). ArePushed (g.C.Clauses.overflow c.args.into.now) (g.C.Clauses.clauses c.args.into.now) (gate_clauses seen c.args.start.now c.args.query n) (g.C.Clauses.clauses c.push_frame.new.into)) next
           (pushed_more (g.C.Clauses.overflow c.args.into.now) (g.C.Clauses.overflow c.loop-j.into) (g.C.Clauses.clauses c.args.into.now) (g.C.Clauses.clauses c.loop-j.into) (g.C.Clauses.clauses c.push_frame.new.into)
@@ -86,16 +88,10 @@ loop-j-preserved g c =
           (c.goal.ensures ∙ ap (λ (lit : ℕ). One lit) (goal-is seen c.args.start.now c.args.query f j (length c.loop-j.goals) c.loop-j.invariant.table.same
           c.requires.fit.ok c.requires.fit.fail (c.loop-j.invariant.long_goals ∙ c.requires.goals)))
           c.loop-j.invariant.goals;
-      table = subst (λ (n : ℕ). IsTable seen c.lay-gates.new.begins c.lay-gates.result (frame_at seen c.args.start.now c.args.query n)) next
-          (table-next seen c.args.start.now c.args.query j c.loop-j.begins c.loop-j.gates c.deref.result.now c.advance.new.given c.lay-gates.new.begins (c.loop-j.gates + (c.nodes.result - (1 + length c.args.begins.now))) c.lay-gates.result (length c.loop-j.begins)
-          c.loop-j.invariant.table c.requires.fit.state_in c.requires.fit.state_out c.advance.ensures
-          (omega (arith, c.nodes.ensures.count, c.loop-j.invariant.long_begins))
-          (subst (λ (n : ℕ). All (IsBegin n) c.args.c.now.state_in.items) (sym long) c.requires.fit.begins)
-          (omega (arith, long, c.requires.fit.inputs)) c.deref.ensures.value c.lay-gates.ensures.long
-          c.lay-gates.ensures.laid c.lay-gates.ensures.next);
+      table = c.next_table.ensures.next c.args.query j c.loop-j.invariant.table;
       long_goals = length-set c.loop-j.goals _ _ ∙ c.loop-j.invariant.long_goals;
-      long_begins = c.lay-gates.ensures.long ∙ c.loop-j.invariant.long_begins;
-      long_given = omega (arith, c.advance.auto.given, c.loop-j.invariant.long_given);
+      long_begins = c.next_table.ensures.long_begins ∙ c.loop-j.invariant.long_begins;
+      long_given = c.next_table.ensures.long_given ∙ c.loop-j.invariant.long_given;
       variables = c.push_frame.ensures.variables_kept ∙ c.loop-j.invariant.variables;
       takes = c.push_frame.ensures.takes_kept ∙ c.loop-j.invariant.takes;
       overflow = (λ all. c.push_frame.ensures.overflow_kept all ∙ c.loop-j.invariant.overflow all);
