@@ -1,5 +1,5 @@
 -- That a circuit does the steps of a machine, whose states and inputs are lists of numbers.
-use Rattle.std.specs.Prelude.{◌≡◌, ◌↔◌, ℕ, Bool, true, ℤ, List, [], ◌∷◌, length, take, drop, ⊤}
+use Rattle.std.specs.Prelude.{◌≡◌, ◌↔◌, ℕ, ◌+◌, Bool, true, ℤ, List, [], ◌∷◌, length, take, drop, ⊤}
 use Rattle.pv_word.specs.declared.types.Ty.{Ty}
 use Rattle.pv_word.specs.Types.{width_of, InRange, pattern_of}
 use Rattle.pv_gate.specs.Value.{value_of}
@@ -15,6 +15,11 @@ pub record Form : Type 0 where
   pub state : List Ty
   pub input : List Ty
 
+-- how many bits values of these types have
+abbrev pub widths : List Ty → ℕ
+widths [] = 0
+widths (ty ∷ tys) = width_of ty + widths tys
+
 -- the bits are those of the value
 pub record AreBitsOf (ty : Ty) (bits : List Bool) (v : ℤ) : Type 0 where
   pub width : length bits ≡ width_of ty
@@ -28,7 +33,13 @@ Denote [] bits (v ∷ vs) = ⊥
 Denote (ty ∷ tys) bits [] = ⊥
 Denote (ty ∷ tys) bits (v ∷ vs) = AreBitsOf ty (take (width_of ty) bits) v × Denote tys (drop (width_of ty) bits) vs
 
--- the bits of a state that are denoted: those of parameters that are bound have one value
+-- the circuit and the starts have as many bits as the form
+pub record HasForm (form : Form) (start : List Start) (c : Circuit) : Type 0 where
+  pub start : length start ≡ length c.state_in
+  pub state : length c.state_in ≡ widths form.state
+  pub input : length c.input ≡ widths form.input
+
+-- values whose bits are denoted: of a state those that the bits of bound parameters allow, of an input all
 pub record HasRanges (m : Machine) (form : Form) (start : List Start) : Type 0 where
   pub state : (bits : List Bool) (s : Values) → Denote form.state bits s → (IsState m s ↔ AreState start bits)
   pub input : (bits : List Bool) (i : Values) → Denote form.input bits i → IsInput m i
@@ -53,6 +64,7 @@ pub record Denotes (form : Form) (c : Circuit) (s i : Values) : Type 0 where
 
 -- the circuit does the steps of the machine
 pub record Steps (m : Machine) (form : Form) (start : List Start) (c : Circuit) : Type 0 where
+  pub form : HasForm form start c
   pub ranges : HasRanges m form start
   pub starts : HasStarts m form start
   pub scan : (s i : Values) → IsState m s → IsInput m i → (d : Denotes form c s i) → IsScan m form start c d.inputs s i

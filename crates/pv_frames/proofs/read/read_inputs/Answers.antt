@@ -9,24 +9,24 @@ use Rattle.pv_frames.proofs.read.read_inputs.Goals as goal
 
 pub read_bits-requires-clause-few : goal.read_bits-requires-clause-few
 read_bits-requires-clause-few g c =
-    omega (arith, c.requires.fit.few c.loop-j.j (omega (arith, c.loop-j-test.true, c.frame_count.ensures)), c.loop-j.invariant.table.next)
+    omega (arith, c.requires.fit.few c.loop-j._j (omega (arith, c.loop-j-test.true, c.frame_count.ensures)), c.loop-j.invariant.table.next)
 
 pub read_bits-requires-clause-inside : goal.read_bits-requires-clause-inside
 read_bits-requires-clause-inside g c =
     let seen = circuit_seen c.args.c.now in
     let v = g.V.Values.assigned c.args.values.now in
-    let room = c.requires.fit.inside c.loop-j.j (omega (arith, c.loop-j-test.true, c.frame_count.ensures)) in
-    let all = table-inside seen c.args.start.now c.args.query c.requires.fit.state_in c.requires.fit.state_out c.loop-j.j v (omega (arith, room, c.requires.values)) in
+    let room = c.requires.fit.inside c.loop-j._j (omega (arith, c.loop-j-test.true, c.frame_count.ensures)) in
+    let all = table-inside seen c.args.start.now c.args.query c.requires.fit.state_in c.requires.fit.state_out c.loop-j._j v (omega (arith, room, c.requires.values)) in
     λ n one le. ap (is_outside v) (c.loop-j.invariant.table.same n one le) ∙ all n one le
 
 pub next_table-requires-clause-few : goal.next_table-requires-clause-few
 next_table-requires-clause-few g c =
-    omega (arith, c.requires.fit.few c.loop-j.j (omega (arith, c.loop-j-test.true, c.frame_count.ensures)), c.loop-j.invariant.table.next)
+    omega (arith, c.requires.fit.few c.loop-j._j (omega (arith, c.loop-j-test.true, c.frame_count.ensures)), c.loop-j.invariant.table.next)
 
 pub loop-j-preserved : goal.loop-j-preserved
 loop-j-preserved g c =
     let seen = circuit_seen c.args.c.now in
-    let j = c.loop-j.j in
+    let j = c.loop-j._j in
     let truth = g.V.Values.truth c.args.values.now in
     let same = bits-same truth (table_frame c.loop-j.begins c.loop-j.gates) (table seen c.args.start.now c.args.query j) (length c.args.c.now.gates.nodes)
     c.args.c.now.input.items c.loop-j.invariant.table.same c.requires.fit.input in
