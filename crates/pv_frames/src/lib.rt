@@ -14,8 +14,6 @@ pub mod laws;
 mod push;
 pub mod query;
 mod read;
-#[cfg(test)]
-mod rows;
 mod short;
 mod table;
 

@@ -8,6 +8,8 @@ mod calls;
 mod certificates;
 mod clauses;
 mod logs;
+mod programs;
+mod queries;
 mod texts;
 
 use calls::{Base, NAMES};
