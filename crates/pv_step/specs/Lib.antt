@@ -3,3 +3,4 @@ pub mod Circuits
 pub mod Correct
 -- what private clauses cite
 pub mod Wiring
+pub mod Steps
