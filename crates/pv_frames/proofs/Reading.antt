@@ -10,8 +10,8 @@ use Rattle.pv_circuit.specs.Circuits.{Circuit}
 use Rattle.pv_cert.specs.declared.proof.Query.{Query}
 use Rattle.pv_cnf.specs.Literal.{variable_of, literal_value, is_outside}
 use Rattle.pv_frames.specs.Frames.{Frame, literal_in}
-use Rattle.pv_frames.specs.Queries.{table}
-use Rattle.pv_frames.specs.Runs.{input_in}
+use Rattle.pv_frames.specs.Queries.{table, frames}
+use Rattle.pv_frames.specs.Runs.{BitRun, run_with, input_in, run_of}
 use Rattle.pv_frames.proofs.Agreeing.{Agree, literal-same}
 
 -- a literal over the variables 1 to v
@@ -59,3 +59,12 @@ bits-same values f g m [] same names = refl
 bits-same values f g m (l ∷ ls) same names =
     ap (λ (lit : ℕ). literal_value values lit ∷ map (λ z. literal_value values (literal_in f z)) ls) (literal-same f g m l same (names 0 l (omega arith)))
     ∙ ap (λ (bs : List Bool). literal_value values (literal_in g l) ∷ bs) (bits-same values f g m ls same (λ k d lt. names (suc k) d (omega arith)))
+
+-- a run that is read
+pub run-read : (c : Circuit) (start : List Start) (q : Query) (values : ℕ → Bool) (f : Frame) (state : List Bool) (inputs : List (List Bool))
+    → Agree (length c.nodes) f (table c start q 0) → All (Names (length c.nodes)) c.state_in
+    → state ≡ map (λ l. literal_value values (literal_in f l)) c.state_in → inputs ≡ map (input_in c values) (frames c start q)
+    → run_with state inputs ≡ run_of c start q values
+run-read c start q values f state inputs same names is are =
+    ap (λ (bs : List Bool). run_with bs inputs) (is ∙ bits-same values f (table c start q 0) (length c.nodes) c.state_in same names)
+    ∙ ap (λ (bss : List (List Bool)). run_with (map (λ l. literal_value values (literal_in (table c start q 0) l)) c.state_in) bss) are

@@ -49,9 +49,13 @@ run_of c start q values = record {
   inputs = map (input_in c values) (frames c start q);
 }
 
+-- a run of these bits
+abbrev pub run_with : List Bool → List (List Bool) → BitRun
+run_with state inputs = record { state = state; inputs = inputs }
+
 -- a run of the code as plain data
 abbrev pub run_seen : BitTrace → BitRun
-run_seen trace = record { state = trace.state; inputs = trace.inputs }
+run_seen trace = run_with trace.state trace.inputs
 
 -- values by which the formula of a query holds and that stand for the run
 pub record HasValues (c : Circuit) (start : List Start) (q : Query) (run : BitRun) : Type 0 where

@@ -82,6 +82,32 @@ fn read_inputs<V: Values>(
     Ok(inputs)
 }
 
+/// The run that values stand for, where the first frame's literals are laid.
+fn read_laid<V: Values>(
+    alloc: Global,
+    c: &StepCircuit,
+    start: &[Start],
+    query: Query,
+    begins: &mut [Option<u32>],
+    first: u32,
+    given: &mut [Option<u32>],
+    values: &V,
+) -> Result<BitTrace, AllocError>
+    requires fit { IsFit (circuit_seen c.now) start.now query }
+    requires query { IsAsked query }
+    requires table { IsTable (circuit_seen c.now) begins.old first
+        (frame_at (circuit_seen c.now) start.now query 0) }
+    requires begins { length begins.old ≡ length c.now.state_in.items + length c.now.input.items }
+    requires given { length given.old ≡ length c.now.state_in.items }
+    requires values { variable_count (circuit_seen c.now) start.now query ≤ V.assigned values.now }
+    ensures { IfOk result (λ trace. run_seen trace
+        ≡ run_of (circuit_seen c.now) start.now query (V.truth values.now)) }
+{
+    let state = read_bits(alloc, c, begins, first, &c.state_in, values)?;
+    let inputs = read_inputs(alloc, c, start, query, begins, first, given, values)?;
+    Ok(BitTrace { state, inputs })
+}
+
 /// The run that values of a query's variables stand for: the bits of the first frame's state, and of
 /// each frame's input, in the circuit's order.
 ///
@@ -107,8 +133,7 @@ pub fn read_frames<V: Values>(
 
     fit(c, start, query);
     let gates = lay(&mut begins, &c.state_in, &given, 2);
-    let state = read_bits(alloc, c, &begins, gates, &c.state_in, values)?;
-    let inputs = read_inputs(
+    read_laid(
         alloc,
         c,
         start,
@@ -117,6 +142,5 @@ pub fn read_frames<V: Values>(
         gates,
         &mut given,
         values,
-    )?;
-    Ok(BitTrace { state, inputs })
+    )
 }

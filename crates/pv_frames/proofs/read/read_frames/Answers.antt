@@ -1,17 +1,11 @@
-use Rattle.std.proofs.Common.{arith, ◌≡◌, ◌+◌, ◌-◌, ◌∙◌, ℕ, ℤ, List, Bool, false, length, All, sym, ap, subst}
-use Rattle.pv_cnf.specs.Literal.{is_outside}
+use Rattle.std.proofs.Common.{arith, ◌≡◌, ◌+◌, ℕ, length, All, sym, subst}
 use Rattle.pv_circuit.specs.Made.{circuit_seen}
-use Rattle.pv_frames.specs.Queries.{frame_count, frame_at, table}
-use Rattle.pv_frames.specs.Tables.{IsBegin, IsTable, table_frame}
-use Rattle.pv_frames.specs.Runs.{run_of}
-use Rattle.pv_frames.proofs.FromCircuit.{some-frames}
-use Rattle.pv_frames.proofs.Inside.{table-inside}
-use Rattle.pv_frames.proofs.Reading.{bits-same}
+use Rattle.pv_frames.specs.Tables.{IsBegin}
 use Rattle.pv_frames.proofs.Scanning.{table-first}
 use Rattle.pv_frames.proofs.read.read_frames.Goals as goal
 
-pub read_inputs-requires-clause-table : goal.read_inputs-requires-clause-table
-read_inputs-requires-clause-table g c =
+pub read_laid-requires-clause-table : goal.read_laid-requires-clause-table
+read_laid-requires-clause-table g c =
     let long : length c.lay-gates.new.begins ≡ length c.args.c.now.state_in.items + length c.args.c.now.input.items =
     omega (arith, c.lay-gates.ensures.long, c.in_ok-begins.ensures.len, c.len.ensures, c.len-2.ensures) in
     table-first (circuit_seen c.args.c.now) c.args.start.now c.args.query c.deref.result.now _ c.lay-gates.new.begins c.lay-gates.result _
