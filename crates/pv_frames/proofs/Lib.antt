@@ -13,6 +13,7 @@ pub mod Inside
 pub mod Counting
 pub mod FromCircuit
 pub mod QueryLists
+pub mod FormulaLaws
 pub mod Scanning
 pub mod Reading
 pub mod FrameValues

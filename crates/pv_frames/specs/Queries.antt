@@ -1,6 +1,6 @@
 -- The formula of a query over a step circuit (after Sheeran, Singh and Stålmarck): base(k) has k frames, step(k) has k + 1, each of
 -- which is a scan that goes on from the one before it. All but the last are done and don't fail, and the last fails.
-use Rattle.std.specs.Prelude.{◌≡◌, ℕ, zero, suc, ◌+◌, ◌-◌, ◌*◌, ◌≤◌, ◌==◌, nat_lt, ℤ, pos, Bool, true, false, ◌&&◌}
+use Rattle.std.specs.Prelude.{◌≡◌, ℕ, zero, suc, ◌+◌, ◌-◌, ◌*◌, ◌^◌, ◌<◌, ◌≤◌, ◌==◌, nat_lt, ℤ, pos, Bool, true, false, ◌&&◌}
 use Rattle.std.specs.Prelude.{if◌then◌else◌, List, [], ◌∷◌, length, map, count_by, Option, Some, None, unwrap_or}
 use Rattle.std.specs.Option.{is_some, is_none}
 use Rattle.std.specs.Ordering.{int_eq}
@@ -11,6 +11,7 @@ use Rattle.pv_circuit.specs.Circuits.{Circuit}
 use Rattle.pv_circuit.specs.Starts.{next_of}
 use Rattle.pv_cert.specs.declared.proof.Query.{Query}
 use Rattle.pv_cert.specs.declared.proof.Query.TheVariants.{Base, Step}
+use Rattle.pv_cnf.specs.Clause.{AreClauses}
 use Rattle.pv_frames.specs.Frames.{Frame, literal_in}
 use Rattle.pv_frames.specs.Formulas.{formula}
 
@@ -112,3 +113,9 @@ abbrev pub variable_count : Circuit → List Start → Query → ℕ
 variable_count c start q =
     (length c.nodes - count_by (λ s. is_some (first_of q s)) start)
     + (frame_count q - 1) * (length c.nodes - (1 + length c.state_in))
+
+-- the clauses are over the query's variables, no variable twice in one and none empty, and neither are there too many
+pub record IsFormula (c : Circuit) (start : List Start) (q : Query) : Type 0 where
+  pub clauses : AreClauses (variable_count c start q) (query_clauses c start q)
+  pub few : length (query_clauses c start q) < 2 ^ 32 - 1
+  pub variables : variable_count c start q ≤ 1 + 65 * 30000000

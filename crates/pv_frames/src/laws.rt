@@ -1,7 +1,7 @@
 //! Laws of the formulas, each the contract of a function that does nothing.
 ghost use Rattle.std.specs.Prelude.{◌≡◌, ◌↔◌, ◌≤◌, ℕ, ℤ, Bool, true, false, List, length};
 ghost use Rattle.pv_gate.specs.declared.netlist.Node.{Node};
-ghost use Rattle.pv_gate.specs.Node.{Names};
+ghost use Rattle.pv_gate.specs.Node.{Names, gate_count};
 ghost use Rattle.pv_gate.specs.Netlist.{IsNetlist};
 ghost use Rattle.pv_gate.specs.Value.{value_of};
 ghost use Rattle.pv_cnf.specs.Clause.{AreClauses, Holds};
@@ -12,8 +12,11 @@ ghost use Rattle.pv_circuit.specs.Circuits.{Circuit, IsCircuit};
 ghost use Rattle.pv_cert.specs.declared.proof.Query.{Query};
 ghost use Rattle.pv_circuit.specs.Starts.{NoneFixed};
 ghost use Rattle.pv_cert.specs.declared.proof.Query.TheVariants.{Step};
-ghost use Rattle.pv_frames.specs.Queries.{IsAsked, query_clauses};
+ghost use Rattle.pv_frames.specs.Queries.{IsAsked, IsFormula, query_clauses};
 ghost use Rattle.pv_frames.specs.Runs.{BitRun, Meets, run_of, HasValues, AreScans};
+
+use crate::push::MAX_QUERY_GATES;
+use crate::query::MAX_QUERY_NODES;
 
 /// The clauses of step(0) are over one variable for each node: no store of as many variables finds a
 /// clause out of range, doubled or empty.
@@ -37,6 +40,14 @@ pub fn step_refuted_where_nothing_fails()
     ensures { (nodes : List Node) (fail : ℤ) → IsNetlist nodes → Names (length nodes) fail
         → ((values : ℕ → Bool) → Holds values (step_clauses nodes fail) → ⊥)
         ↔ ((inputs : ℕ → Bool) → value_of inputs nodes fail ≡ false) }
+{}
+
+/// The formula of a query is over its variables, and few enough to be counted.
+pub fn queries_are_formulas()
+    ensures { (c : Circuit) (start : List Start) (q : Query)
+        → IsCircuit c → length start ≡ length c.state_in → IsAsked q
+        → length c.nodes ≤ MAX_QUERY_NODES → gate_count c.nodes ≤ MAX_QUERY_GATES
+        → IsFormula c start q }
 {}
 
 /// Values that make the formula of a query hold stand for a run of the circuit's bits that meets it: a
