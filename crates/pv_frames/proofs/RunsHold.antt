@@ -21,7 +21,7 @@ use Rattle.pv_frames.specs.Frames.{Frame, literal_in, frame_clauses}
 use Rattle.pv_frames.specs.Formulas.{unit}
 use Rattle.pv_frames.specs.Values.{AreFrameValues}
 use Rattle.pv_frames.specs.Queries.{frame_count, first_of, constant, given_for, is_own, own_below, numbered, Numbered, frame_by, frame_at, next_literals, table, asked_in, query_clauses}
-use Rattle.pv_frames.specs.Runs.{BitRun, BeginsWith, FailsAtLast, Meets, input_in, run_of, HasValues, AreScans}
+use Rattle.pv_frames.specs.Runs.{BitRun, BeginsWith, FailsAtLast, Meets, run_with, input_in, run_of, HasValues, AreScans}
 use Rattle.pv_frames.specs.Tables.{Inside}
 use Rattle.pv_frames.proofs.Literals.{value-plain}
 use Rattle.pv_frames.proofs.Written.{written-means}
@@ -348,8 +348,8 @@ by-run c start q run is r end long fails given =
         gates = λ j lt. runs.gates j (omega arith) (omega (arith, lt, end));
         goals = λ j lt. runs.goals j (omega arith) (omega (arith, lt, end));
       });
-      read = ap (λ (bs : List Bool). record { state = bs; inputs = (run_of c start q runs.values).inputs }) runs.state
-          ∙ ap (λ (iss : List (List Bool)). record { state = run.state; inputs = iss }) read;
+      read = ap (λ (bs : List Bool). run_with bs (run_of c start q runs.values).inputs) runs.state
+          ∙ ap (λ (iss : List (List Bool)). run_with run.state iss) read;
     }
 
 start-given : (k : ℕ) (start : List Start) (s : List Bool) → AreStart start s → AreGiven at_first (map (first_of (Base k)) start) s

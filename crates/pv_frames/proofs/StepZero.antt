@@ -34,8 +34,9 @@ zero-agrees c start none n one le = elim (cases_eq n 1) [
       ap (λ (b : Bool). cond b 2 (unwrap_or (given n) (2 * (2 + own_below given n)))) (eq-eqb n 1 e) ∙ omega (arith, e)
   | inr ne ↦
       let more = own-behind given 2 n (lit≤ tt) (omega (arith, one, ne)) (λ i far. all i) in
+      let base : own_below given 2 ≡ 0 = refl in
       numbered-is given 2 n (omega (arith, one, ne))
-      ∙ (ap (λ (o : Option ℕ). unwrap_or o (2 * (2 + own_below given n))) (all n) ∙ omega (arith, more, one, ne))
+      ∙ (ap (λ (o : Option ℕ). unwrap_or o (2 * (2 + own_below given n))) (all n) ∙ omega (arith, more, base, one, ne))
 ]
   where
     given : ℕ → Option ℕ
@@ -46,7 +47,6 @@ zero-agrees c start none n one le = elim (cases_eq n 1) [
 
 pub step-zero : (c : Circuit) (start : List Start) → IsCircuit c → NoneFixed start → query_clauses c start (Step 0) ≡ step_clauses c.nodes c.fail
 step-zero c start is none =
-    let f = table c start (Step 0) 0 in
     let same = zero-agrees c start none in
     ap (λ (cs : List (List ℕ)). flat_map written (unit 2 ∷ ((cs ++ []) ++ (unit (literal_in (table c start (Step 0) 0) c.fail) ∷ []))))
     (frames-agree (table c start (Step 0) 0) own_variables c.nodes is.netlist same)
