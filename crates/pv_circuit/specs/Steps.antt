@@ -35,7 +35,7 @@ Denote (ty ∷ tys) bits (v ∷ vs) = AreBitsOf ty (take (width_of ty) bits) v �
 
 -- the circuit and the starts have as many bits as the form
 pub record HasForm (form : Form) (start : List Start) (c : Circuit) : Type 0 where
-  pub start : length start ≡ length c.state_in
+  pub starts : length start ≡ length c.state_in
   pub state : length c.state_in ≡ widths form.state
   pub input : length c.input ≡ widths form.input
 
@@ -64,7 +64,7 @@ pub record Denotes (form : Form) (c : Circuit) (s i : Values) : Type 0 where
 
 -- the circuit does the steps of the machine
 pub record Steps (m : Machine) (form : Form) (start : List Start) (c : Circuit) : Type 0 where
-  pub form : HasForm form start c
+  pub bits : HasForm form start c
   pub ranges : HasRanges m form start
   pub starts : HasStarts m form start
   pub scan : (s i : Values) → IsState m s → IsInput m i → (d : Denotes form c s i) → IsScan m form start c d.inputs s i

@@ -39,7 +39,7 @@ inputs-are c is =
     let count = length-map-range_with_len (λ i. pos (2 + i)) 0 (input_count c.nodes) in
     omega (arith, long, count, length-append c.state_in c.input)
 
-begins-of : (c : Circuit) → IsCircuit c → All (IsBegin (length c.state_in + length c.input)) c.state_in
+pub begins-of : (c : Circuit) → IsCircuit c → All (IsBegin (length c.state_in + length c.input)) c.state_in
 begins-of c is =
     let n = length c.state_in + length c.input in
     let all = All-from_recursion (IsBegin n) (input_literals 0 (input_count c.nodes)) (literals-begin n 0 (input_count c.nodes) (omega (arith, inputs-are c is))) in

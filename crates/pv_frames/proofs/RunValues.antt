@@ -1,5 +1,5 @@
 -- Values by which the formula of a query holds stand for a run that meets it.
-use Rattle.std.proofs.Common.{◌≡◌, ℕ, ℤ, pos, negsuc, ◌+◌, ◌<◌, ◌≤◌, zero, suc, Bool, true, false, not, cond, eqb, ◌&&◌, ◌||◌, List, [], ◌∷◌, ◌++◌, length, take, map, get_or, All, Option, Some, None, unwrap_or, unsigned_abs, int_eq, refl, sym, ◌∙◌, ap, subst, arith, lit≤, length-take-le}
+use Rattle.std.proofs.Common.{◌≡◌, ℕ, ℤ, pos, negsuc, ◌+◌, ◌*◌, ◌<◌, ◌≤◌, zero, suc, Bool, true, false, not, cond, eqb, ◌&&◌, ◌||◌, List, [], ◌∷◌, ◌++◌, length, take, map, get_or, All, Option, Some, None, unwrap_or, unsigned_abs, int_eq, refl, sym, ◌∙◌, ap, subst, arith, lit≤, length-take-le}
 use Rattle.std.specs.List.{list_all, list_any, flat_map, range_with_len}
 use Rattle.std.proofs.lemmas.Bool.{and_parts, eq-eqb, ne_eqb, eqb-true, eqb-false, or_left, or_right, true≢false, false_from_ne_true}
 use Rattle.std.proofs.lemmas.Cmp.{int_eq_equiv}
@@ -27,7 +27,7 @@ use Rattle.pv_frames.specs.Runs.{BitRun, BeginsWith, FailsAtLast, Meets, input_i
 use Rattle.pv_frames.specs.Tables.{IsBegin}
 use Rattle.pv_frames.proofs.Written.{written-means}
 use Rattle.pv_frames.proofs.Giving.{given-more, numbered-is}
-use Rattle.pv_frames.proofs.Counting.{Distinct, distinct, given-absent, length-next_of}
+use Rattle.pv_frames.proofs.Counting.{Distinct, distinct, length-next_of}
 use Rattle.pv_frames.proofs.FromCircuit.{begins-of, some-frames}
 use Rattle.pv_frames.proofs.FrameValues.{frame-only, literal-is}
 

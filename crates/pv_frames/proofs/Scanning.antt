@@ -90,6 +90,12 @@ table-first c start q ls gs begins gates many is all room these long laid next =
 
 -- ---- what is given
 
+-- what stands at a place doesn't hang on what would be read past the end
+pub get-same : {A : Type 0} (xs : List A) (k : ℕ) (d e : A) → k < length xs → get_or xs k d ≡ get_or xs k e
+get-same [] k d e lt = absurd (omega (arith, lt))
+get-same (x ∷ xs) zero d e lt = refl
+get-same (x ∷ xs) (suc k) d e lt = get-same xs k d e (omega (arith, lt))
+
 -- one more bit is filled
 pub next-filled : (start : List Start) (xs ys : List ℕ) (given whole : List (Option ℕ)) (k lit : ℕ) → k < length start → length xs ≡ length start → length ys ≡ length start
     → length given ≡ length start → lit ≡ cond (is_moved (get_or start k Free)) (get_or ys k 0) (get_or xs k 0)

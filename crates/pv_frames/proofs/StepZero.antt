@@ -13,20 +13,17 @@ use Rattle.pv_frames.specs.Queries.{first_of, given_for, own_below, table, query
 use Rattle.pv_frames.proofs.Giving.{own-behind, numbered-is}
 use Rattle.pv_frames.proofs.Agreeing.{Agree, literal-same, frames-agree}
 
+either : (ls : List ℤ) (start : List Start) (n : ℕ) (b : Bool) → given_for None ls (map (first_of (Step 0)) start) n ≡ None
+    → given_for (cond b None None) ls (map (first_of (Step 0)) start) n ≡ None
+either ls start n true rest = rest
+either ls start n false rest = rest
+
 given-none : (ls : List ℤ) (start : List Start) (n : ℕ) → NoneFixed start → given_for None ls (map (first_of (Step 0)) start) n ≡ None
 given-none [] start n none = refl
 given-none (l ∷ ls) [] n none = refl
 given-none (l ∷ ls) (Fixed b ∷ start) n none = absurd (none.0 tt)
-given-none (l ∷ ls) (Begins b ∷ start) n none = by (int_eq l (pos n))
-  where
-    by : (b : Bool) → given_for (cond b None None) ls (map (first_of (Step 0)) start) n ≡ None
-    by true = given-none ls start n none.1
-    by false = given-none ls start n none.1
-given-none (l ∷ ls) (Free ∷ start) n none = by (int_eq l (pos n))
-  where
-    by : (b : Bool) → given_for (cond b None None) ls (map (first_of (Step 0)) start) n ≡ None
-    by true = given-none ls start n none.1
-    by false = given-none ls start n none.1
+given-none (l ∷ ls) (Begins b ∷ start) n none = either ls start n (int_eq l (pos n)) (given-none ls start n none.1)
+given-none (l ∷ ls) (Free ∷ start) n none = either ls start n (int_eq l (pos n)) (given-none ls start n none.1)
 
 zero-agrees : (c : Circuit) (start : List Start) → NoneFixed start → Agree (length c.nodes) (table c start (Step 0) 0) own_variables
 zero-agrees c start none n one le = elim (cases_eq n 1) [

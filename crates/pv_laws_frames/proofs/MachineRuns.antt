@@ -70,7 +70,7 @@ one-scan : (m : Machine) (form : Form) (start : List Start) (c : Circuit) → St
     → (scan : BeginsWith c bits input) → OneScan m form start c s bits input scan
 one-scan m form start c steps s bits input den are scan =
     let long : length input ≡ widths form.input =
-    sym (ap (λ (bs : List Bool). length bs) scan.input_is) ∙ (length-map c.input (value_of scan.inputs c.nodes) ∙ steps.form.input) in
+    sym (ap (λ (bs : List Bool). length bs) scan.input_is) ∙ (length-map c.input (value_of scan.inputs c.nodes) ∙ steps.bits.input) in
     let found = denoted form.input input long in
     let is_input = steps.ranges.input input found.0 found.1 in
     let d : Denotes form c s found.0 = record {
@@ -105,7 +105,7 @@ numbers m form start c is steps s bits den are (i ∷ k ∷ inputs) h =
     subst (λ (bs : List Bool). Denote form.state (next_of start bs (values_of scan.inputs c.nodes c.state_out)) good.0) scan.state_is
     (one.does.next good.0 good.1.done) in
     let long : length (values_of scan.inputs c.nodes c.state_out) ≡ length start =
-    length-map c.state_out (value_of scan.inputs c.nodes) ∙ (is.same_state ∙ sym steps.form.start) in
+    length-map c.state_out (value_of scan.inputs c.nodes) ∙ (is.same_state ∙ sym steps.bits.starts) in
     let more = numbers m form start c is steps good.0 (next_of start bits (values_of scan.inputs c.nodes c.state_out)) next
     (state-behind start bits (values_of scan.inputs c.nodes c.state_out) are long) (k ∷ inputs) h.2 in
     record {
@@ -119,7 +119,7 @@ numbers m form start c is steps s bits den are (i ∷ k ∷ inputs) h =
 pub base-stands : (m : Machine) (form : Form) (start : List Start) (c : Circuit) (k : ℕ) (values : ℕ → Bool) → IsCircuit c → Steps m form start c → IsAsked (Base k)
     → Holds values (query_clauses c start (Base k)) → StandsForBase m form k (run_of c start (Base k) values)
 base-stands m form start c k values is steps asks holds =
-    let meets = run-meets c start (Base k) values is steps.form.start asks holds in
+    let meets = run-meets c start (Base k) values is steps.bits.starts asks holds in
     let begin = steps.starts.all (run_of c start (Base k) values).state meets.0 in
     let found = numbers m form start c is steps (m.start begin.0) (run_of c start (Base k) values).state begin.2
     (are-state start (run_of c start (Base k) values).state meets.0) (run_of c start (Base k) values).inputs meets.2 in
@@ -139,9 +139,9 @@ base-stands m form start c k values is steps asks holds =
 pub step-stands : (m : Machine) (form : Form) (start : List Start) (c : Circuit) (k : ℕ) (values : ℕ → Bool) → IsCircuit c → Steps m form start c → IsAsked (Step k)
     → Holds values (query_clauses c start (Step k)) → StandsForStep m form k (run_of c start (Step k) values)
 step-stands m form start c k values is steps asks holds =
-    let meets = run-meets c start (Step k) values is steps.form.start asks holds in
+    let meets = run-meets c start (Step k) values is steps.bits.starts asks holds in
     let long : length (run_of c start (Step k) values).state ≡ widths form.state =
-    length-map c.state_in _ ∙ steps.form.state in
+    length-map c.state_in _ ∙ steps.bits.state in
     let found_state = denoted form.state (run_of c start (Step k) values).state long in
     let found = numbers m form start c is steps found_state.0 (run_of c start (Step k) values).state found_state.1 meets.0 (run_of c start (Step k) values).inputs meets.2 in
     record {
@@ -197,7 +197,7 @@ bits-of m form start c is steps s bits den state (i ∷ j ∷ values) all h =
     let next : Denote form.state (next_of start bits (values_of d.inputs c.nodes c.state_out)) h.0 =
     subst (λ (bs : List Bool). Denote form.state (next_of start bs (values_of d.inputs c.nodes c.state_out)) h.0) same (does.next h.0 h.1.done) in
     let long : length (values_of d.inputs c.nodes c.state_out) ≡ length start =
-    length-map c.state_out (value_of d.inputs c.nodes) ∙ (is.same_state ∙ sym steps.form.start) in
+    length-map c.state_out (value_of d.inputs c.nodes) ∙ (is.same_state ∙ sym steps.bits.starts) in
     let behind = state-behind start bits (values_of d.inputs c.nodes c.state_out) ((steps.ranges.state bits s den).0 state) long in
     let more = bits-of m form start c is steps h.0 (next_of start bits (values_of d.inputs c.nodes c.state_out)) next
     ((steps.ranges.state (next_of start bits (values_of d.inputs c.nodes c.state_out)) h.0 next).1 behind) (j ∷ values) all.1 h.2 in

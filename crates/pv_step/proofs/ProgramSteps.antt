@@ -95,7 +95,7 @@ form program is =
     let input : length (circuit_of program).input ≡ input_len program.bits =
     sym (length-map (circuit_of program).input (value_of (λ n. false) (circuit_of program).nodes)) ∙ long.input in
     record {
-      start = long-starts program ∙ sym state;
+      starts = long-starts program ∙ sym state;
       state = state ∙ sym (widths-bools (state_len program.bits));
       input = input ∙ sym (widths-bools (input_len program.bits));
     }
@@ -167,7 +167,7 @@ every program is s i state input =
 
 pub does_the_steps : (program : ProgramTree) → IsProgram program → Steps (machine_of program) (form_of program) (starts_of program) (circuit_of program)
 does_the_steps program is = record {
-  form = form program is;
+  bits = form program is;
   ranges = ranges program;
   starts = starts program;
   scan = λ s i state input d. scan program is s i d;

@@ -5,7 +5,7 @@ use Rattle.pv_circuit.specs.declared.start.Start.TheVariants.{Free}
 use Rattle.pv_circuit.specs.Starts.{is_moved, next_of}
 use Rattle.pv_frames.specs.Frames.{literal_in}
 use Rattle.pv_frames.specs.Tables.{table_frame}
-use Rattle.pv_frames.proofs.Scanning.{next-filled}
+use Rattle.pv_frames.proofs.Scanning.{get-same, next-filled}
 use Rattle.pv_frames.proofs.query.advance.Goals as goal
 
 pub loop-k-preserved : goal.loop-k-preserved
@@ -14,12 +14,12 @@ loop-k-preserved c =
     let ins = c.args.c.now.state_in.items in
     let outs = c.args.c.now.state_out.items in
     let k = c.loop-k.k in
-    let i = slice_index_or ins k (pos 0) in
-    let o = slice_index_or outs k (pos 0) in
-    let fits_i : FitsSigned w32 i = search rules in
-    let fits_o : FitsSigned w32 o = search rules in
-    let begin = c.literal-begin.ensures ∙ (ap f (to_z-of_z w32 i fits_i) ∙ sym (get_or-map f ins k (pos 0) 0 (omega (arith, c.loop-k-test.true, c.requires.start)))) in
-    let end = c.literal-end.ensures ∙ (ap f (to_z-of_z w32 o fits_o) ∙ sym (get_or-map f outs k (pos 0) 0 (omega (arith, c.loop-k-test.true, c.requires.start, c.requires.end)))) in
+    let fits_i : FitsSigned w32 c.index.result.now = search rules in
+    let fits_o : FitsSigned w32 c.index-2.result.now = search rules in
+    let at_i = c.index.ensures ∙ get-same ins k c.index.result.now (pos 0) (omega (arith, c.loop-k-test.true, c.requires.start)) in
+    let at_o = c.index-2.ensures ∙ get-same outs k c.index-2.result.now (pos 0) (omega (arith, c.loop-k-test.true, c.requires.start, c.requires.end)) in
+    let begin = c.literal-begin.ensures ∙ (ap f (to_z-of_z w32 c.index.result.now fits_i ∙ at_i) ∙ sym (get_or-map f ins k (pos 0) 0 (omega (arith, c.loop-k-test.true, c.requires.start)))) in
+    let end = c.literal-end.ensures ∙ (ap f (to_z-of_z w32 c.index-2.result.now fits_o ∙ at_o) ∙ sym (get_or-map f outs k (pos 0) 0 (omega (arith, c.loop-k-test.true, c.requires.start, c.requires.end)))) in
     let s = slice_index_or c.args.start.now k Free in
     record {
       filled = next-filled c.args.start.now (map f ins) (map f outs) c.loop-k.given _ k c.next_literal.result c.loop-k-test.true

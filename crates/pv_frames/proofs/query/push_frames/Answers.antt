@@ -10,17 +10,17 @@ use Rattle.pv_frames.proofs.query.push_frames.Goals as goal
 
 pub returns-in_err-begins-clause-err : goal.returns-in_err-begins-clause-err
 returns-in_err-begins-clause-err g c =
-    let p = err_from_is_err_and c.from_residual.result c.from_residual.ensures in
+    let p = err_from_is_err_and c.from_residual.result c.from_residual.ensures.1 in
     rw (p.1, p.2) (stops-first (g.C.Clauses.overflow c.args.into.now) (g.C.Clauses.clauses c.args.into.now) _ _ _ (query-is (circuit_seen c.args.c.now) c.args.start.now c.args.query))
 
 pub returns-in_err-given-clause-err : goal.returns-in_err-given-clause-err
 returns-in_err-given-clause-err g c =
-    let p = err_from_is_err_and c.from_residual-in_err-given.result c.from_residual-in_err-given.ensures in
+    let p = err_from_is_err_and c.from_residual-in_err-given.result c.from_residual-in_err-given.ensures.1 in
     rw (p.1, p.2) (stops-first (g.C.Clauses.overflow c.args.into.now) (g.C.Clauses.clauses c.args.into.now) _ _ _ (query-is (circuit_seen c.args.c.now) c.args.start.now c.args.query))
 
 pub returns-in_err-goals-clause-err : goal.returns-in_err-goals-clause-err
 returns-in_err-goals-clause-err g c =
-    let p = err_from_is_err_and c.from_residual-in_err-goals.result c.from_residual-in_err-goals.ensures in
+    let p = err_from_is_err_and c.from_residual-in_err-goals.result c.from_residual-in_err-goals.ensures.1 in
     rw (p.1, p.2) (stops-first (g.C.Clauses.overflow c.args.into.now) (g.C.Clauses.clauses c.args.into.now) _ _ _ (query-is (circuit_seen c.args.c.now) c.args.start.now c.args.query))
 
 pub returns-clause-ok : goal.returns-clause-ok
@@ -36,5 +36,5 @@ push_laid-requires-clause-table g c =
     let long : length c.lay-gates.new.begins ≡ length c.args.c.now.state_in.items + length c.args.c.now.input.items =
     omega (arith, c.lay-gates.ensures.long, c.in_ok-begins.ensures.len, c.len.ensures, c.len-2.ensures) in
     table-first (circuit_seen c.args.c.now) c.args.start.now c.args.query c.deref.result.now _ c.lay-gates.new.begins c.lay-gates.result _
-    c.in_ok-given.ensures (subst (λ (n : ℕ). All (IsBegin n) c.args.c.now.state_in.items) (sym long) c.fit.ensures.begins)
+    (c.deref-2.ensures.value ∙ c.in_ok-given.ensures) (subst (λ (n : ℕ). All (IsBegin n) c.args.c.now.state_in.items) (sym long) c.fit.ensures.begins)
     (omega (arith, long, c.fit.ensures.inputs)) c.deref.ensures.value c.lay-gates.ensures.long c.lay-gates.ensures.laid c.lay-gates.ensures.next

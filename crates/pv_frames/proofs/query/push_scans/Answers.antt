@@ -65,8 +65,8 @@ returns-in_err-push_frame-clause-pushes g c =
     (subst (λ (cs : List (List ℕ)). StopsAt (g.C.Clauses.overflow c.loop-j.into) (g.C.Clauses.clauses c.loop-j.into) (flat_map written cs) (g.C.Clauses.clauses c.push_frame.new.into) c.in_err-push_frame.field-0.0)
     same c.in_err-push_frame.ensures.pushes)))
 
-pub next_table-requires-clause-few : goal.next_table-requires-clause-few
-next_table-requires-clause-few g c =
+pub next_table-gates-requires-clause-few : goal.next_table-gates-requires-clause-few
+next_table-gates-requires-clause-few g c =
     omega (arith, c.requires.fit.few c.loop-j.j (omega (arith, c.loop-j-test.true, c.requires.goals)), c.loop-j.invariant.table.next)
 
 pub loop-j-preserved : goal.loop-j-preserved
@@ -88,10 +88,10 @@ loop-j-preserved g c =
           (c.goal.ensures ∙ ap (λ (lit : ℕ). One lit) (goal-is seen c.args.start.now c.args.query f j (length c.loop-j.goals) c.loop-j.invariant.table.same
           c.requires.fit.ok c.requires.fit.fail (c.loop-j.invariant.long_goals ∙ c.requires.goals)))
           c.loop-j.invariant.goals;
-      table = c.next_table.ensures.next c.args.query j c.loop-j.invariant.table;
+      table = c.next_table-gates.ensures.next c.args.query j c.loop-j.invariant.table;
       long_goals = length-set c.loop-j.goals _ _ ∙ c.loop-j.invariant.long_goals;
-      long_begins = c.next_table.ensures.long_begins ∙ c.loop-j.invariant.long_begins;
-      long_given = c.next_table.ensures.long_given ∙ c.loop-j.invariant.long_given;
+      long_begins = c.next_table-gates.ensures.long_begins ∙ c.loop-j.invariant.long_begins;
+      long_given = c.next_table-gates.ensures.long_given ∙ c.loop-j.invariant.long_given;
       variables = c.push_frame.ensures.variables_kept ∙ c.loop-j.invariant.variables;
       takes = c.push_frame.ensures.takes_kept ∙ c.loop-j.invariant.takes;
       overflow = (λ all. c.push_frame.ensures.overflow_kept all ∙ c.loop-j.invariant.overflow all);

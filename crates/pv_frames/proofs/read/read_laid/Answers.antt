@@ -1,5 +1,6 @@
-use Rattle.std.proofs.Common.{arith, ◌≡◌, ◌+◌, ◌-◌, ◌∙◌, ap, length, false}
-use Rattle.pv_cnf.specs.Literal.{is_outside}
+use Rattle.std.proofs.Common.{arith, ◌≡◌, ◌+◌, ◌-◌, ◌∙◌, ap, length, map, false}
+use Rattle.pv_cnf.specs.Literal.{literal_value, is_outside}
+use Rattle.pv_frames.specs.Frames.{literal_in}
 use Rattle.pv_circuit.specs.Made.{circuit_seen}
 use Rattle.pv_frames.specs.Tables.{table_frame}
 use Rattle.pv_frames.proofs.FromCircuit.{some-frames}
@@ -21,4 +22,6 @@ read_bits-requires-clause-inside g c =
 pub returns : goal.returns
 returns g c =
     run-read (circuit_seen c.args.c.now) c.args.start.now c.args.query (g.V.Values.truth c.args.values.now) (table_frame c.args.begins.now c.args.first)
-    c.in_ok-state.field-0 c.in_ok-inputs.field-0 c.requires.table.same c.requires.fit.state_in c.in_ok-state.ensures c.in_ok-inputs.ensures
+    c.in_ok-state.state c.in_ok-inputs.inputs c.requires.table.same c.requires.fit.state_in
+    (c.in_ok-state.ensures ∙ ap (map (λ z. literal_value (g.V.Values.truth c.args.values.now) (literal_in (table_frame c.args.begins.now c.args.first) z))) c.deref.ensures.value)
+    c.in_ok-inputs.ensures
