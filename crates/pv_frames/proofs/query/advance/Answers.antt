@@ -15,11 +15,11 @@ loop-k-preserved c =
     let outs = c.args.c.now.state_out.items in
     let k = c.loop-k.k in
     let fits_i : FitsSigned w32 c.index.result.now = search rules in
-    let fits_o : FitsSigned w32 c.index-2.result.now = search rules in
+    let fits_o : FitsSigned w32 c.index-in-loop-k.result.now = search rules in
     let at_i = c.index.ensures ∙ get-same ins k c.index.result.now (pos 0) (omega (arith, c.loop-k-test.true, c.requires.start)) in
-    let at_o = c.index-2.ensures ∙ get-same outs k c.index-2.result.now (pos 0) (omega (arith, c.loop-k-test.true, c.requires.start, c.requires.end)) in
+    let at_o = c.index-in-loop-k.ensures ∙ get-same outs k c.index-in-loop-k.result.now (pos 0) (omega (arith, c.loop-k-test.true, c.requires.start, c.requires.end)) in
     let begin = c.literal-begin.ensures ∙ (ap f (to_z-of_z w32 c.index.result.now fits_i ∙ at_i) ∙ sym (get_or-map f ins k (pos 0) 0 (omega (arith, c.loop-k-test.true, c.requires.start)))) in
-    let end = c.literal-end.ensures ∙ (ap f (to_z-of_z w32 c.index-2.result.now fits_o ∙ at_o) ∙ sym (get_or-map f outs k (pos 0) 0 (omega (arith, c.loop-k-test.true, c.requires.start, c.requires.end)))) in
+    let end = c.literal-end.ensures ∙ (ap f (to_z-of_z w32 c.index-in-loop-k.result.now fits_o ∙ at_o) ∙ sym (get_or-map f outs k (pos 0) 0 (omega (arith, c.loop-k-test.true, c.requires.start, c.requires.end)))) in
     let s = slice_index_or c.args.start.now k Free in
     record {
       filled = next-filled c.args.start.now (map f ins) (map f outs) c.loop-k.given _ k c.next_literal.result c.loop-k-test.true
