@@ -1,7 +1,8 @@
-use Rattle.std.proofs.Common.{rules, arith, ℕ, pos, length, map, get_or, slice_index_or, Some, w32, FitsSigned, ◌≡◌, ◌∙◌, sym, ap, cond}
+use Rattle.std.proofs.Common.{rules, arith, ℕ, false, pos, length, map, get_or, w32, FitsSigned, ◌≡◌, ◌∙◌, sym, ap, cond}
 use Rattle.std.proofs.lemmas.Int.{to_z-of_z}
 use Rattle.std.proofs.lemmas.List.{get_or-map, length-map, length-set}
-use Rattle.pv_circuit.specs.declared.start.Start.TheVariants.{Free}
+use Rattle.pv_circuit.specs.declared.start.Start.{Start}
+use Rattle.pv_circuit.specs.declared.start.Start.TheVariants.{Fixed, Free}
 use Rattle.pv_circuit.specs.Starts.{is_moved, next_of}
 use Rattle.pv_frames.specs.Frames.{literal_in}
 use Rattle.pv_frames.specs.Tables.{table_frame}
@@ -20,12 +21,15 @@ loop-k-preserved c =
     let at_o = c.index-in-loop-k.ensures ∙ get-same outs k c.index-in-loop-k.result.now (pos 0) (omega (arith, c.loop-k-test.true, c.requires.start, c.requires.end)) in
     let begin = c.literal-begin.ensures ∙ (ap f (to_z-of_z w32 c.index.result.now fits_i ∙ at_i) ∙ sym (get_or-map f ins k (pos 0) 0 (omega (arith, c.loop-k-test.true, c.requires.start)))) in
     let end = c.literal-end.ensures ∙ (ap f (to_z-of_z w32 c.index-in-loop-k.result.now fits_o ∙ at_o) ∙ sym (get_or-map f outs k (pos 0) 0 (omega (arith, c.loop-k-test.true, c.requires.start, c.requires.end)))) in
-    let s = slice_index_or c.args.start.now k Free in
+    let s = get_or c.args.start.now k (Fixed false) in
+    let same = get-same c.args.start.now k (Fixed false) Free c.loop-k-test.true in
     record {
       filled = next-filled c.args.start.now (map f ins) (map f outs) c.loop-k.given _ k c.next_literal.result c.loop-k-test.true
           (length-map ins f ∙ sym c.requires.start) (length-map outs f ∙ (c.requires.end ∙ sym c.requires.start))
           (c.loop-k.invariant.long ∙ (c.requires.given ∙ sym c.requires.start))
-          (c.next_literal.ensures ∙ (ap (λ (n : ℕ). cond (is_moved s) n c.literal-begin.result) end ∙ ap (λ (n : ℕ). cond (is_moved s) (get_or (map f outs) k 0) n) begin))
+          (c.next_literal.ensures ∙ (ap (λ (n : ℕ). cond (is_moved s) n c.literal-begin.result) end
+          ∙ (ap (λ (n : ℕ). cond (is_moved s) (get_or (map f outs) k 0) n) begin
+          ∙ ap (λ (t : Start). cond (is_moved t) (get_or (map f outs) k 0) (get_or (map f ins) k 0)) same)))
           c.loop-k.invariant.filled;
       long = length-set c.loop-k.given _ _ ∙ c.loop-k.invariant.long;
     }
