@@ -1,5 +1,5 @@
 -- That a circuit does the steps of a machine, whose states and inputs are lists of numbers.
-use Rattle.std.specs.Prelude.{◌≡◌, ◌↔◌, ℕ, ◌+◌, Bool, true, ℤ, List, [], ◌∷◌, length, take, drop, ⊤}
+use Rattle.std.specs.Prelude.{◌≡◌, ◌↔◌, ℕ, ◌+◌, Bool, true, ℤ, List, [], ◌∷◌, length, take, drop}
 use Rattle.pv_word.specs.declared.types.Ty.{Ty}
 use Rattle.pv_word.specs.Types.{width_of, InRange, pattern_of}
 use Rattle.pv_gate.specs.Value.{value_of}

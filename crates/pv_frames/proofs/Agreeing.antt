@@ -1,5 +1,5 @@
 -- Frames that give nodes the same literals have the same clauses.
-use Rattle.std.proofs.Common.{◌≡◌, ℕ, ◌+◌, ◌≤◌, zero, suc, ℤ, pos, negsuc, List, [], ◌∷◌, ◌++◌, length, take, Some, slice_get, refl, ◌∙◌, ap, subst, arith, length-take-le}
+use Rattle.std.proofs.Common.{◌≡◌, ℕ, ◌+◌, ◌≤◌, suc, ℤ, pos, negsuc, List, [], ◌∷◌, ◌++◌, length, take, Some, slice_get, refl, ◌∙◌, ap, subst, arith, length-take-le}
 use Rattle.std.proofs.lemmas.Option.{slice_get_within}
 use Rattle.pv_gate.specs.declared.netlist.Node.{Node}
 use Rattle.pv_gate.specs.declared.netlist.Node.TheVariants.{True, Input, And, Xor, Mux}

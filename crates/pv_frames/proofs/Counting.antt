@@ -1,20 +1,20 @@
 -- How many variables frames have: no more than nodes and the bits' literals leave, since no bit's node stands twice.
 use Rattle.std.proofs.Common.{◌≡◌, ℕ, ◌+◌, ◌-◌, ◌*◌, ◌<◌, ◌≤◌, zero, suc, ℤ, pos, Bool, true, false, cond, ltb, ◌&&◌, ◌||◌, List, [], ◌∷◌, ◌++◌, length, take, map, get_or, All, Option, Some, None, unsigned_abs, int_eq, refl, sym, ◌∙◌, ap, subst, arith, inl, inr, lit≤, take-suc, suc-mul}
-use Rattle.std.specs.List.{count_by, list_any, range_with_len}
+use Rattle.std.specs.List.{count_by, list_any}
 use Rattle.std.specs.List.Sorted.{IsPermutation}
 use Rattle.std.specs.Option.{is_some, is_none}
-use Rattle.std.proofs.lemmas.Bool.{cases_eq, lt-ltb, le-ltb, ltb-true, ltb-false, or_parts, false_from_ne_true}
+use Rattle.std.proofs.lemmas.Bool.{cases_eq, lt-ltb, ltb-true, ltb-false, or_parts, false_from_ne_true}
 use Rattle.std.proofs.lemmas.Cmp.{int_eq_equiv}
 use Rattle.std.proofs.lemmas.List.{take_all, length-map}
 use Rattle.std.proofs.lemmas.List.Sorted.{sum_by-IsPermutation}
-use Rattle.std.proofs.lemmas.List.Sums.{sum_by-cons, sum_by-append, sum_by_push, sum_by-take-drop, count_by-le-length}
+use Rattle.std.proofs.lemmas.List.Sums.{sum_by-cons, sum_by-append, sum_by_push, sum_by-take-drop}
 use Rattle.pv_gate.proofs.ForCallers.{int_eq-true}
 use Rattle.pv_circuit.specs.declared.start.Start.{Start}
 use Rattle.pv_circuit.specs.Circuits.{Circuit, input_literals}
 use Rattle.pv_circuit.specs.Starts.{next_of}
 use Rattle.pv_cert.specs.declared.proof.Query.{Query}
 use Rattle.pv_frames.specs.Frames.{literal_in}
-use Rattle.pv_frames.specs.Queries.{first_of, given_for, is_own, own_below, frame_at, next_literals, table, frame_count, variable_count}
+use Rattle.pv_frames.specs.Queries.{first_of, given_for, is_own, own_below, frame_at, next_literals, table}
 use Rattle.pv_frames.specs.Tables.{IsBegin}
 use Rattle.pv_frames.proofs.Giving.{bit, given-more, own-none}
 

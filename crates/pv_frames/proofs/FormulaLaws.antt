@@ -1,10 +1,8 @@
 -- The formula of a query: clauses over its variables, of which there aren't too many.
-use Rattle.std.proofs.Common.{◌≡◌, ℕ, ◌+◌, ◌-◌, ◌*◌, ◌^◌, ◌<◌, ◌≤◌, zero, suc, List, [], ◌∷◌, ◌++◌, length, map, sym, ap, subst, arith, lit≤, mul-le-mul, length-append}
-use Rattle.std.specs.List.{flat_map, count_by}
-use Rattle.std.specs.Option.{is_some}
+use Rattle.std.proofs.Common.{◌≡◌, ℕ, ◌+◌, ◌-◌, ◌*◌, ◌≤◌, zero, suc, List, [], ◌∷◌, length, map, sym, ap, subst, arith, lit≤, mul-le-mul, length-append}
+use Rattle.std.specs.List.{flat_map}
 use Rattle.std.proofs.lemmas.List.{length-map}
 use Rattle.std.proofs.lemmas.List.FromFn.{length-map-range_with_len}
-use Rattle.std.proofs.lemmas.List.Sums.{count_by-le-length}
 use Rattle.pv_gate.specs.Node.{gate_count}
 use Rattle.pv_circuit.specs.declared.start.Start.{Start}
 use Rattle.pv_circuit.specs.Circuits.{Circuit, IsCircuit}
@@ -12,9 +10,8 @@ use Rattle.pv_cert.specs.declared.proof.Query.{Query}
 use Rattle.pv_cnf.specs.Clause.{AreClauses}
 use Rattle.pv_frames.specs.Frames.{frame_clauses}
 use Rattle.pv_frames.specs.Formulas.{written}
-use Rattle.pv_frames.specs.Queries.{IsAsked, frame_count, first_of, table, asked, asked_in, query_clauses, variable_count, IsFormula}
+use Rattle.pv_frames.specs.Queries.{IsAsked, frame_count, table, asked, asked_in, variable_count, IsFormula}
 use Rattle.pv_frames.specs.Short.{clauses_of}
-use Rattle.pv_frames.specs.declared.short.Short.{Short}
 use Rattle.pv_frames.specs.declared.short.Short.TheVariants.{One}
 use Rattle.pv_frames.specs.Tables.{IsFit, gate_clauses}
 use Rattle.pv_frames.proofs.Lists.{clauses-both, length-shorts}

@@ -1,5 +1,5 @@
 -- Values of a frame's nodes: what the gates' clauses say of them is the law of one frame, whose nodes have the variables of their numbers.
-use Rattle.std.proofs.Common.{◌≡◌, ℕ, ℤ, pos, negsuc, ◌+◌, ◌*◌, ◌≤◌, zero, suc, Bool, true, false, not, cond, ◌&&◌, List, [], ◌∷◌, ◌++◌, length, refl, sym, ◌∙◌, ap, arith, lit≤}
+use Rattle.std.proofs.Common.{◌≡◌, ℕ, ℤ, pos, negsuc, ◌*◌, suc, Bool, true, not, cond, ◌&&◌, List, [], ◌∷◌, length, refl, sym, ◌∙◌, ap, arith, lit≤}
 use Rattle.std.specs.Bool.{beq}
 use Rattle.std.specs.List.{list_all}
 use Rattle.std.proofs.lemmas.Bool.{and_parts, and_from}
@@ -11,10 +11,10 @@ use Rattle.pv_gate.specs.Node.{Names, true_literal}
 use Rattle.pv_gate.specs.Netlist.{IsNetlist}
 use Rattle.pv_gate.specs.Value.{exclusive_or, value_of}
 use Rattle.pv_gate.proofs.ForCallers.{value_of-true, value_of-neg}
-use Rattle.pv_cnf.specs.Literal.{complement, literal_value}
+use Rattle.pv_cnf.specs.Literal.{literal_value}
 use Rattle.pv_cnf.specs.Clause.{clause_value}
 use Rattle.pv_frames.specs.Frames.{Frame, own_variables, literal_in, node_clauses, frame_clauses}
-use Rattle.pv_frames.specs.Values.{AreNodeValues, AreFrameValues}
+use Rattle.pv_frames.specs.Values.{AreFrameValues}
 use Rattle.pv_frames.proofs.Literals.{value-plain, value-complement}
 use Rattle.pv_frames.proofs.GateValues.{and-means, xor-means, mux-means}
 use Rattle.pv_frames.proofs.StepValues.{step-value, step-holds, step-only}

@@ -1,14 +1,12 @@
 -- What the frames of a query need of its circuit. These are facts with one proof, so they follow from what the circuit's type keeps.
-use Rattle.std.proofs.Common.{◌≡◌, ℕ, ◌+◌, ◌-◌, ◌*◌, ◌^◌, ◌<◌, ◌≤◌, zero, suc, ℤ, pos, negsuc, List, [], ◌∷◌, ◌++◌, length, map, All, unsigned_abs, refl, sym, ◌∙◌, ap, arith, length-append, mul-le-mul}
-use Rattle.std.specs.List.{AllByRecursion, count_by, range_with_len}
-use Rattle.std.specs.List.Sorted.{IsPermutation}
+use Rattle.std.proofs.Common.{◌≡◌, ℕ, ◌+◌, ◌-◌, ◌*◌, ◌≤◌, zero, suc, ℤ, pos, negsuc, List, [], ◌∷◌, ◌++◌, length, All, unsigned_abs, refl, ap, arith, length-append, mul-le-mul}
+use Rattle.std.specs.List.{AllByRecursion, count_by}
 use Rattle.std.specs.Option.{is_some}
 use Rattle.std.proofs.Math.Logic.{∥∥₁_elim, ∥∥₁_map}
 use Rattle.std.proofs.Math.Bridge.{le_prop}
 use Rattle.std.proofs.lemmas.List.Elements.{All-from_recursion, recursion_from_All}
 use Rattle.std.proofs.lemmas.List.FromFn.{length-map-range_with_len}
 use Rattle.std.proofs.lemmas.List.Sorted.{All-permutation, length_permutation}
-use Rattle.std.proofs.lemmas.List.Sums.{count_by-le-length}
 use Rattle.pv_gate.specs.declared.netlist.Node.{Node}
 use Rattle.pv_gate.specs.declared.netlist.Node.TheVariants.{Input}
 use Rattle.pv_gate.specs.Node.{Names, input_count}
@@ -18,10 +16,10 @@ use Rattle.pv_circuit.specs.declared.start.Start.{Start}
 use Rattle.pv_circuit.specs.Circuits.{Circuit, IsCircuit, begin_nodes, input_literals}
 use Rattle.pv_cert.specs.declared.proof.Query.{Query}
 use Rattle.pv_cert.specs.declared.proof.Query.TheVariants.{Base, Step}
-use Rattle.pv_frames.specs.Queries.{IsAsked, first_of, frame_count, frame_at, variable_count}
+use Rattle.pv_frames.specs.Queries.{IsAsked, first_of, frame_count, frame_at}
 use Rattle.pv_frames.specs.Tables.{IsBegin, IsFit}
 use Rattle.pv_frames.proofs.Inside.{next-up}
-use Rattle.pv_frames.proofs.Counting.{Distinct, distinct, next-few}
+use Rattle.pv_frames.proofs.Counting.{distinct, next-few}
 
 literals-begin : (total m n : ℕ) → m + n ≤ total → AllByRecursion (IsBegin total) (input_literals m n)
 literals-begin total m zero le = tt

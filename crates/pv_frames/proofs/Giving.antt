@@ -1,5 +1,5 @@
 -- What is given for nodes, how many have a variable of their own, and that a list of the input nodes' literals is a frame.
-use Rattle.std.proofs.Common.{◌≡◌, ℕ, ◌+◌, ◌-◌, ◌*◌, ◌<◌, ◌≤◌, zero, suc, ℤ, pos, Bool, true, false, cond, eqb, ltb, ◌&&◌, List, [], ◌∷◌, length, take, get_or, All, Option, Some, None, unwrap_or, unsigned_abs, int_eq, refl, sym, ◌∙◌, ap, subst, arith, inl, inr}
+use Rattle.std.proofs.Common.{◌≡◌, ℕ, ◌+◌, ◌-◌, ◌*◌, ◌<◌, ◌≤◌, zero, suc, ℤ, pos, Bool, true, false, cond, ltb, ◌&&◌, List, [], ◌∷◌, length, take, get_or, All, Option, Some, None, unwrap_or, unsigned_abs, int_eq, refl, sym, ◌∙◌, ap, subst, arith, inl, inr}
 use Rattle.std.specs.Option.{is_none}
 use Rattle.std.proofs.lemmas.Bool.{cases_eq, eq-eqb, ne_eqb, ltb-true, ltb-false, lt-ltb, false_from_ne_true}
 use Rattle.pv_gate.proofs.ForCallers.{int_eq-true}

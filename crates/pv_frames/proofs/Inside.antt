@@ -1,5 +1,5 @@
 -- The clauses of a query are clauses over the variables up to the last one of its last frame.
-use Rattle.std.proofs.Common.{◌≡◌, ℕ, ◌+◌, ◌*◌, ◌<◌, ◌≤◌, zero, suc, ℤ, pos, negsuc, Bool, true, false, cond, eqb, List, [], ◌∷◌, length, take, map, All, Option, Some, None, unwrap_or, int_eq, slice_get, refl, sym, ◌∙◌, ap, subst, arith, inl, inr, lit≤, length-take-le}
+use Rattle.std.proofs.Common.{◌≡◌, ℕ, ◌+◌, ◌*◌, ◌≤◌, zero, suc, ℤ, pos, negsuc, Bool, true, false, cond, eqb, List, [], ◌∷◌, length, take, map, All, Option, Some, None, unwrap_or, int_eq, refl, ◌∙◌, ap, subst, arith, inl, inr, lit≤, length-take-le}
 use Rattle.std.specs.List.{flat_map, AllByRecursion}
 use Rattle.std.proofs.lemmas.Bool.{cases_eq, eq-eqb}
 use Rattle.std.proofs.lemmas.Option.{slice_get_within}

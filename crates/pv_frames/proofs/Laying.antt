@@ -1,5 +1,5 @@
 -- The list of the input nodes' literals, as it is made place by place.
-use Rattle.std.proofs.Common.{◌≡◌, ℕ, ◌+◌, ◌-◌, ◌*◌, ◌<◌, ◌≤◌, suc, ℤ, pos, Bool, true, false, cond, ltb, ◌&&◌, List, length, take, set, get_or, All, Option, Some, None, unwrap_or, unsigned_abs, int_eq, ◌⊎◌, refl, sym, ◌∙◌, ap, subst, arith, inl, inr}
+use Rattle.std.proofs.Common.{◌≡◌, ℕ, ◌+◌, ◌-◌, ◌*◌, ◌<◌, ◌≤◌, suc, ℤ, pos, Bool, true, false, cond, ◌&&◌, List, length, take, set, get_or, All, Option, Some, None, unwrap_or, unsigned_abs, int_eq, ◌⊎◌, refl, sym, ◌∙◌, ap, subst, arith, inl, inr}
 use Rattle.std.specs.Option.{is_none}
 use Rattle.std.proofs.lemmas.Bool.{cases_eq, lt-ltb, false_from_ne_true}
 use Rattle.std.proofs.lemmas.Cmp.{int_eq_equiv}

@@ -1,5 +1,5 @@
 -- The clauses of a query, part by part.
-use Rattle.std.proofs.Common.{◌≡◌, ℕ, ◌+◌, ◌*◌, ◌<◌, ◌≤◌, zero, suc, false, List, [], ◌∷◌, ◌++◌, length, map, refl, sym, ◌∙◌, ap, subst, arith, lit≤, append-nil, length-append, suc-mul}
+use Rattle.std.proofs.Common.{◌≡◌, ℕ, ◌+◌, ◌*◌, ◌<◌, ◌≤◌, zero, suc, false, List, [], ◌∷◌, ◌++◌, length, map, refl, sym, ◌∙◌, ap, subst, arith, append-nil, length-append, suc-mul}
 use Rattle.std.specs.List.{flat_map, AllByRecursion, range_with_len}
 use Rattle.std.proofs.lemmas.Grind.{flat_map-append}
 use Rattle.std.proofs.lemmas.List.FromFn.{map-range_with_len_more}
@@ -11,9 +11,8 @@ use Rattle.pv_cnf.specs.Literal.{is_outside}
 use Rattle.pv_cnf.specs.Clause.{AreClauses}
 use Rattle.pv_frames.specs.Frames.{Frame, frame_clauses}
 use Rattle.pv_frames.specs.Formulas.{unit, written}
-use Rattle.pv_frames.specs.Queries.{frame_count, frame_at, table, asked_in, asked, query_clauses, variable_count}
+use Rattle.pv_frames.specs.Queries.{frame_count, table, asked_in, asked, query_clauses, variable_count}
 use Rattle.pv_frames.specs.Short.{clauses_of}
-use Rattle.pv_frames.specs.declared.short.Short.{Short}
 use Rattle.pv_frames.specs.declared.short.Short.TheVariants.{One}
 use Rattle.pv_frames.specs.Tables.{IsFit, gate_clauses}
 use Rattle.pv_frames.proofs.FrameLists.{unit-valid, written-few}

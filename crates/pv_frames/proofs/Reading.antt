@@ -11,7 +11,7 @@ use Rattle.pv_cert.specs.declared.proof.Query.{Query}
 use Rattle.pv_cnf.specs.Literal.{variable_of, literal_value, is_outside}
 use Rattle.pv_frames.specs.Frames.{Frame, literal_in}
 use Rattle.pv_frames.specs.Queries.{table, frames}
-use Rattle.pv_frames.specs.Runs.{BitRun, run_with, input_in, run_of}
+use Rattle.pv_frames.specs.Runs.{run_with, input_in, run_of}
 use Rattle.pv_frames.proofs.Agreeing.{Agree, literal-same}
 
 -- a literal over the variables 1 to v

@@ -1,5 +1,5 @@
 -- Values by which the formula of a query holds stand for a run that meets it.
-use Rattle.std.proofs.Common.{◌≡◌, ℕ, ℤ, pos, negsuc, ◌+◌, ◌*◌, ◌<◌, ◌≤◌, zero, suc, Bool, true, false, not, cond, eqb, ◌&&◌, ◌||◌, List, [], ◌∷◌, ◌++◌, length, take, map, get_or, All, Option, Some, None, unwrap_or, unsigned_abs, int_eq, refl, sym, ◌∙◌, ap, subst, arith, lit≤, length-take-le}
+use Rattle.std.proofs.Common.{◌≡◌, ℕ, ℤ, pos, ◌+◌, ◌*◌, ◌<◌, ◌≤◌, zero, suc, Bool, true, false, not, cond, eqb, ◌||◌, List, [], ◌∷◌, ◌++◌, length, take, map, get_or, All, Option, Some, None, unwrap_or, unsigned_abs, int_eq, refl, sym, ◌∙◌, ap, subst, arith, length-take-le}
 use Rattle.std.specs.List.{list_all, list_any, flat_map, range_with_len}
 use Rattle.std.proofs.lemmas.Bool.{and_parts, eq-eqb, ne_eqb, eqb-true, eqb-false, or_left, or_right, true≢false, false_from_ne_true}
 use Rattle.std.proofs.lemmas.Cmp.{int_eq_equiv}
@@ -9,7 +9,6 @@ use Rattle.std.proofs.lemmas.List.FromFn.{length-map-range_with_len}
 use Rattle.pv_gate.proofs.ForCallers.{int_eq-true}
 use Rattle.pv_gate.specs.declared.netlist.Node.{Node}
 use Rattle.pv_gate.specs.Node.{Names, input_count}
-use Rattle.pv_gate.specs.Netlist.{IsNetlist}
 use Rattle.pv_gate.specs.Value.{value_of}
 use Rattle.pv_circuit.specs.declared.start.Start.{Start}
 use Rattle.pv_circuit.specs.declared.start.Start.TheVariants.{Fixed, Begins, Free}
@@ -22,13 +21,12 @@ use Rattle.pv_cnf.specs.Clause.{clause_value, Holds}
 use Rattle.pv_frames.specs.Frames.{Frame, literal_in, frame_clauses}
 use Rattle.pv_frames.specs.Formulas.{unit}
 use Rattle.pv_frames.specs.Values.{AreFrameValues}
-use Rattle.pv_frames.specs.Queries.{IsAsked, frame_count, first_of, constant, given_for, numbered, own_below, frame_at, next_literals, table, frames, asked_in, asked, query_clauses}
-use Rattle.pv_frames.specs.Runs.{BitRun, BeginsWith, FailsAtLast, Meets, input_in, run_of}
-use Rattle.pv_frames.specs.Tables.{IsBegin}
+use Rattle.pv_frames.specs.Queries.{IsAsked, frame_count, first_of, constant, given_for, numbered, own_below, frame_at, next_literals, table, asked_in, query_clauses}
+use Rattle.pv_frames.specs.Runs.{FailsAtLast, Meets, input_in, run_of}
 use Rattle.pv_frames.proofs.Written.{written-means}
 use Rattle.pv_frames.proofs.Giving.{given-more, numbered-is}
 use Rattle.pv_frames.proofs.Counting.{Distinct, distinct, length-next_of}
-use Rattle.pv_frames.proofs.FromCircuit.{begins-of, some-frames}
+use Rattle.pv_frames.proofs.FromCircuit.{begins-of}
 use Rattle.pv_frames.proofs.FrameValues.{frame-only, literal-is}
 
 -- ---- the formula's parts

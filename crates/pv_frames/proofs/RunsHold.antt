@@ -1,11 +1,10 @@
 -- Each run that meets a query comes from values by which its formula holds: frame by frame, those of the nodes. A variable of a frame
 -- has the value of its node, which is found by counting; literals that are given have values before.
-use Rattle.std.proofs.Common.{◌≡◌, ℕ, ℤ, pos, ◌+◌, ◌-◌, ◌*◌, ◌<◌, ◌≤◌, zero, suc, Bool, true, false, not, cond, eqb, ltb, ◌&&◌, ◌||◌, List, [], ◌∷◌, ◌++◌, length, map, All, Option, Some, None, unwrap_or, int_eq, refl, sym, ◌∙◌, ap, subst, arith, inl, inr, lit≤}
+use Rattle.std.proofs.Common.{◌≡◌, ℕ, ℤ, pos, ◌+◌, ◌-◌, ◌*◌, ◌<◌, ◌≤◌, zero, suc, Bool, true, false, not, cond, eqb, ltb, ◌&&◌, ◌||◌, List, [], ◌∷◌, ◌++◌, length, map, Option, Some, None, unwrap_or, int_eq, refl, sym, ◌∙◌, ap, subst, arith, inl, inr, lit≤}
 use Rattle.std.specs.List.{list_all, flat_map, range_with_len, AllByRecursion}
 use Rattle.std.proofs.lemmas.Bool.{cases_eq, and_from, or_parts, eq-eqb, ne_eqb, lt-ltb, le-ltb, ltb-false}
 use Rattle.std.proofs.lemmas.List.Folds.{list_all-append}
 use Rattle.pv_gate.specs.declared.netlist.Node.{Node}
-use Rattle.pv_gate.specs.Node.{Names}
 use Rattle.pv_gate.specs.Netlist.{IsNetlist}
 use Rattle.pv_gate.specs.Value.{value_of}
 use Rattle.pv_gate.proofs.ForCallers.{int_eq-true, value_of-true}
@@ -20,8 +19,8 @@ use Rattle.pv_cnf.specs.Clause.{clause_value, Holds}
 use Rattle.pv_frames.specs.Frames.{Frame, literal_in, frame_clauses}
 use Rattle.pv_frames.specs.Formulas.{unit}
 use Rattle.pv_frames.specs.Values.{AreFrameValues}
-use Rattle.pv_frames.specs.Queries.{frame_count, first_of, constant, given_for, is_own, own_below, numbered, Numbered, frame_by, frame_at, next_literals, table, asked_in, query_clauses}
-use Rattle.pv_frames.specs.Runs.{BitRun, BeginsWith, FailsAtLast, Meets, run_with, input_in, run_of, HasValues, AreScans}
+use Rattle.pv_frames.specs.Queries.{frame_count, first_of, given_for, is_own, own_below, numbered, Numbered, frame_by, frame_at, next_literals, table, asked_in, query_clauses}
+use Rattle.pv_frames.specs.Runs.{BitRun, FailsAtLast, Meets, run_with, input_in, run_of, HasValues, AreScans}
 use Rattle.pv_frames.specs.Tables.{Inside}
 use Rattle.pv_frames.proofs.Literals.{value-plain}
 use Rattle.pv_frames.proofs.Written.{written-means}

@@ -1,8 +1,8 @@
 -- From frame to frame: the table, what is given for the next one, and what has to be true.
-use Rattle.std.proofs.Common.{◌≡◌, ℕ, ◌+◌, ◌-◌, ◌*◌, ◌<◌, ◌≤◌, zero, suc, ℤ, pos, Bool, true, false, cond, eqb, List, [], ◌∷◌, ◌++◌, length, take, drop, map, set, get_or, All, Option, Some, None, Result, Ok, Err, refl, sym, ◌∙◌, ap, subst, arith, append_assoc, append-nil, drop-cons, inl, inr}
+use Rattle.std.proofs.Common.{◌≡◌, ℕ, ◌+◌, ◌-◌, ◌<◌, ◌≤◌, zero, suc, ℤ, Bool, true, false, cond, eqb, List, [], ◌∷◌, ◌++◌, length, take, drop, map, set, get_or, All, Option, Some, None, refl, sym, ◌∙◌, ap, subst, arith, append_assoc, append-nil, drop-cons, inl, inr}
 use Rattle.std.specs.List.{flat_map, range_with_len}
 use Rattle.std.proofs.lemmas.Bool.{cases_eq}
-use Rattle.std.proofs.lemmas.List.{get_or-map, take_more_set, take_all, length-map}
+use Rattle.std.proofs.lemmas.List.{take_more_set, take_all}
 use Rattle.std.proofs.lemmas.List.FromFn.{map-range_with_len_more}
 use Rattle.pv_gate.specs.Node.{Names}
 use Rattle.pv_circuit.specs.declared.start.Start.{Start}
@@ -14,7 +14,7 @@ use Rattle.pv_cnf.specs.declared.clauses.PushFault.TheVariants.{NoMemory}
 use Rattle.pv_frames.specs.Frames.{Frame, literal_in, frame_clauses}
 use Rattle.pv_frames.specs.Formulas.{written}
 use Rattle.pv_frames.specs.Queries.{first_of, given_for, own_below, numbered, frame_by, frame_at, next_literals, table, asked_in, frame_count}
-use Rattle.pv_frames.specs.Pushing.{Overflow, ArePushed, StopsAt}
+use Rattle.pv_frames.specs.Pushing.{Overflow, StopsAt}
 use Rattle.pv_frames.specs.declared.short.Short.{Short}
 use Rattle.pv_frames.specs.declared.short.Short.TheVariants.{One}
 use Rattle.pv_frames.specs.Tables.{table_frame, IsBegin, IsTable, gate_clauses}

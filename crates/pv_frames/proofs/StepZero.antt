@@ -1,5 +1,5 @@
 -- The formula of step(0): where no bit has one value in every state, nothing is given, and each node has the variable of its number.
-use Rattle.std.proofs.Common.{◌≡◌, ℕ, ℤ, pos, ◌+◌, ◌-◌, ◌*◌, ◌≤◌, Bool, true, false, cond, List, [], ◌∷◌, ◌++◌, length, map, Option, None, unwrap_or, int_eq, refl, sym, ◌∙◌, ap, arith, inl, inr, lit≤}
+use Rattle.std.proofs.Common.{◌≡◌, ℕ, ℤ, pos, ◌+◌, ◌*◌, Bool, true, false, cond, List, [], ◌∷◌, ◌++◌, length, map, Option, None, unwrap_or, int_eq, refl, ◌∙◌, ap, arith, inl, inr, lit≤}
 use Rattle.std.specs.List.{flat_map}
 use Rattle.std.proofs.lemmas.Bool.{cases_eq, eq-eqb}
 use Rattle.pv_circuit.specs.declared.start.Start.{Start}

@@ -1,7 +1,7 @@
 -- A frame's literals as the code has them: those of the input nodes in a list, and the others by arithmetic. No public clause cites
 -- this.
 use Rattle.std.specs.Prelude.{◌≡◌, ℕ, false, zero, suc, [], ◌++◌, ◌+◌, ◌-◌, ◌*◌, ◌^◌, ◌<◌, ◌≤◌, ◌==◌, nat_lt, ℤ, pos, unsigned_abs, All}
-use Rattle.std.specs.Prelude.{if◌then◌else◌, List, length, Option, Some, None, unwrap_or, slice_index_or}
+use Rattle.std.specs.Prelude.{if◌then◌else◌, List, length, Option, None, unwrap_or, slice_index_or}
 use Rattle.std.specs.List.{flat_map}
 use Rattle.pv_gate.specs.declared.netlist.Node.{Node}
 use Rattle.pv_gate.specs.declared.netlist.Node.TheVariants.{True, Input, And, Xor, Mux}

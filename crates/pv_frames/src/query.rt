@@ -93,7 +93,11 @@ pub fn variables(c: &StepCircuit, start: &[Start], query: Query) -> u32
 }
 
 /// The literals that the state's bits have in the first frame.
-pub(crate) fn first_given(alloc: Global, query: Query, start: &[Start]) -> Result<Vec<Option<u32>>, AllocError>
+pub(crate) fn first_given(
+    alloc: Global,
+    query: Query,
+    start: &[Start],
+) -> Result<Vec<Option<u32>>, AllocError>
     ensures { IfOk result (λ given. given.items ≡ map (first_of query) start.now) }
 {
     let mut given = Vec::with_capacity(alloc, start.len())?;

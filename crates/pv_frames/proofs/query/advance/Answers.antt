@@ -1,9 +1,9 @@
-use Rattle.std.proofs.Common.{rules, arith, ℕ, false, pos, length, map, get_or, w32, FitsSigned, ◌≡◌, ◌∙◌, sym, ap, cond}
+use Rattle.std.proofs.Common.{rules, arith, ℕ, false, pos, map, get_or, w32, FitsSigned, ◌∙◌, sym, ap, cond}
 use Rattle.std.proofs.lemmas.Int.{to_z-of_z}
 use Rattle.std.proofs.lemmas.List.{get_or-map, length-map, length-set}
 use Rattle.pv_circuit.specs.declared.start.Start.{Start}
 use Rattle.pv_circuit.specs.declared.start.Start.TheVariants.{Fixed, Free}
-use Rattle.pv_circuit.specs.Starts.{is_moved, next_of}
+use Rattle.pv_circuit.specs.Starts.{is_moved}
 use Rattle.pv_frames.specs.Frames.{literal_in}
 use Rattle.pv_frames.specs.Tables.{table_frame}
 use Rattle.pv_frames.proofs.Scanning.{get-same, next-filled}

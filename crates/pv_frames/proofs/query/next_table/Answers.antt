@@ -1,4 +1,4 @@
-use Rattle.std.proofs.Common.{arith, ◌≡◌, ◌+◌, ◌-◌, ℕ, ℤ, suc, length, All, sym, ◌∙◌, ap, subst}
+use Rattle.std.proofs.Common.{arith, ◌≡◌, ◌+◌, ◌-◌, ℕ, suc, length, All, sym, ◌∙◌, subst}
 use Rattle.pv_circuit.specs.Made.{circuit_seen}
 use Rattle.pv_frames.specs.Queries.{frame_at}
 use Rattle.pv_frames.specs.Tables.{IsBegin, IsTable}

@@ -1,4 +1,4 @@
-use Rattle.std.proofs.Common.{arith, ◌≡◌, ◌+◌, ◌-◌, ◌*◌, ◌++◌, ℕ, ℤ, suc, List, [], ◌∷◌, length, map, get_or, Option, Some, None, All, sym, ◌∙◌, ap, subst, mul-le-mul, length-append}
+use Rattle.std.proofs.Common.{arith, ◌≡◌, ◌+◌, ◌*◌, ℕ, suc, List, length, sym, ◌∙◌, ap, subst, mul-le-mul, length-append}
 use Rattle.std.specs.List.{flat_map}
 use Rattle.std.proofs.lemmas.List.{length-set}
 use Rattle.std.proofs.lemmas.Result.{err_from_is_err_and}
@@ -7,9 +7,9 @@ use Rattle.pv_cnf.specs.Clause.{AreClauses}
 use Rattle.pv_circuit.specs.Made.{circuit_seen}
 use Rattle.pv_frames.specs.Frames.{frame_clauses}
 use Rattle.pv_frames.specs.Formulas.{written}
-use Rattle.pv_frames.specs.Queries.{frame_count, frame_at, given_for, numbered, table, asked_in}
+use Rattle.pv_frames.specs.Queries.{frame_count, table, asked_in}
 use Rattle.pv_frames.specs.Pushing.{ArePushed, StopsAt}
-use Rattle.pv_frames.specs.Tables.{table_frame, IsBegin, IsTable, gate_clauses}
+use Rattle.pv_frames.specs.Tables.{table_frame, gate_clauses}
 use Rattle.pv_frames.specs.declared.short.Short.TheVariants.{One}
 use Rattle.pv_frames.proofs.Agreeing.{frames-agree}
 use Rattle.pv_frames.proofs.FromCircuit.{few-frames}

@@ -1,4 +1,4 @@
-use Rattle.std.proofs.Common.{◌≡◌, ℕ, ◌+◌, ◌<◌, List, length, take, map}
+use Rattle.std.proofs.Common.{◌≡◌, ℕ, List, length, take, map}
 use Rattle.std.specs.List.{range_with_len}
 use Rattle.pv_circuit.specs.Made.{circuit_seen}
 use Rattle.pv_frames.specs.Queries.{frame_at, asked_in}

@@ -1,7 +1,7 @@
-use Rattle.std.proofs.Common.{arith, ◌+◌, ◌-◌, ◌*◌, ◌≤◌, length, mul-le-mul}
+use Rattle.std.proofs.Common.{arith, ◌+◌, ◌-◌, length, mul-le-mul}
 use Rattle.std.specs.Option.{is_some}
 use Rattle.std.proofs.lemmas.List.Sums.{count_by-le-length}
-use Rattle.pv_frames.specs.Queries.{first_of, frame_count}
+use Rattle.pv_frames.specs.Queries.{first_of}
 use Rattle.pv_frames.proofs.FromCircuit.{few-frames}
 use Rattle.pv_frames.proofs.query.variables.Goals as goal
 

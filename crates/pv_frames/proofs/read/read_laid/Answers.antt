@@ -1,4 +1,4 @@
-use Rattle.std.proofs.Common.{arith, ◌≡◌, ◌+◌, ◌-◌, ◌∙◌, ap, length, map, false}
+use Rattle.std.proofs.Common.{arith, ◌∙◌, ap, map}
 use Rattle.pv_cnf.specs.Literal.{literal_value, is_outside}
 use Rattle.pv_frames.specs.Frames.{literal_in}
 use Rattle.pv_circuit.specs.Made.{circuit_seen}

@@ -1,4 +1,4 @@
-use Rattle.std.proofs.Common.{arith, ◌+◌, ◌∙◌, length, ap}
+use Rattle.std.proofs.Common.{arith, ◌∙◌}
 use Rattle.std.proofs.lemmas.List.{length-set}
 use Rattle.pv_frames.proofs.Laying.{number-done, number-next, number-left, bit-one}
 use Rattle.pv_frames.proofs.table.number.Goals as goal

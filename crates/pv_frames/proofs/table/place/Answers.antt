@@ -1,4 +1,4 @@
-use Rattle.std.proofs.Common.{rules, ◌-◌, pos, length, set, unsigned_abs, w32, FitsSigned, slice_index_or, None, ap, ◌∙◌}
+use Rattle.std.proofs.Common.{rules, ◌-◌, pos, length, unsigned_abs, w32, FitsSigned, slice_index_or, ap, ◌∙◌}
 use Rattle.std.proofs.lemmas.Int.{to_z-of_z}
 use Rattle.std.proofs.lemmas.List.{length-set}
 use Rattle.pv_frames.proofs.Laying.{placed-more}
