@@ -66,7 +66,7 @@ denoted (ty ∷ tys) bits long =
     let front : length (take (width_of ty) bits) ≡ width_of ty = length-take-le (width_of ty) bits (omega (arith, long)) in
     let behind : length (drop (width_of ty) bits) ≡ widths tys = omega (arith, long, length-drop (width_of ty) bits) in
     let rest = denoted tys (drop (width_of ty) bits) behind in
-    (value_of_bits ty (take (width_of ty) bits) ∷ rest.0, bits-denote ty (take (width_of ty) bits) front, rest.1)
+    (value_of_bits ty (take (width_of ty) bits) ∷ rest.0, (bits-denote ty (take (width_of ty) bits) front, rest.1))
 
 pub denote-long : (tys : List Ty) (bits : List Bool) (vs : Values) → Denote tys bits vs → length bits ≡ widths tys
 denote-long [] bits [] den = ap (λ (bs : List Bool). length bs) den
