@@ -1,7 +1,7 @@
 -- Bits and the values that they denote: each list of so many bits denotes values, and values have one list of bits.
-use Rattle.std.proofs.Common.{◌≡◌, ℕ, ◌+◌, ◌-◌, ◌*◌, ◌<◌, ◌≤◌, ◌%◌, ◌^◌, zero, suc, Bool, true, false, ℤ, pos, List, [], ◌∷◌, ◌++◌, length, take, drop, refl, sym, ◌∙◌, ap, subst, arith, lit≤, take-append-drop, length-drop, length-take-le, mod-eq_of_lt}
+use Rattle.std.proofs.Common.{◌≡◌, ℕ, ◌-◌, ◌*◌, ◌<◌, ◌≤◌, ◌^◌, zero, suc, Bool, true, false, ℤ, pos, List, [], ◌∷◌, ◌++◌, length, take, drop, refl, sym, ◌∙◌, ap, subst, arith, lit≤, take-append-drop, length-drop, length-take-le, mod-eq_of_lt}
 use Rattle.pv_word.specs.declared.types.Ty.{Ty}
-use Rattle.pv_word.specs.Types.{width_of, is_signed_of, InRange, wrap_of, pattern_of}
+use Rattle.pv_word.specs.Types.{width_of, is_signed_of, wrap_of}
 use Rattle.pv_word.proofs.ForCallers.{double, wide, wrap-in_range, pattern-pos, pattern-wrap}
 use Rattle.pv_bits.specs.Words.{number_of_bit, number_of}
 use Rattle.pv_machine.specs.Machines.{Values}

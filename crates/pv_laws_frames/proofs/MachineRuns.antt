@@ -1,9 +1,9 @@
 -- Runs of a circuit's bits and runs of the machine whose steps it does, scan by scan.
-use Rattle.std.proofs.Common.{◌≡◌, ◌↔◌, ℕ, ◌+◌, zero, suc, Bool, true, false, List, [], ◌∷◌, length, map, refl, sym, ◌∙◌, ap, subst, arith}
+use Rattle.std.proofs.Common.{◌≡◌, ℕ, Bool, true, List, [], ◌∷◌, length, refl, sym, ◌∙◌, ap, subst, arith}
 use Rattle.std.specs.List.{AllByRecursion, AllZip}
 use Rattle.std.proofs.lemmas.List.{length-map}
 use Rattle.pv_gate.specs.Value.{value_of}
-use Rattle.pv_machine.specs.Machines.{Machine, Values, done, IsState, IsInput, AreParams}
+use Rattle.pv_machine.specs.Machines.{Machine, Values, IsState, IsInput}
 use Rattle.pv_machine.specs.Queries as machine
 use Rattle.pv_machine.specs.Queries.{IsGoodScan, MeetsBase, MeetsStep}
 use Rattle.pv_cnf.specs.Clause.{Holds}
