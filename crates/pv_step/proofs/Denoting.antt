@@ -1,7 +1,6 @@
 -- Values of BOOL and their bits.
-use Rattle.std.proofs.Common.{◌≡◌, ℕ, ◌+◌, ◌*◌, ◌<◌, zero, suc, Bool, true, false, ℤ, pos, List, [], ◌∷◌, length, take, drop, replicate, map, refl, sym, ◌∙◌, ap, subst, arith, lit<}
+use Rattle.std.proofs.Common.{◌≡◌, ℕ, zero, suc, Bool, true, false, ℤ, [], ◌∷◌, length, replicate, refl, sym, ◌∙◌, ap, arith, lit<}
 use Rattle.std.proofs.lemmas.Int.{ints}
-use Rattle.pv_word.specs.declared.types.Ty.{Ty}
 use Rattle.pv_word.specs.declared.types.Ty.TheVariants as types
 use Rattle.pv_word.specs.Types.{InRange, pattern_of}
 use Rattle.pv_word.proofs.ForCallers.{pattern-pos, in_range-pattern_same}

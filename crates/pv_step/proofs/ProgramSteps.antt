@@ -1,12 +1,10 @@
 -- A program's circuit does the steps of its machine.
-use Rattle.std.proofs.Common.{◌≡◌, ◌↔◌, ℕ, Bool, true, false, not, List, [], ◌∷◌, length, map, replicate, refl, sym, ◌∙◌, ap, subst, arith}
+use Rattle.std.proofs.Common.{◌≡◌, Bool, true, false, not, [], ◌∷◌, length, map, refl, sym, ◌∙◌, ap, subst, arith}
 use Rattle.std.proofs.lemmas.List.{length-map}
 use Rattle.pv_gate.specs.Value.{value_of}
-use Rattle.pv_machine.specs.Machines.{Values, done, IsState, IsInput, AreParams}
-use Rattle.pv_machine.specs.Queries.{IsGoodScan}
-use Rattle.pv_circuit.specs.declared.start.Start.{Start}
+use Rattle.pv_machine.specs.Machines.{Values, done, IsState, IsInput}
 use Rattle.pv_circuit.specs.declared.start.Start.TheVariants.{Begins}
-use Rattle.pv_circuit.specs.Circuits.{IsCircuit, values_of}
+use Rattle.pv_circuit.specs.Circuits.{values_of}
 use Rattle.pv_circuit.specs.Starts.{AreState, AreStart, next_of}
 use Rattle.pv_circuit.specs.Steps.{Denote, HasForm, HasRanges, HasStarts, IsScan, Denotes, Steps}
 use Rattle.pv_bool.specs.Tree.{ProgramTree, IsProgram}
@@ -16,7 +14,7 @@ use Rattle.pv_bool.proofs.ForCallers.{length-start, length-next_state, length-wi
 use Rattle.pv_step.specs.Circuits.{circuit_of}
 use Rattle.pv_step.specs.Correct.{state_before, input_before}
 use Rattle.pv_step.specs.Steps.{form_of, starts_of}
-use Rattle.pv_step.proofs.ScanLaws.{does_the_scan, have_lengths, stand_for, is_circuit}
+use Rattle.pv_step.proofs.ScanLaws.{does_the_scan, have_lengths, stand_for}
 use Rattle.pv_step.proofs.Denoting.{widths-bools, denote-numbers, denote-back, denote-count}
 
 -- ---- bits that runs begin with, and that scans change
