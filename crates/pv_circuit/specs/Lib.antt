@@ -1,2 +1,4 @@
 pub mod Circuits
 pub mod Made
+pub mod Starts
+pub mod Steps

@@ -3,5 +3,9 @@
 #![tactic(auto)]
 
 mod circuit;
+mod source;
+mod start;
 
 pub use circuit::StepCircuit;
+pub use source::StepSource;
+pub use start::{Start, Starts};

@@ -59,15 +59,15 @@ written-around frame n nodes k node at =
 -- ---- they are clauses
 
 -- some literals, each inside
-record AreInside (v : ℕ) (lits : List ℕ) : Type 0 where
+pub record AreInside (v : ℕ) (lits : List ℕ) : Type 0 where
   inside : has_outside v lits ≡ false
   some : 0 < length lits
 
-written-all : (v : ℕ) (clauses : List (List ℕ)) → AllByRecursion (AreInside v) clauses → AreClauses v (flat_map written clauses)
+pub written-all : (v : ℕ) (clauses : List (List ℕ)) → AllByRecursion (AreInside v) clauses → AreClauses v (flat_map written clauses)
 written-all v [] all = tt
 written-all v (c ∷ cs) all = clauses-both v (written c) (flat_map written cs) (written-valid v c all.0.inside all.0.some) (written-all v cs all.1)
 
-inside-variable : (v lit : ℕ) → 1 ≤ lit / 2 → lit / 2 ≤ v → is_outside v lit ≡ false
+pub inside-variable : (v lit : ℕ) → 1 ≤ lit / 2 → lit / 2 ≤ v → is_outside v lit ≡ false
 inside-variable v lit from to = or_from _ _ (ne_eqb (lit / 2) 0 (λ e. omega arith)) (le-ltb v (lit / 2) to)
 
 pub inside-literal : (v : ℕ) (l : ℤ) → Names v l → is_outside v (literal_in own_variables l) ≡ false
@@ -83,7 +83,7 @@ three-inside v a b c p q r = record { inside = or_from _ _ p (or_from _ _ q (or_
 flipped : (v lit : ℕ) → is_outside v lit ≡ false → is_outside v (complement lit) ≡ false
 flipped v lit h = outside-complement v lit ∙ h
 
-and-inside : (v g a b : ℕ) → is_outside v g ≡ false → is_outside v a ≡ false → is_outside v b ≡ false → AllByRecursion (AreInside v) (and_clauses g a b)
+pub and-inside : (v g a b : ℕ) → is_outside v g ≡ false → is_outside v a ≡ false → is_outside v b ≡ false → AllByRecursion (AreInside v) (and_clauses g a b)
 and-inside v g a b p q r = (
   two-inside v (complement g) a (flipped v g p) q,
   (
@@ -92,7 +92,7 @@ and-inside v g a b p q r = (
   ),
 )
 
-xor-inside : (v g a b : ℕ) → is_outside v g ≡ false → is_outside v a ≡ false → is_outside v b ≡ false → AllByRecursion (AreInside v) (xor_clauses g a b)
+pub xor-inside : (v g a b : ℕ) → is_outside v g ≡ false → is_outside v a ≡ false → is_outside v b ≡ false → AllByRecursion (AreInside v) (xor_clauses g a b)
 xor-inside v g a b p q r = (
   three-inside v (complement g) a b (flipped v g p) q r,
   (
@@ -104,7 +104,7 @@ xor-inside v g a b p q r = (
   ),
 )
 
-mux-inside : (v g s a b : ℕ) → is_outside v g ≡ false → is_outside v s ≡ false → is_outside v a ≡ false → is_outside v b ≡ false → AllByRecursion (AreInside v) (mux_clauses g s a b)
+pub mux-inside : (v g s a b : ℕ) → is_outside v g ≡ false → is_outside v s ≡ false → is_outside v a ≡ false → is_outside v b ≡ false → AllByRecursion (AreInside v) (mux_clauses g s a b)
 mux-inside v g s a b p o q r = (
   three-inside v (complement g) (complement s) a (flipped v g p) (flipped v s o) q,
   (
@@ -134,16 +134,16 @@ node-valid v n before node from to few follows = written-all v (node_clauses own
     by (Mux s a b) h = mux-inside v _ _ _ _ gate (operand s h.0) (operand a h.1.0) (operand b h.1.1)
 
 -- the clauses of all nodes, where those of each are
-pub frame-valid : (v n : ℕ) (nodes : List Node) → ((k : ℕ) (node : Node) → slice_get nodes k ≡ Some node → AreClauses v (flat_map written (node_clauses own_variables (n + k) node))) → AreClauses v (flat_map written (frame_clauses own_variables n nodes))
-frame-valid v n [] each = tt
-frame-valid v n (x ∷ nodes) each =
+pub frame-valid : (frame : Frame) (v n : ℕ) (nodes : List Node) → ((k : ℕ) (node : Node) → slice_get nodes k ≡ Some node → AreClauses v (flat_map written (node_clauses frame (n + k) node))) → AreClauses v (flat_map written (frame_clauses frame n nodes))
+frame-valid frame v n [] each = tt
+frame-valid frame v n (x ∷ nodes) each =
     let here : n + 0 ≡ n = omega arith in
-    subst (AreClauses v) (sym (flat_map-append written (node_clauses own_variables n x) (frame_clauses own_variables (suc n) nodes)))
-    (clauses-both v (flat_map written (node_clauses own_variables n x)) (flat_map written (frame_clauses own_variables (suc n) nodes))
-    (subst (λ (m : ℕ). AreClauses v (flat_map written (node_clauses own_variables m x))) here (each 0 x refl))
-    (frame-valid v (suc n) nodes (λ k node at.
+    subst (AreClauses v) (sym (flat_map-append written (node_clauses frame n x) (frame_clauses frame (suc n) nodes)))
+    (clauses-both v (flat_map written (node_clauses frame n x)) (flat_map written (frame_clauses frame (suc n) nodes))
+    (subst (λ (m : ℕ). AreClauses v (flat_map written (node_clauses frame m x))) here (each 0 x refl))
+    (frame-valid frame v (suc n) nodes (λ k node at.
     let there : n + suc k ≡ suc n + k = omega arith in
-    subst (λ (m : ℕ). AreClauses v (flat_map written (node_clauses own_variables m node))) there (each (suc k) node at))))
+    subst (λ (m : ℕ). AreClauses v (flat_map written (node_clauses frame m node))) there (each (suc k) node at))))
 
 -- ---- they are few
 
@@ -188,7 +188,7 @@ step-is nodes fail =
     ap (λ (cs : List (List ℕ)). (2 ∷ []) ∷ flat_map written (cs ++ (l ∷ []) ∷ [])) (append-nil (frame_clauses own_variables 1 nodes))
     ∙ ap (λ (cs : List (List ℕ)). (2 ∷ []) ∷ cs) (flat_map-append written (frame_clauses own_variables 1 nodes) ((l ∷ []) ∷ []))
 
-unit-valid : (v lit : ℕ) → is_outside v lit ≡ false → AreClauses v ((lit ∷ []) ∷ [])
+pub unit-valid : (v lit : ℕ) → is_outside v lit ≡ false → AreClauses v ((lit ∷ []) ∷ [])
 unit-valid v lit h = written-valid v (lit ∷ []) (or_from _ _ h refl) (lit< tt)
 
 -- it is a formula over one variable for each node
@@ -200,7 +200,7 @@ step-valid nodes fail net names =
     (clauses-both v ((2 ∷ []) ∷ []) (flat_map written (frame_clauses own_variables 1 nodes) ++ (literal_in own_variables fail ∷ []) ∷ [])
     (unit-valid v 2 (inside-variable v 2 (lit≤ tt) some))
     (clauses-both v (flat_map written (frame_clauses own_variables 1 nodes)) ((literal_in own_variables fail ∷ []) ∷ [])
-    (frame-valid v 1 nodes (λ k node at.
+    (frame-valid own_variables v 1 nodes (λ k node at.
     let below = slice_get_within nodes k node at in
     let taken = length-take-le k nodes (omega arith) in
     node-valid v (1 + k) (take k nodes) node (omega arith) (omega arith) (omega arith) (net.each k node at)))

@@ -26,7 +26,7 @@ or_false true = refl
 or_false false = refl
 
 -- the three parts of the formula
-step-value : (values : ℕ → Bool) (nodes : List Node) (fail : ℤ) → list_all (clause_value values) (step_clauses nodes fail) ≡ (values 1 && (list_all (clause_value values) (frame_clauses own_variables 1 nodes) && literal_value values (literal_in own_variables fail)))
+pub step-value : (values : ℕ → Bool) (nodes : List Node) (fail : ℤ) → list_all (clause_value values) (step_clauses nodes fail) ≡ (values 1 && (list_all (clause_value values) (frame_clauses own_variables 1 nodes) && literal_value values (literal_in own_variables fail)))
 step-value values nodes fail =
     let frame = frame_clauses own_variables 1 nodes in
     let l = literal_in own_variables fail in

@@ -21,7 +21,7 @@ pub(crate) fn literal(l: i32) -> u32
 }
 
 /// `g` is `a AND b`.
-fn and_gate(g: u32, a: u32, b: u32) -> [Short; 4]
+pub(crate) fn and_gate(g: u32, a: u32, b: u32) -> [Short; 4]
     ensures { flat_map clauses_of result ≡ flat_map written (and_clauses g a b) }
 {
     [
@@ -33,7 +33,7 @@ fn and_gate(g: u32, a: u32, b: u32) -> [Short; 4]
 }
 
 /// `g` is one of `a` and `b` and not the other.
-fn xor_gate(g: u32, a: u32, b: u32) -> [Short; 4]
+pub(crate) fn xor_gate(g: u32, a: u32, b: u32) -> [Short; 4]
     ensures { flat_map clauses_of result ≡ flat_map written (xor_clauses g a b) }
 {
     [
@@ -45,7 +45,7 @@ fn xor_gate(g: u32, a: u32, b: u32) -> [Short; 4]
 }
 
 /// `g` is `a` where `s`, else `b`.
-fn mux_gate(g: u32, s: u32, a: u32, b: u32) -> [Short; 4]
+pub(crate) fn mux_gate(g: u32, s: u32, a: u32, b: u32) -> [Short; 4]
     ensures { flat_map clauses_of result ≡ flat_map written (mux_clauses g s a b) }
 {
     [

@@ -8,9 +8,15 @@
 //! so no gate is looked at twice.
 #![tactic(auto)]
 
+mod bits;
 mod gate;
 pub mod laws;
 mod push;
+pub mod query;
+mod read;
 mod short;
+mod table;
 
+pub use bits::{BitTrace, Bits, ScanBits};
 pub use push::{MAX_CLAUSES_BEFORE, MAX_QUERY_GATES, push_step, variables};
+pub use read::read_frames;

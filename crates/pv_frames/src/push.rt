@@ -25,7 +25,7 @@ pub const MAX_QUERY_GATES: u32 = 10_000_000;
 pub const MAX_CLAUSES_BEFORE: u32 = 1_000_000_000;
 
 /// A clause, if it isn't left out.
-fn push_short<C: Clauses>(clause: Short, into: &mut C) -> Result<(), PushFault>
+pub(crate) fn push_short<C: Clauses>(clause: Short, into: &mut C) -> Result<(), PushFault>
     requires takes { IsTrue (C.takes_clauses into.old) }
     requires valid { AreClauses (C.variables into.old) (clauses_of clause) }
     requires room { length (C.clauses into.old) < 2 ^ 32 - 1 }
@@ -43,7 +43,7 @@ fn push_short<C: Clauses>(clause: Short, into: &mut C) -> Result<(), PushFault>
 }
 
 /// Clauses in order.
-fn push_all<C: Clauses>(clauses: &[Short], into: &mut C) -> Result<(), PushFault>
+pub(crate) fn push_all<C: Clauses>(clauses: &[Short], into: &mut C) -> Result<(), PushFault>
     requires takes { IsTrue (C.takes_clauses into.old) }
     requires valid { AreClauses (C.variables into.old) (flat_map clauses_of clauses.now) }
     requires room { length (C.clauses into.old) + length clauses.now < 2 ^ 32 }

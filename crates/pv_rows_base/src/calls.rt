@@ -5,6 +5,7 @@ use crate::circuits::tell_circuit;
 use crate::clauses::{tell_flip, tell_formula, tell_solver, tell_values};
 use crate::logs::{tell_line, tell_verdict};
 use crate::memory::{tell_files, tell_sink};
+use crate::queries::{Asked, tell_query};
 use crate::texts::{tell_sample, tell_tokens};
 use pv_lex::Language;
 use pv_rows_form::{Calls, Row, Told, last};
@@ -30,6 +31,14 @@ fn whole(row: Row<'_>, told: &mut Told) -> Vec<u8> {
         told.lose();
     }
     text
+}
+
+/// What is asked of the row's program, start and query.
+fn ask(row: Row<'_>, asked: Asked<'_>, told: &mut Told) {
+    let name = said(row, 0, told);
+    let start = said(row, 1, told);
+    let query = said(row, 2, told);
+    tell_query(name.as_str(), start.as_str(), query.as_str(), asked, told);
 }
 
 impl Calls for Base {
@@ -67,6 +76,12 @@ impl Calls for Base {
             "log" => tell_verdict(given, false, said(row, 0, told).as_str(), told),
             "new log" => tell_verdict(given, true, said(row, 0, told).as_str(), told),
             "certificate" => tell_certificate(whole(row, told).as_slice(), told),
+            "query" => ask(row, Asked::Formula, told),
+            "query into a solver" => {
+                let words = said(row, 3, told).as_str().parse::<u64>().unwrap_or(0);
+                ask(row, Asked::Solver(words), told)
+            }
+            "run of a query" => ask(row, Asked::Run(said(row, 3, told).as_str()), told),
             "trace" => tell_trace(given, row.bytes(0, told).as_slice(), told),
             call => tell_arithmetic(call, said(row, 0, told).as_str(), told),
         }

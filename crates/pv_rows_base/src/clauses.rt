@@ -87,7 +87,7 @@ pub fn tell_flip(said: &str, told: &mut Told) {
 
 /// The value of variable v at place v - 1.
 #[derive(Drop)]
-struct Bits<'a>(&'a [bool]);
+pub struct Bits<'a>(pub &'a [bool]);
 
 impl<'a> Values for Bits<'a> {
     ghost assigned = { λ bits. length bits.0.now };
@@ -99,7 +99,8 @@ impl<'a> Values for Bits<'a> {
     }
 }
 
-fn bits_of(alloc: Global, said: &str) -> Result<Vec<bool>, AllocError> {
+/// The bits of a text, `1` for true.
+pub fn bits_of(alloc: Global, said: &str) -> Result<Vec<bool>, AllocError> {
     let mut bits = Vec::new(alloc);
     for byte in said.as_bytes() {
         bits.push(*byte == b'1')?;

@@ -10,6 +10,8 @@ mod circuits;
 mod clauses;
 mod logs;
 mod memory;
+mod programs;
+mod queries;
 mod texts;
 
 use calls::{Base, NAMES};

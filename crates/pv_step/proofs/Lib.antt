@@ -4,4 +4,6 @@ pub mod Picks
 pub mod Meaning
 pub mod Outcome
 pub mod ScanLaws
+pub mod Denoting
+pub mod ProgramSteps
 pub mod ForCallers

@@ -1,0 +1,2 @@
+pub mod Denoting
+pub mod MachineRuns

@@ -1,0 +1,5 @@
+use Rattle.pv_step.proofs.ProgramSteps.{does_the_steps}
+use Rattle.pv_step.proofs.laws.circuits_do_the_steps.Goals as goal
+
+pub returns : goal.returns
+returns c = does_the_steps
