@@ -33,6 +33,11 @@ fn whole(row: Row<'_>, told: &mut Told) -> Vec<u8> {
     text
 }
 
+/// How many words the row's solver has.
+fn words(row: Row<'_>, told: &mut Told) -> u64 {
+    said(row, 3, told).as_str().parse::<u64>().unwrap_or(0)
+}
+
 /// What is asked of the row's program, start and query.
 fn ask(row: Row<'_>, asked: Asked<'_>, told: &mut Told) {
     let name = said(row, 0, told);
@@ -77,10 +82,7 @@ impl Calls for Base {
             "new log" => tell_verdict(given, true, said(row, 0, told).as_str(), told),
             "certificate" => tell_certificate(whole(row, told).as_slice(), told),
             "query" => ask(row, Asked::Formula, told),
-            "query into a solver" => {
-                let words = said(row, 3, told).as_str().parse::<u64>().unwrap_or(0);
-                ask(row, Asked::Solver(words), told)
-            }
+            "query into a solver" => ask(row, Asked::Solver(words(row, told)), told),
             "run of a query" => ask(row, Asked::Run(said(row, 3, told).as_str()), told),
             "trace" => tell_trace(given, row.bytes(0, told).as_slice(), told),
             call => tell_arithmetic(call, said(row, 0, told).as_str(), told),
