@@ -340,7 +340,9 @@ fn make_stmt(
             body,
             place,
         } => {
-            make_for(alloc, context, program, var, *var_place, first, last, by, body, *place)
+            make_for(
+                alloc, context, program, var, *var_place, first, last, by, body, *place,
+            )
         }
         StmtTree::While { cond, body, place } => {
             make_while(alloc, context, program, cond, body, *place)

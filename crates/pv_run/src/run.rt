@@ -146,15 +146,11 @@ impl Program {
             ),
             Stmt::While { test, body, place } => {
                 let body = body.before(k);
-                self.run_while(
-                    body, *test, *place, at, visible, own, below, turns, scratch,
-                )
+                self.run_while(body, *test, *place, at, visible, own, below, turns, scratch)
             }
             Stmt::Repeat { body, test, place } => {
                 let body = body.before(k);
-                self.run_repeat(
-                    body, *test, *place, at, visible, own, below, turns, scratch,
-                )
+                self.run_repeat(body, *test, *place, at, visible, own, below, turns, scratch)
             }
             Stmt::Exit => Ok(Flow::Exit),
             Stmt::Continue => Ok(Flow::Continue),
