@@ -16,6 +16,7 @@ use Rattle.pv_flow.specs.Faults.{set_below, edge_below, cross, enters_well, IsFa
 use Rattle.pv_flow.specs.WellMade.{is_end, IsWellMade}
 use Rattle.pv_flow.specs.Machines.{IsInlined, IsAcyclic}
 use Rattle.pv_flow.specs.View.{terms_of, variable_of, set_of, edge_of, call_edge_of, loop_of, trap_end_of, over_end_of, parts_of}
+use Rattle.pv_flow.specs.Tables.{are_ordered, has_terms, AreTabled}
 use Rattle.pv_flow.specs.AutomatonView.{automaton_of}
 use Rattle.pv_contracts_flow.specs.Rows.{IsBare, IsLoopOf, edge, AreLoopsOf, IsEdgePast, BeginWith, IsSetPast, IsCrossing, IsEnteredWithin}
 
@@ -154,6 +155,13 @@ seen p is =
 
 pub one_is_well_made : (p : CodeParts) → IsBare 1 0 p → IsFaultless (parts_of p) → IsWellMade (parts_of p)
 one_is_well_made p is h = subst (λ (q : Parts). IsWellMade q) (sym (seen p is)) is_well_made
+
+pub one_is_tabled : (p : CodeParts) → IsBare 1 0 p → IsFaultless (parts_of p) → AreTabled p
+one_is_tabled p is h = record {
+  nodes = ap (are_ordered 0) is.nodes;
+  deeds = ap (list_all (has_terms (length p.nodes.items))) is.deeds;
+  edges = ap (list_all (λ (edge : CodeEdge). nat_lt edge.deed (length p.deeds.items))) is.edges;
+}
 
 pub one_is_inlined : (a : Automaton) (p : CodeParts) → IsBare 1 0 p → automaton_of a ≡ parts_of p → IsInlined (automaton_of a) 16
 one_is_inlined a p is e = subst (λ (q : Parts). IsInlined q 16) (sym (e ∙ seen p is)) (refl, omega arith)

@@ -45,14 +45,14 @@ fn of_entering(alloc: Global) -> Result<Option<FlowFault>, AllocError> {
 }
 
 /// The bound of an automaton of one location.
-#[tactic(auto, using(crate::proofs::RowLaws::one_is_well_made, crate::proofs::RowLaws::one_is_inlined))]
+#[tactic(auto, using(crate::proofs::RowLaws::one_is_well_made, crate::proofs::RowLaws::one_is_tabled, crate::proofs::RowLaws::one_is_inlined))]
 fn bound_at_once(alloc: Global) -> Result<u32, FlowFault> {
     let automaton = build(alloc, bare(alloc, 1, 0))?;
     Ok(bound_of(automaton, 16))
 }
 
 /// Whether an automaton of one location has something attached.
-#[tactic(auto, using(crate::proofs::RowLaws::one_is_well_made, crate::proofs::RowLaws::one_is_acyclic))]
+#[tactic(auto, using(crate::proofs::RowLaws::one_is_well_made, crate::proofs::RowLaws::one_is_tabled, crate::proofs::RowLaws::one_is_acyclic))]
 fn attached_at_once(alloc: Global) -> Result<bool, FlowFault> {
     let automaton = build(alloc, bare(alloc, 1, 0))?;
     Ok(attached_to(automaton, None).is_some())

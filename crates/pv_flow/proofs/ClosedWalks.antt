@@ -3,7 +3,7 @@
 -- first location, from further on.
 use Rattle.std.proofs.Common.{◌≡◌, ℕ, zero, suc, ◌<◌, ◌≤◌, ◌⊎◌, inl, inr, List, [], ◌∷◌, length, slice_get, Bool, true, false, not, ◌&&◌, ◌||◌, ◌==◌, nat_lt, nat_le, cond, Option, Some, None, IfSome, refl, sym, subst, ap, ◌∙◌, arith}
 use Rattle.std.specs.List.{AllByRecursion, list_any, list_all}
-use Rattle.std.proofs.lemmas.Bool.{true≢false, false≢true, both_ways, ltb-true, ltb-false, leb-true, le-leb, eqb-true, eq-eqb, cases_lt, and_parts, and_from, or_left, or_right, or_parts, or_cases, not-true, cases_Bool}
+use Rattle.std.proofs.lemmas.Bool.{true≢false, false≢true, both_ways, ltb-true, ltb-false, leb-true, le-leb, eqb-true, eq-eqb, cases_lt, and_parts, and_from, or_left, or_right, or_parts, or_cases, not-true, cases_Bool, cond-true, cond-false}
 use Rattle.std.proofs.lemmas.Option.{same_Some, none-some}
 use Rattle.std.proofs.lemmas.List.Elements.{recursion_from_All}
 use Rattle.pv_flow.specs.Automata.{Edge, CallEdge, Loop, Parts, holds, is_turn}
@@ -13,12 +13,12 @@ use Rattle.pv_flow.specs.Walks.{Hop, is_between, leads_by, Follows, IsClosedWalk
 
 -- ---- lists
 
-all_at : {X : Type 0} (f : X → Bool) (xs : List X) (i : ℕ) → list_all f xs ≡ true → IfSome (slice_get xs i) (λ x. f x ≡ true)
+pub all_at : {X : Type 0} (f : X → Bool) (xs : List X) (i : ℕ) → list_all f xs ≡ true → IfSome (slice_get xs i) (λ x. f x ≡ true)
 all_at f [] i h = tt
 all_at f (x ∷ xs) zero h = (and_parts (f x) (list_all f xs) h).0
 all_at f (x ∷ xs) (suc i) h = all_at f xs i (and_parts (f x) (list_all f xs) h).1
 
-all_listed : {X : Type 0} (f : X → Bool) (xs : List X) → list_all f xs ≡ true → AllByRecursion (λ x. f x ≡ true) xs
+pub all_listed : {X : Type 0} (f : X → Bool) (xs : List X) → list_all f xs ≡ true → AllByRecursion (λ x. f x ≡ true) xs
 all_listed f [] h = tt
 all_listed f (x ∷ xs) h = let both = and_parts (f x) (list_all f xs) h in (both.0, all_listed f xs both.1)
 
@@ -26,25 +26,25 @@ all_of : {X : Type 0} (f : X → Bool) (xs : List X) → AllByRecursion (λ x. f
 all_of f [] h = refl
 all_of f (x ∷ xs) h = and_from (f x) (list_all f xs) h.0 (all_of f xs h.1)
 
-listed_at : {X : Type 0} (P : X → Type 0) (xs : List X) (i : ℕ) → AllByRecursion P xs → IfSome (slice_get xs i) P
+pub listed_at : {X : Type 0} (P : X → Type 0) (xs : List X) (i : ℕ) → AllByRecursion P xs → IfSome (slice_get xs i) P
 listed_at P [] i h = tt
 listed_at P (x ∷ xs) zero h = h.0
 listed_at P (x ∷ xs) (suc i) h = listed_at P xs i h.1
 
-at_some : {X : Type 0} (P : X → Type 0) (o : Option X) (x : X) → o ≡ Some x → IfSome o P → P x
+pub at_some : {X : Type 0} (P : X → Type 0) (o : Option X) (x : X) → o ≡ Some x → IfSome o P → P x
 at_some P o x e h = subst (λ (o : Option _). IfSome o P) e h
 
-mapped : {X : Type 0} (P Q : X → Type 0) (xs : List X) → ((x : X) → P x → Q x) → AllByRecursion P xs → AllByRecursion Q xs
+pub mapped : {X : Type 0} (P Q : X → Type 0) (xs : List X) → ((x : X) → P x → Q x) → AllByRecursion P xs → AllByRecursion Q xs
 mapped P Q [] go h = tt
 mapped P Q (x ∷ xs) go h = (go x h.0, mapped P Q xs go h.1)
 
-record Found {X : Type 0} (f : X → Bool) (xs : List X) : Type 0 where
-  element : X
-  number : ℕ
-  stands : slice_get xs number ≡ Some element
-  passes : f element ≡ true
+pub record Found {X : Type 0} (f : X → Bool) (xs : List X) : Type 0 where
+  pub element : X
+  pub number : ℕ
+  pub stands : slice_get xs number ≡ Some element
+  pub passes : f element ≡ true
 
-found : {X : Type 0} (f : X → Bool) (xs : List X) → list_any f xs ≡ true → Found f xs
+pub found : {X : Type 0} (f : X → Bool) (xs : List X) → list_any f xs ≡ true → Found f xs
 found f [] h = absurd (false≢true h)
 found {X} f (x ∷ xs) h = by (or_cases (f x) (list_any f xs) h) (λ e. found f xs e)
   where
@@ -57,11 +57,19 @@ found {X} f (x ∷ xs) h = by (or_cases (f x) (list_any f xs) h) (λ e. found f 
 
 -- ---- what each hop keeps
 
-record Keeps (p : Parts) (hop : Hop) : Type 0 where
-  well : leads_well p.loops hop.edge hop.from hop.to ≡ true
-  enters : (i : ℕ) → IfSome (slice_get p.loops i) (λ loop. enters_well loop hop.from hop.to ≡ true)
-  turns : (i : ℕ) → IfSome (slice_get p.loops i)
+-- a turn edge begins and ends in the range, and ends at the first location where entering starts turn 1, else begins there
+pub record IsTurning (loop : Loop) (from to : ℕ) : Type 0 where
+  pub begins : holds loop from ≡ true
+  pub ends : holds loop to ≡ true
+  pub back : loop.entry_turn ≡ true → to ≡ loop.first
+  pub out : loop.entry_turn ≡ false → from ≡ loop.first
+
+pub record Keeps (p : Parts) (hop : Hop) : Type 0 where
+  pub well : leads_well p.loops hop.edge hop.from hop.to ≡ true
+  pub enters : (i : ℕ) → IfSome (slice_get p.loops i) (λ loop. enters_well loop hop.from hop.to ≡ true)
+  pub turns : (i : ℕ) → IfSome (slice_get p.loops i)
       (λ loop. loop.entry_turn ≡ false → hop.from ≡ loop.first → holds loop hop.to ≡ true → turns_by loop hop.edge ≡ true)
+  pub turning : (i : ℕ) → IfSome (slice_get p.loops i) (λ loop. turns_by loop hop.edge ≡ true → IsTurning loop hop.from hop.to)
 
 -- what is so of the edge is so of the hop along it
 along : (Q : ℕ → ℕ → Type 0) (from to : ℕ) (o : Option Edge) → is_between from to o ≡ true → IfSome o (λ edge. Q edge.from edge.to) → Q from to
@@ -113,6 +121,35 @@ turns_of loop e from to h entry first held = by (is_turn loop e) refl
     by true on = on
     by false off = absurd (other (is_turn loop e) off h)
 
+turning_of : (loop : Loop) (e from to : ℕ) → Turns loop e from to → loop.first ≤ loop.last → is_turn loop e ≡ true → IsTurning loop from to
+turning_of loop e from to h range on = by (loop.entry_turn) refl
+    (sym (cond-true (is_turn loop e) (cond loop.entry_turn (holds loop from && (to == loop.first)) ((from == loop.first) && holds loop to))
+    (loop.entry_turn || not ((from == loop.first) && holds loop to)) on) ∙ h)
+  where
+    first_held : (n : ℕ) → n ≡ loop.first → holds loop n ≡ true
+    first_held n e = and_from (nat_le loop.first n) (nat_le n loop.last) (le-leb loop.first n (omega (arith, e))) (le-leb n loop.last (omega (arith, e, range)))
+
+    by : (b : Bool) → loop.entry_turn ≡ b
+        → cond loop.entry_turn (holds loop from && (to == loop.first)) ((from == loop.first) && holds loop to) ≡ true → IsTurning loop from to
+    by true entry g =
+        let both = and_parts (holds loop from) (to == loop.first)
+        (sym (cond-true loop.entry_turn (holds loop from && (to == loop.first)) ((from == loop.first) && holds loop to) entry) ∙ g) in
+        record {
+          begins = both.0;
+          ends = first_held to (eqb-true to loop.first both.1);
+          back = λ x. eqb-true to loop.first both.1;
+          out = λ x. absurd (true≢false (sym entry ∙ x));
+        }
+    by false entry g =
+        let both = and_parts (from == loop.first) (holds loop to)
+        (sym (cond-false loop.entry_turn (holds loop from && (to == loop.first)) ((from == loop.first) && holds loop to) entry) ∙ g) in
+        record {
+          begins = first_held from (eqb-true from loop.first both.0);
+          ends = both.1;
+          back = λ x. absurd (true≢false (sym x ∙ entry));
+          out = λ x. eqb-true from loop.first both.0;
+        }
+
 no_call_turns : (loop : Loop) (from : ℕ) → (loop.entry_turn || not (from == loop.first)) ≡ true → loop.entry_turn ≡ false → from ≡ loop.first → ⊥
 no_call_turns loop from g entry first =
     false≢true (ap (λ (b : Bool). b || false) (sym entry) ∙ ap (λ (b : Bool). loop.entry_turn || not b) (sym (eq-eqb from loop.first first)) ∙ g)
@@ -135,8 +172,14 @@ keeps_edge p f w e from to h = record {
   well = along (λ a b. leads_well p.loops (Some e) a b ≡ true) from to (slice_get p.edges e) h (w.forward e);
   enters = λ i. enter (slice_get p.loops i) (all_at (is_loop p) p.loops i f.loops);
   turns = λ i. turn (slice_get p.loops i) (listed_at (IsLoop p) p.loops i (recursion_from_All (IsLoop p) p.loops w.loops));
+  turning = λ i. turning (slice_get p.loops i) (listed_at (IsLoop p) p.loops i (recursion_from_All (IsLoop p) p.loops w.loops));
 }
   where
+    turning : (o : Option Loop) → IfSome o (IsLoop p) → IfSome o (λ loop. turns_by loop (Some e) ≡ true → IsTurning loop from to)
+    turning None g = tt
+    turning (Some loop) g = λ on.
+        turning_of loop e from to (along (λ a b. Turns loop e a b) from to (slice_get p.edges e) h (g.turns e)) g.range on
+
     enter : (o : Option Loop) → IfSome o (λ loop. is_loop p loop ≡ true) → IfSome o (λ loop. enters_well loop from to ≡ true)
     enter None g = tt
     enter (Some loop) g = along (λ a b. enters_well loop a b ≡ true) from to (slice_get p.edges e) h
@@ -157,8 +200,13 @@ keeps_call p f w from to h = record {
       (recursion_from_All (λ (call : CallEdge). leads_well p.loops None call.from call.to ≡ true) p.calls w.calls_forward);
   enters = λ i. enter (slice_get p.loops i) (all_at (is_loop p) p.loops i f.loops);
   turns = λ i. turn (slice_get p.loops i) (listed_at (IsLoop p) p.loops i (recursion_from_All (IsLoop p) p.loops w.loops));
+  turning = λ i. turning (slice_get p.loops i);
 }
   where
+    turning : (o : Option Loop) → IfSome o (λ loop. turns_by loop None ≡ true → IsTurning loop from to)
+    turning None = tt
+    turning (Some loop) = λ on. absurd (false≢true on)
+
     enter : (o : Option Loop) → IfSome o (λ loop. is_loop p loop ≡ true) → IfSome o (λ loop. enters_well loop from to ≡ true)
     enter None g = tt
     enter (Some loop) g = along_call (λ a b. enters_well loop a b ≡ true) from to p.calls h
@@ -172,7 +220,7 @@ keeps_call p f w from to h = record {
         (along_call (λ a b. (loop.entry_turn || not (a == loop.first)) ≡ true) from to p.calls h
         (recursion_from_All (λ (call : CallEdge). (loop.entry_turn || not (call.from == loop.first)) ≡ true) p.calls g.calls)) entry first)
 
-keeps : (p : Parts) → IsFaultless p → IsWellMade p → (hop : Hop) → leads_by p hop.edge hop.from hop.to ≡ true → Keeps p hop
+pub keeps : (p : Parts) → IsFaultless p → IsWellMade p → (hop : Hop) → leads_by p hop.edge hop.from hop.to ≡ true → Keeps p hop
 keeps p f w hop h = by hop.edge h
   where
     by : (o : Option ℕ) → leads_by p o hop.from hop.to ≡ true → Keeps p (record { from = hop.from; to = hop.to; edge = o })
@@ -274,7 +322,7 @@ none_any : {X : Type 0} (f : X → Bool) (xs : List X) → list_any f xs ≡ fal
 none_any f [] h = tt
 none_any f (x ∷ xs) h = let both = or_parts (f x) (list_any f xs) h in (both.0, none_any f xs both.1)
 
-any_at : {X : Type 0} (f : X → Bool) (xs : List X) (i : ℕ) (x : X) → slice_get xs i ≡ Some x → f x ≡ true → list_any f xs ≡ true
+pub any_at : {X : Type 0} (f : X → Bool) (xs : List X) (i : ℕ) (x : X) → slice_get xs i ≡ Some x → f x ≡ true → list_any f xs ≡ true
 any_at f [] i x e h = absurd (none-some x e)
 any_at f (y ∷ xs) zero x e h = or_left (f y) (list_any f xs) (ap f (same_Some y x e) ∙ h)
 any_at f (y ∷ xs) (suc i) x e h = or_right (f y) (list_any f xs) (any_at f xs i x e h)
@@ -350,7 +398,7 @@ least_from p l hop hops best follows =
     let tos = least_to p l hop hops best in
     froms (λ n. (best.hop).to ≤ n) l l (hop ∷ hops) follows (last_to (λ n. (best.hop).to ≤ n) l l hop hops follows tos) tos
 
-leading_back : (loops : List Loop) (e : Option ℕ) (from to : ℕ) → to ≤ from → leads_well loops e from to ≡ true → leads_back loops e from to ≡ true
+pub leading_back : (loops : List Loop) (e : Option ℕ) (from to : ℕ) → to ≤ from → leads_well loops e from to ≡ true → leads_back loops e from to ≡ true
 leading_back loops e from to le h = by (or_cases (nat_lt from to) (leads_back loops e from to) h)
   where
     by : (nat_lt from to ≡ true) ⊎ (leads_back loops e from to ≡ true) → leads_back loops e from to ≡ true

@@ -1,5 +1,5 @@
 -- Small automata: which faults they have, and how they run.
-use Rattle.std.proofs.Common.{◌≡◌, ℕ, zero, suc, ℤ, pos, Bool as Truth, true, false, List, [], ◌∷◌, Option, Some, None, refl}
+use Rattle.std.proofs.Common.{◌≡◌, ℕ, ℤ, pos, Bool as Truth, true, false, List, [], ◌∷◌, Option, Some, None, refl}
 use Rattle.pv_word.specs.declared.types.Ty.TheVariants.{Bool, Int}
 use Rattle.pv_word.specs.Wrap.{wrap_at}
 use Rattle.pv_word.specs.Bits.{pattern_at}
@@ -13,28 +13,28 @@ use Rattle.pv_flow.specs.Faults.{has_locations, has_variables, has_loops}
 use Rattle.pv_flow.specs.Runs.{Outcome, done_with, trapped, gone_over, run, control_of, first_spot, copies}
 use Rattle.pv_flow.specs.Calls.{Blocks, entry_work, base_of}
 
-abbrev here : Place
+abbrev pub here : Place
 here = record { file = 0; offset = 0 }
 
 abbrev pub yes_term : Term
 yes_term = constant Bool (pos 1)
 
-abbrev var : Variable
+abbrev pub var : Variable
 var = record { ty = Bool; role = Kept; start = pos 0; only = None }
 
-abbrev int_var : Variable
+abbrev pub int_var : Variable
 int_var = record { ty = Int; role = Kept; start = pos 0; only = None }
 
-abbrev edge : ℕ → ℕ → Term → List Set → Edge
+abbrev pub edge : ℕ → ℕ → Term → List Set → Edge
 edge from to guard sets = record { from = from; to = to; guard = guard; sets = sets }
 
 abbrev pub set : ℕ → Term → Set
 set x t = record { variable = x; value = t }
 
-abbrev range : ℕ → ℕ → Truth → List ℕ → Loop
+abbrev pub range : ℕ → ℕ → Truth → List ℕ → Loop
 range first last entry_turn turns = record { first = first; last = last; entry_turn = entry_turn; turns = turns; place = here }
 
-abbrev automaton : List Variable → ℕ → List Edge → List Loop → ℕ → Parts
+abbrev pub automaton : List Variable → ℕ → List Edge → List Loop → ℕ → Parts
 automaton vars locations edges loops done = record {
   vars = vars;
   bound = 0;
@@ -49,13 +49,13 @@ automaton vars locations edges loops done = record {
 }
 
 -- what a run leaves in variable x, if it is done
-abbrev left_in : ℕ → Option Outcome → Option ℤ
+abbrev pub left_in : ℕ → Option Outcome → Option ℤ
 left_in x None = None
 left_in x (Some (done_with w)) = Some (w x)
 left_in x (Some (trapped kind place)) = None
 left_in x (Some (gone_over place)) = None
 
-abbrev runs : Parts → ℕ → Valuation → Option Outcome
+abbrev pub runs : Parts → ℕ → Valuation → Option Outcome
 runs p n w = run (control_of p n) (copies n p.loops p.locations) (first_spot p) w
 
 -- ---- faults
@@ -144,14 +144,11 @@ caller = record {
 }
 
 abbrev blocks : Blocks
-blocks zero = Some caller
-blocks (suc zero) = Some (leaf (var ∷ var ∷ []))
-blocks (suc (suc zero)) = Some (leaf (var ∷ []))
-blocks (suc (suc (suc n))) = None
+blocks = Some caller ∷ Some (leaf (var ∷ var ∷ [])) ∷ Some (leaf (var ∷ [])) ∷ []
 
 -- the own variables of the first call's block lie behind the caller's one, those of the second's behind the first's two
-first_base : base_of blocks (entry_work caller 1) 0 ≡ 1
+first_base : base_of blocks (entry_work caller) 0 ≡ 1
 first_base = refl
 
-second_base : base_of blocks (entry_work caller 1) 1 ≡ 3
+second_base : base_of blocks (entry_work caller) 1 ≡ 3
 second_base = refl

@@ -1,5 +1,6 @@
 -- A typed term over variables that have values of their types has a value of its type.
-use Rattle.std.proofs.Common.{◌≡◌, zero, suc, ℤ, pos, negsuc, Bool as Truth, true, false, cond, sym, subst, arith}
+use Rattle.std.proofs.Common.{◌≡◌, ℕ, zero, suc, ℤ, pos, negsuc, Bool as Truth, true, false, ◌&&◌, cond, sym, subst, arith}
+use Rattle.std.proofs.lemmas.Bool.{ltb-true, and_parts}
 use Rattle.std.proofs.lemmas.Int.{ints}
 use Rattle.pv_word.specs.declared.types.Ty.{Ty}
 use Rattle.pv_word.specs.declared.types.Ty.TheVariants.{Bool}
@@ -10,7 +11,7 @@ use Rattle.pv_flow.specs.declared.op.UnaryOp.{UnaryOp}
 use Rattle.pv_flow.specs.declared.op.UnaryOp.TheVariants.{Not, Negate, Left, Right, Convert}
 use Rattle.pv_flow.specs.declared.op.BinaryOp.{BinaryOp}
 use Rattle.pv_flow.specs.declared.op.BinaryOp.TheVariants.{And, Or, Xor, Add, Subtract, Multiply, Divide, Remainder, Less, Equal, SumOverflow, DifferenceOverflow, ProductOverflow}
-use Rattle.pv_flow.specs.Terms.{Term, constant, variable, unary, binary, select, Valuation, number_of, is_true, unary_value, binary_value, value_of, Types, type_of, FitsBinary, IsTyped, AreTyped}
+use Rattle.pv_flow.specs.Terms.{Term, constant, variable, unary, binary, select, Valuation, number_of, is_true, unary_value, binary_value, value_of, Types, type_of, FitsBinary, IsTyped, AreTyped, names_below}
 
 pub wrapped : (ty : Ty) (n : ℤ) → InRange ty (wrap_of ty n)
 wrapped ty n = wrap-in_range (width_of ty) (is_signed_of ty) n (wide ty)
@@ -66,13 +67,17 @@ chosen_fits : (ty : Ty) (c : Truth) (a b : ℤ) → InRange ty a → InRange ty 
 chosen_fits ty true a b h k = h
 chosen_fits ty false a b h k = k
 
-pub typed_value : (types : Types) (w : Valuation) → AreTyped types w → (t : Term) → IsTyped types t → InRange (type_of types t) (value_of w t)
-typed_value types w are (constant ty v) h = h
-typed_value types w are (variable n) h = are n
-typed_value types w are (unary op ty t) h = unary_fits op ty (value_of w t)
-typed_value types w are (binary op ty s t) h =
-    binary_fits op ty (type_of types s) (type_of types t) (value_of w s) (value_of w t) h.2 (typed_value types w are s h.0)
-typed_value types w are (select ty c s t) h =
+pub typed_value : (n : ℕ) (types : Types) (w : Valuation) → AreTyped n types w → (t : Term) → names_below n t ≡ true → IsTyped types t
+    → InRange (type_of types t) (value_of w t)
+typed_value n types w are (constant ty v) names h = h
+typed_value n types w are (variable x) names h = are x (ltb-true x n names)
+typed_value n types w are (unary op ty t) names h = unary_fits op ty (value_of w t)
+typed_value n types w are (binary op ty s t) names h =
+    binary_fits op ty (type_of types s) (type_of types t) (value_of w s) (value_of w t) h.2
+    (typed_value n types w are s (and_parts (names_below n s) (names_below n t) names).0 h.0)
+typed_value n types w are (select ty c s t) names h =
+    let both = and_parts (names_below n c && names_below n s) (names_below n t) names in
+    let first = (and_parts (names_below n c) (names_below n s) both.0).1 in
     chosen_fits ty (is_true (value_of w c)) (value_of w s) (value_of w t)
-    (fits_in (type_of types s) ty (value_of w s) h.4 (typed_value types w are s h.1))
-    (fits_in (type_of types t) ty (value_of w t) h.5 (typed_value types w are t h.2))
+    (fits_in (type_of types s) ty (value_of w s) h.4 (typed_value n types w are s first h.1))
+    (fits_in (type_of types t) ty (value_of w t) h.5 (typed_value n types w are t both.1 h.2))

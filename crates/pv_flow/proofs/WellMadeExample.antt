@@ -13,7 +13,7 @@ use Rattle.pv_flow.specs.Terms.{Term, constant, variable, binary, Types, is_true
 use Rattle.pv_flow.specs.Automata.{Variable, Set, Edge, Loop, types_of, edges_from, calls_from}
 use Rattle.pv_flow.specs.Faults.{IsFaultless}
 use Rattle.pv_flow.specs.WellMade.{IsVariable, IsSet, IsEdge, OneIsTrue, is_end, leads_well, turns_well, IsLoop, AreApart, IsWellMade}
-use Rattle.pv_flow.specs.Typing.{zero_fits, bit_fits, typed_value}
+use Rattle.pv_flow.proofs.Typing.{zero_fits, bit_fits, typed_value}
 use Rattle.pv_flow.proofs.Examples.{yes_term, set, test, one_more, counted}
 
 none : 0 < 0 → ⊥
@@ -69,7 +69,7 @@ none_behind l = none_from (suc (suc (suc (suc (suc l))))) counted.edges begin_be
 guards : OneIsTrue counted
 guards zero w are some = refl
 guards (suc zero) w are some = refl
-guards (suc (suc zero)) w are some = alone (value_of w test) (typed_value types w are test test_is_typed)
+guards (suc (suc zero)) w are some = alone (value_of w test) (typed_value (length counted.vars) types w are test refl test_is_typed)
 guards (suc (suc (suc zero))) w are some = refl
 guards (suc (suc (suc (suc zero)))) w are some = refl
 guards (suc (suc (suc (suc (suc l))))) w are some =
@@ -102,7 +102,7 @@ abbrev far : Term
 far = binary (SumOverflow Int) Bool (variable 1) (constant Int (pos 1))
 
 steps_are : AllByRecursion (IsSet types) (set 1 (one_more 1) ∷ set 4 far ∷ [])
-steps_are = (is_set 1 (one_more 1) (tt, one_fits, (refl, refl)) refl, (is_set 4 far (tt, one_fits, (refl, refl, refl)) refl, tt))
+steps_are = (is_set 1 (one_more 1) (tt, one_fits, (refl, refl)) refl, (is_set 4 far (tt, one_fits, (refl, refl, refl, refl)) refl, tt))
 
 edges_are : AllByRecursion (IsEdge types) counted.edges
 edges_are = (

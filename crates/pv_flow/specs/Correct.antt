@@ -73,7 +73,7 @@ CallsEnd = (blocks : Blocks) (n b : ℕ) (p : Parts) (w : Valuation) → AreFitt
 
 -- and leaves typed variables
 abbrev pub CallsKeepTypes : Type 0
-CallsKeepTypes = (blocks : Blocks) (n b : ℕ) (p : Parts) (w end : Valuation) → AreFitting blocks → AreSound blocks
+CallsKeepTypes = (blocks : Blocks) (n b : ℕ) (p : Parts) (w end : Valuation) → AreFitting blocks → AreSound blocks → 0 < n
     → block_at blocks b ≡ Some p → HasValues p w → EndsAs blocks n p w (done_with end) → HasValues p end
 
 -- ---- machines, walks

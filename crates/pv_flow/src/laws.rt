@@ -1,5 +1,5 @@
 //! Laws of automata and their runs, each the contract of a function that does nothing. Their statements are those of `specs/Correct`.
-ghost use Rattle.pv_flow.specs.Correct.{TermsAreTyped, RunsKeepTypes, MoreStepsChangeNothing, RunsEndOnce, CallsEndOnce, UntouchedStay, MachinesAreLawful, ClosedWalksTakeTurns};
+ghost use Rattle.pv_flow.specs.Correct.{TermsAreTyped, RunsKeepTypes, MoreStepsChangeNothing, RunsEndOnce, RunsEnd, AcyclicRunsEnd, UntouchedStay, CallsEndOnce, MoreLevelsChangeNothing, CallsEnd, CallsKeepTypes, MachinesAreLawful, ClosedWalksTakeTurns};
 ghost use Rattle.pv_flow.specs.Kept.{TypesKeep};
 
 /// A typed term over variables that have values of their types has a value of its type.
@@ -22,9 +22,34 @@ pub fn runs_end_once()
     ensures { RunsEndOnce }
 {}
 
-/// A run with calls has one outcome.
+/// A run of a well-made automaton ends within as many steps as there are copies of its locations.
+pub fn runs_end()
+    ensures { RunsEnd }
+{}
+
+/// One of an acyclic automaton ends within as many steps as there are locations.
+pub fn acyclic_runs_end()
+    ensures { AcyclicRunsEnd }
+{}
+
+/// A run with calls has one outcome at most.
 pub fn calls_end_once()
     ensures { CallsEndOnce }
+{}
+
+/// Where no block calls itself, levels of calls beyond the number of blocks add no variables.
+pub fn more_levels_change_nothing()
+    ensures { MoreLevelsChangeNothing }
+{}
+
+/// A run of a block, of blocks that fit, has an outcome.
+pub fn calls_end()
+    ensures { CallsEnd }
+{}
+
+/// And where it is done it leaves variables with values of their types.
+pub fn calls_keep_types()
+    ensures { CallsKeepTypes }
 {}
 
 /// A variable that no edge sets keeps its value.
