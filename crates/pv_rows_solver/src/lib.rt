@@ -3,3 +3,5 @@
 
 #[cfg(test)]
 mod region;
+#[cfg(test)]
+mod watched;

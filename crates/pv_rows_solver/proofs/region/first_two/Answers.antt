@@ -1,7 +1,7 @@
-use Rattle.std.proofs.Common.{◌≡◌, ℕ, zero, suc, List, [], ◌∷◌, sym, arith, Some, slice_get, Contains}
+use Rattle.std.proofs.Common.{◌≡◌, List, [], ◌∷◌, sym, arith, Some, slice_get, Contains}
 use Rattle.std.proofs.lemmas.Option.{same_Some}
 use Rattle.pv_region.specs.declared.watch.Watch.{Watch}
-use Rattle.pv_region.specs.Stored.{list_of, IsLinked}
+use Rattle.pv_region.specs.Stored.{list_of}
 use Rattle.pv_rows_solver.proofs.region.first_two.Goals as goal
 
 first-there : (ws : List Watch) (w : Watch) → Some w ≡ slice_get ws 0 → Contains ws w

@@ -1,0 +1,17 @@
+pub mod Lefts
+pub mod Places
+pub mod Paths
+pub mod Alone
+pub mod Clauses
+pub mod Guards
+pub mod Moving
+pub mod Looking
+pub mod Walking
+pub mod Attaching
+pub mod Stepping
+pub mod Turning
+pub mod Readying
+pub mod Joining
+pub mod Entering
+pub mod Making
+pub mod ForCallers
