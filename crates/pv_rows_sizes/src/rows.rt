@@ -30,7 +30,6 @@ IF x THEN n := 1; ELSE END_IF;~4|\
 a[i] := b[j] DIV a[2];~4|\
 a[K] := 1;~2|\
 a[2] := 1;~1|\
-y := x;~1|\
 IF go THEN t := 1; END_IF; q := t;~5|\
 FOR t := n DIV m TO t BY -1 DO ; END_FOR;~8|\
 q := G(p := n, o => r);~6|\
