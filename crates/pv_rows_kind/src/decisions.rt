@@ -51,7 +51,7 @@ fn next_number(words: &mut SplitWhitespace<'_>) -> u32 {
 }
 
 /// What a row gives, number by number; the circuit has a limit where the fourth is 1.
-fn given(said: &str) -> Given {
+fn read_given(said: &str) -> Given {
     let mut words = said.split_whitespace();
     Given {
         start: next_number(&mut words),
@@ -182,7 +182,7 @@ fn tell_with(row: Given, hard: &[&[u32]], told: &mut Told) {
 /// What is decided of a row's numbers, where the hard formula is one of two variables, or of three.
 pub fn tell_row(said: &str, hard: &str, told: &mut Told) {
     match hard {
-        "two" => tell_with(given(said), &TWO, told),
-        _ => tell_with(given(said), &THREE, told),
+        "two" => tell_with(read_given(said), &TWO, told),
+        _ => tell_with(read_given(said), &THREE, told),
     }
 }

@@ -15,8 +15,8 @@ use std::io::{self, BufReader};
 /// What may stand at the beginning of a line that is no row.
 const NAMES: [&str; 1] = ["#"];
 
-/// Decisions.
-struct Decisions;
+/// What answers a row: a decision.
+struct Deciding;
 
 /// The row's field of this number as a text.
 fn said(row: Row<'_>, number: u8, told: &mut Told) -> String {
@@ -24,7 +24,7 @@ fn said(row: Row<'_>, number: u8, told: &mut Told) -> String {
     String::from_utf8(row.bytes(number, told)).unwrap_or(String::new(alloc))
 }
 
-impl Calls for Decisions {
+impl Calls for Deciding {
     fn answer(&self, row: Row<'_>, told: &mut Told) {
         let numbers = said(row, 0, told);
         let hard = said(row, 1, told);
@@ -35,5 +35,5 @@ impl Calls for Decisions {
 fn main(rt: HostRuntime) -> io::Result<()> {
     let alloc = rt.alloc();
     let text = io::read_to_string(alloc, BufReader::new(alloc, rt.reader())?)?;
-    show_all(&rt, alloc, text.as_str(), &NAMES, &Decisions)
+    show_all(&rt, alloc, text.as_str(), &NAMES, &Deciding)
 }
