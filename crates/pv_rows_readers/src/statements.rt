@@ -135,19 +135,6 @@ pub fn tell_list(view: View, list: &[Stmt], told: &mut Told) {
     }
 }
 
-/// What stands behind ELSE, or `-`.
-#[cycle(listing)]
-fn tell_other(view: View, other: &Option<Vec<Stmt>>, told: &mut Told) {
-    match other {
-        Some(list) => {
-            told.text(" else {");
-            tell_list(view, list.as_slice(), told);
-            told.text("}");
-        }
-        None => told.text(" else -"),
-    }
-}
-
 #[cycle(listing)]
 fn tell_stmt(view: View, stmt: &Stmt, told: &mut Told) {
     tell_front(view, stmt, told);
@@ -158,7 +145,14 @@ fn tell_stmt(view: View, stmt: &Stmt, told: &mut Told) {
                 tell_list(view, arm.1.as_slice(), told);
                 told.text("}");
             }
-            tell_other(view, other, told);
+            match other {
+                Some(list) => {
+                    told.text(" else {");
+                    tell_list(view, list.as_slice(), told);
+                    told.text("}");
+                }
+                None => told.text(" else -"),
+            }
         }
         Stmt::Case {
             branches,
@@ -170,7 +164,14 @@ fn tell_stmt(view: View, stmt: &Stmt, told: &mut Told) {
                 tell_list(view, branch.1.as_slice(), told);
                 told.text("]");
             }
-            tell_other(view, other, told);
+            match other {
+                Some(list) => {
+                    told.text(" else {");
+                    tell_list(view, list.as_slice(), told);
+                    told.text("}");
+                }
+                None => told.text(" else -"),
+            }
         }
         Stmt::For { body, .. } => {
             tell_list(view, body.as_slice(), told);
