@@ -227,11 +227,13 @@ pub fn tell_circuit(limit: &str, steps: &str, told: &mut Told) {
     match make(told.alloc(), limit) {
         Ok(made) => {
             let mut gates = made;
-            let mut between = "";
+            let mut is_first = true;
             for step in steps.split(',') {
-                told.text(between);
+                if !is_first {
+                    told.text(", ");
+                }
                 tell_step(&mut gates, step.trim(), told);
-                between = ", ";
+                is_first = false;
             }
         }
         Err(_) => told.lose(),
