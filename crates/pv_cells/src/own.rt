@@ -1,7 +1,6 @@
 //! The brief cells of a block itself, without those of the blocks that it calls: how many, and which.
 ghost use Rattle.std.specs.Prelude.{◌≡◌, ◌+◌, ◌++◌, ◌≤◌, [], pos, length, map, OnOk};
-ghost use Rattle.pv_tree.specs.Scopes as scopes;
-ghost use Rattle.pv_tree.specs.View.{block_tree, body_tree};
+ghost use Rattle.pv_tree.specs.View.{block_tree};
 ghost use Rattle.pv_types.specs.declared.layout.TheConstants.{MAX_LEAVES};
 ghost use Rattle.pv_mean.specs.Cells as table;
 ghost use Rattle.pv_mean.specs.Counts.{capped};
@@ -12,8 +11,9 @@ use crate::plan::Plan;
 use crate::variables::Form;
 use pv_edge::Text;
 use pv_mean::{BEYOND, Cell, activation_part};
+use pv_names::is_stl;
 use pv_place::Role;
-use pv_tree::{Block, Body};
+use pv_tree::Block;
 use pv_word::Ty;
 use std::alloc::{AllocError, Global};
 
@@ -34,16 +34,6 @@ pub(crate) fn sum(a: u32, b: u32) -> u32
     ensures { result ≡ capped (a + b) }
 {
     a.saturating_add(b).min(BEYOND)
-}
-
-/// Whether a body is one of STL.
-fn is_stl(body: &Body) -> bool
-    ensures { result ≡ scopes.is_stl (body_tree body.now) }
-{
-    match body {
-        Body::Stl(_) => true,
-        Body::Scl(_) | Body::Starts(_) => false,
-    }
 }
 
 /// How many cells a function's value has.

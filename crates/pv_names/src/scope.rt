@@ -27,7 +27,7 @@ pub struct Scope<'p> {
 }
 
 /// Whether a body is one of STL.
-pub(crate) fn is_stl(body: &Body) -> bool
+pub fn is_stl(body: &Body) -> bool
     ensures { result ≡ scopes.is_stl (body_tree body.now) }
 {
     match body {
@@ -47,7 +47,7 @@ fn is_type(kind: &BlockKind) -> bool
 }
 
 /// The type of the value that a name means in a function.
-pub(crate) fn own_value(block: &Block, name: &Name, hash: bool) -> Option<Ty>
+pub fn own_value(block: &Block, name: &Name, hash: bool) -> Option<Ty>
     ensures { result ≡ scopes.own_value (block_tree block.now) name.now.key hash }
 {
     if is_stl(&block.body) {
@@ -63,6 +63,16 @@ pub(crate) fn own_value(block: &Block, name: &Name, hash: bool) -> Option<Ty>
         return block.interface.value;
     }
     None
+}
+
+/// The type of the value that a quoted or numbered name means in a function.
+pub fn quoted_value(block: &Block, name: &Name) -> Option<Ty>
+    ensures { result ≡ things.quoted_value (block_tree block.now) name.now.key }
+{
+    if is_stl(&block.body) {
+        return None;
+    }
+    own_value(block, name, false)
 }
 
 /// The first of the variables of this name; those that an instance lacks count only where all do.
@@ -109,22 +119,12 @@ impl<'p> Scope<'p> {
         }
     }
 
-    /// The type of the value that a quoted or numbered name means in a function.
-    fn quoted_value(&self, name: &Name) -> Option<Ty>
-        ensures { result ≡ things.quoted_value (block_of self.now.entry.now) name.now.key }
-    {
-        if is_stl(&self.entry.block.body) {
-            return None;
-        }
-        own_value(self.entry.block, name, false)
-    }
-
     /// What a quoted or numbered name means.
     fn name(&self, name: &Name, place: Place) -> Thing<'p>
         ensures { thing_tree result
             ≡ things.thing_of_name (scope_of self.now) name.now.key place }
     {
-        if let Some(ty) = self.quoted_value(name) {
+        if let Some(ty) = quoted_value(self.entry.block, name) {
             return Thing::Part(Held::Plain(ty));
         }
         match self.tables.find_block(name) {

@@ -126,7 +126,7 @@ pub fn dated<'p>(name: Place, thing: Thing<'p>) -> Thing<'p>
 }
 
 /// The type that an address is read as.
-pub(crate) fn type_of_bits(bits: u32) -> Ty
+pub fn type_of_bits(bits: u32) -> Ty
     ensures { result ≡ things.type_of_bits bits }
 {
     if bits <= 1 {

@@ -15,6 +15,7 @@ use crate::grow::widen;
 use crate::instr::add_instrs;
 use crate::stmt::make_list;
 use pv_mean::BEYOND;
+use pv_names::is_stl;
 use pv_resolve::{Context, ResolveFault};
 use pv_run::{Body as CodeBody, Code, List, MOST_STATEMENTS, Program};
 use pv_tree::{Block, Body};
@@ -23,15 +24,6 @@ use std::alloc::Global;
 
 /// How many brief cells an STL block works with: two accumulators and six bits.
 const STL_CELLS: u32 = 8;
-
-fn is_stl(body: &Body) -> bool
-    ensures { result ≡ scopes.is_stl (body_tree body.now) }
-{
-    match body {
-        Body::Stl(_) => true,
-        Body::Scl(_) | Body::Starts(_) => false,
-    }
-}
 
 /// The number of a function's value among the brief cells of the block: it lies behind the variables.
 pub(crate) fn value_number(context: &Context) -> Result<u32, ResolveFault>

@@ -3,7 +3,7 @@ ghost use Rattle.std.specs.Prelude.{◌≡◌, ◌≤◌, ℕ, nat_eq, length, I
 ghost use Rattle.std.specs.List.{position_or_len};
 ghost use Rattle.pv_types.specs.View as view;
 ghost use Rattle.pv_types.specs.Leaves.{start_value};
-ghost use Rattle.pv_tree.specs.View.{block_tree, body_tree};
+ghost use Rattle.pv_tree.specs.View.{block_tree};
 ghost use Rattle.pv_tree.specs.Scopes as scopes;
 ghost use Rattle.pv_tree.specs.Things as things;
 ghost use Rattle.pv_names.specs.Entries.{block_of};
@@ -29,8 +29,8 @@ use crate::laid::{LaidLevel, exact};
 use pv_bytes::AreaBytes;
 use pv_eval::Spot;
 use pv_mean::{BEYOND, Laid, Part, activation_part};
-use pv_names::{Entry, Held, is_const};
-use pv_tree::{Area, Block, BlockKind, Body, Root};
+use pv_names::{Entry, Held, is_const, own_value, quoted_value, type_of_bits};
+use pv_tree::{Area, Block, BlockKind, Root};
 use pv_types::{Name, Section, Var};
 use pv_word::Ty;
 
@@ -48,44 +48,6 @@ pub enum Where {
     Own,
     Visible,
     Brief,
-}
-
-fn is_stl(body: &Body) -> bool
-    ensures { result ≡ scopes.is_stl (body_tree body.now) }
-{
-    match body {
-        Body::Stl(_) => true,
-        Body::Scl(_) | Body::Starts(_) => false,
-    }
-}
-
-/// The type of the value that a name means in a function.
-fn own_value(block: &Block, name: &Name, hash: bool) -> Option<Ty>
-    ensures { result ≡ scopes.own_value (block_tree block.now) name.now.key hash }
-{
-    if is_stl(&block.body) {
-        if name.key.bytes() == b"ret_val".as_slice() {
-            return block.interface.value;
-        }
-        return None;
-    }
-    if hash {
-        return None;
-    }
-    if name.key == block.name.key {
-        return block.interface.value;
-    }
-    None
-}
-
-/// The type of the value that a quoted or numbered name means in a function.
-fn quoted_value(block: &Block, name: &Name) -> Option<Ty>
-    ensures { result ≡ things.quoted_value (block_tree block.now) name.now.key }
-{
-    if is_stl(&block.body) {
-        return None;
-    }
-    own_value(block, name, false)
 }
 
 /// The value of a constant.
@@ -521,20 +483,5 @@ impl<'p> Context<'p> {
             Root::Named(name) => self.name(name),
             Root::Area { bits, .. } => self.area(root, *bits),
         }
-    }
-}
-
-/// The type that an address is read as.
-fn type_of_bits(bits: u32) -> Ty
-    ensures { result ≡ things.type_of_bits bits }
-{
-    if bits <= 1 {
-        Ty::Bool
-    } else if bits <= 8 {
-        Ty::Byte
-    } else if bits <= 16 {
-        Ty::Word
-    } else {
-        Ty::Dword
     }
 }

@@ -1,15 +1,13 @@
 //! Which operands begin in cells that live within one activation, and so may have no value yet.
-ghost use Rattle.std.specs.Prelude.{◌≡◌, is_some};
-ghost use Rattle.pv_tree.specs.View.{block_tree, body_tree, operand_tree};
-ghost use Rattle.pv_tree.specs.Scopes as scopes;
-ghost use Rattle.pv_tree.specs.Things as things;
+ghost use Rattle.std.specs.Prelude.{◌≡◌};
+ghost use Rattle.pv_tree.specs.View.{block_tree, operand_tree};
 ghost use Rattle.pv_mean.specs.Layout as layout;
 ghost use Rattle.pv_names.specs.Entries.{block_of};
 ghost use Rattle.pv_names.specs.InScope.{scope_of};
 ghost use Rattle.pv_sizes.specs.Checks as checks;
 
-use pv_names::{Entry, Scope, is_const};
-use pv_tree::{Block, BlockKind, Body, Operand, Root};
+use pv_names::{Entry, Scope, is_const, own_value, quoted_value};
+use pv_tree::{Block, BlockKind, Operand, Root};
 use pv_types::{Name, Section};
 
 /// Whether the variables of this section live within one activation.
@@ -22,52 +20,13 @@ fn is_brief_in(block: &Block, section: Section) -> bool
     }
 }
 
-/// Whether a body is one of STL.
-fn is_stl(body: &Body) -> bool
-    ensures { result ≡ scopes.is_stl (body_tree body.now) }
-{
-    match body {
-        Body::Stl(_) => true,
-        Body::Scl(_) | Body::Starts(_) => false,
-    }
-}
-
-/// Whether a name means the value of the function that the block is.
-fn is_own_value(block: &Block, name: &Name, hash: bool) -> bool
-    ensures { result ≡ is_some (scopes.own_value (block_tree block.now) name.now.key hash) }
-{
-    if is_stl(&block.body) {
-        if name.key.bytes() == b"ret_val".as_slice() {
-            return block.interface.value.is_some();
-        }
-        return false;
-    }
-    if hash {
-        return false;
-    }
-    if name.key == block.name.key {
-        return block.interface.value.is_some();
-    }
-    false
-}
-
-/// Whether a quoted or numbered name means the value of the function that the block is.
-fn is_quoted_value(block: &Block, name: &Name) -> bool
-    ensures { result ≡ is_some (things.quoted_value (block_tree block.now) name.now.key) }
-{
-    if is_stl(&block.body) {
-        return false;
-    }
-    is_own_value(block, name, false)
-}
-
 /// Whether a word begins a brief cell.
 fn is_brief_word(entry: &Entry, name: &Name, hash: bool) -> bool
     ensures { result ≡ checks.is_brief_word (block_of entry.now) name.now.key hash }
 {
     match entry.find(name) {
         Some(var) => is_brief_in(entry.block, var.section),
-        None => is_own_value(entry.block, name, hash),
+        None => own_value(entry.block, name, hash).is_some(),
     }
 }
 
@@ -77,7 +36,7 @@ fn is_brief_root(entry: &Entry, root: &Root) -> bool
 {
     match root {
         Root::Local { name, hash, .. } => is_brief_word(entry, name, *hash),
-        Root::Named(name) => is_quoted_value(entry.block, name),
+        Root::Named(name) => quoted_value(entry.block, name).is_some(),
         Root::Area { .. } => false,
     }
 }
