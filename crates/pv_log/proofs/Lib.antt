@@ -13,4 +13,5 @@ pub mod Counting
 pub mod ReadingLaws
 pub mod Spelling
 pub mod Spelled
+pub mod Short
 pub mod ForCallers

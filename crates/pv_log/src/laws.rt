@@ -1,6 +1,6 @@
 //! Laws of lines and logs.
-ghost use Rattle.std.specs.Prelude.{◌≡◌, ◌↔◌, ℕ, ◌^◌, ◌<◌, Bool, List, length, None, IsTrue};
-ghost use Rattle.pv_cnf.specs.Clause.{Holds, clause_value};
+ghost use Rattle.std.specs.Prelude.{◌≡◌, ◌↔◌, ℕ, ◌+◌, ◌^◌, ◌<◌, ◌≤◌, Bool, List, length, None, IsTrue};
+ghost use Rattle.pv_cnf.specs.Clause.{Holds, AreClauses, clause_value};
 ghost use Rattle.pv_log.specs.declared.fault.LineFault.{LineFault};
 ghost use Rattle.pv_log.specs.declared.line.Line.{Line};
 ghost use Rattle.pv_log.specs.LineText.{Spells};
@@ -57,4 +57,13 @@ pub fn new_lines_are_few()
     ensures { (variables : ℕ) (clauses : List (List ℕ)) (lines : List Line)
         → EachFollows (FollowsNew variables) clauses lines → NoneEmpty lines
         → length lines < 3 ^ variables }
+{}
+
+/// A law: a line that follows has no more literals than there are variables, and one hint more at most, since each
+/// hint but the last makes a variable's literal true that had no value.
+pub fn line_is_short()
+    ensures lits { (variables : ℕ) (clauses : List (List ℕ)) (line : Line)
+        → Follows variables clauses line → length line.lits ≤ variables }
+    ensures hints { (variables : ℕ) (clauses : List (List ℕ)) (line : Line)
+        → AreClauses variables clauses → Follows variables clauses line → length line.hints ≤ variables + 1 }
 {}

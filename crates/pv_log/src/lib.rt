@@ -19,8 +19,8 @@ mod write;
 pub use checker::Checker;
 pub use fault::{LineFault, LratFault, Verdict};
 pub use laws::{
-    accepted_log_refutes, first_fault_is_one, line_is_true, line_without_fault_follows,
-    new_lines_are_few, text_determines_line,
+    accepted_log_refutes, first_fault_is_one, line_is_short, line_is_true,
+    line_without_fault_follows, new_lines_are_few, text_determines_line,
 };
 pub use line::Line;
 pub use numbers::Numbers;

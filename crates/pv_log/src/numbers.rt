@@ -34,6 +34,13 @@ impl Numbers {
         Ok(Numbers { items })
     }
 
+    /// These numbers, in the memory that they lie in.
+    pub fn from_vec(items: Vec<u32>) -> Self
+        ensures { result ≡ items.items }
+    {
+        Numbers { items }
+    }
+
     /// The numbers in order.
     pub fn as_slice(&self) -> &[u32]
         ensures { result.now ≡ self.now }

@@ -38,7 +38,7 @@ from-shifted project (structure vars) key k first = laid-shifted project (λ s. 
 from-shifted project (named name place) key k first = among-shifted project (type_named project name.key) key k first
 from-shifted project unread key k first = refl
 
-field-shifted : (project : ProjectTree) (l : layout.Laid) (key : List ℕ) (k : ℕ)
+pub field-shifted : (project : ProjectTree) (l : layout.Laid) (key : List ℕ) (k : ℕ)
     → layout.field_laid project (further k l) key ≡ option_map (further k) (layout.field_laid project l key)
 field-shifted project l key k = from-shifted project l.ty key k l.first
 
@@ -50,7 +50,7 @@ brief_further : (k : ℕ) (o : Option layout.Laid) → begins_further k (brief_w
 brief_further k None = refl
 brief_further k (Some l) = refl
 
-field_further : (source : Source) (key : List ℕ) (k : ℕ) (b : Begins)
+pub field_further : (source : Source) (key : List ℕ) (k : ℕ) (b : Begins)
     → begins_further k (field_begins source b key) ≡ field_begins source (begins_further k b) key
 field_further source key k (in_visible l) =
     visible_further k (layout.field_laid source.project l key) ∙ ap visible_where (sym (field-shifted source.project l key k))

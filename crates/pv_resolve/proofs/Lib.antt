@@ -11,3 +11,4 @@ mod Fields
 mod Walking
 mod Elements
 mod Loops
+pub mod ForCallers

@@ -472,7 +472,7 @@ impl<'p> Context<'p> {
     }
 
     /// What an operand begins with.
-    pub(crate) fn root(&self, root: &Root) -> Result<Begin<'p>, ResolveFault>
+    pub fn root(&self, root: &Root) -> Result<Begin<'p>, ResolveFault>
         ensures value { (source : Source) (first : ℕ) → IsContext self.now source
             → IfOk result (λ b. begin_at b first ≡ act.root_begins source
             (activation (block_in self.now) first) root.now) }

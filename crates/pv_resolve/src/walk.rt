@@ -137,7 +137,7 @@ pub(crate) fn address_of(nodes: &mut Vec<Node>, walk: Walk) -> Result<u32, Resol
 
 impl<'p> Context<'p> {
     /// The field of this name where a name begins, with steps behind it.
-    pub(crate) fn field(&self, begin: Begin<'p>, name: &Name) -> Result<Begin<'p>, ResolveFault>
+    pub fn field(&self, begin: Begin<'p>, name: &Name) -> Result<Begin<'p>, ResolveFault>
         ensures value { (source : Source) → IsContext self.now source
             → IfOk result (λ b. (address : Option ℕ) (a : ℤ) (first : ℕ)
             → begins_behind address a (begin_at b first)
