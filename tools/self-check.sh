@@ -57,6 +57,7 @@ check "a document tells of its making" is_nowhere 'fresh reader|two readers|the 
 check "a document tells of its making" is_nowhere '\<helpers?\>' '*.md'
 check "a document names a clause that isn't there" python3 tools/check-clauses.py
 check "a document names a file that isn't there" python3 tools/check-files.py
+check "a function has more than 40 lines" python3 tools/check-lengths.py
 check "a proof takes more of another crate's proofs than its module ForCallers" python3 tools/check-callers.py
 check "docs/ARCHITECTURE.md maps other crates than crates.txt lists" python3 tools/check-map.py
 check "a public call has no contract test" python3 tools/check-contracts.py

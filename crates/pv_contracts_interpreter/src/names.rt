@@ -6,22 +6,23 @@ ghost use Rattle.pv_mean.specs.Activations as act;
 ghost use Rattle.pv_mean.specs.Layout as layout;
 ghost use Rattle.pv_mean.specs.Sized.{sized_project};
 ghost use Rattle.pv_mean.specs.Sources.{Source};
+ghost use Rattle.pv_mean.specs.Values.{field_begins};
 ghost use Rattle.pv_mean.specs.declared.count.TheConstants.{BEYOND};
 ghost use Rattle.pv_names.specs.Tables.{project_of};
-ghost use Rattle.pv_resolve.specs.Begins.{HasSpot, begin_at};
+ghost use Rattle.pv_resolve.specs.Begins.{HasSpot, begin_at, begins_behind};
 ghost use Rattle.pv_resolve.specs.Contexts.{IsContext, block_in};
 ghost use Rattle.pv_resolve.specs.Firsts.{AreFirsts};
 ghost use Rattle.pv_resolve.specs.declared.fault.ResolveFault.TheVariants.{TooLarge};
 ghost use Rattle.pv_tree.specs.View.{block_tree, expr_tree, operand_tree};
 ghost use Rattle.pv_types.specs.Leaves.{start_value};
-ghost use Rattle.std.specs.Prelude.{Err, IfOk, ℕ, ◌+◌, ◌↔◌, ◌≡◌, ◌≤◌};
+ghost use Rattle.std.specs.Prelude.{Err, IfOk, Option, ℕ, ℤ, ◌+◌, ◌↔◌, ◌≡◌, ◌≤◌};
 
 use pv_bytes::AreaBytes;
 use pv_eval::{Expression, Target};
 use pv_mean::Sizes;
 use pv_names::Scope;
 use pv_resolve::{Begin, Context, FirstCells, ResolveFault};
-use pv_tree::{Block, Expr, Operand};
+use pv_tree::{Block, Expr, Operand, Root};
 use pv_types::{Name, Var};
 use std::alloc::{AllocError, Global};
 
@@ -57,6 +58,31 @@ pub fn name<'p>(context: &Context<'p>, name: &Name) -> Result<Begin<'p>, Resolve
     ensures spot { IfOk result HasSpot }
 {
     context.name(name)
+}
+
+/// [`Context::root`].
+pub fn root<'p>(context: &Context<'p>, root: &Root) -> Result<Begin<'p>, ResolveFault>
+    ensures value { (source : Source) (first : ℕ) → IsContext context.now source
+        → IfOk result (λ b. begin_at b first ≡ act.root_begins source
+        (activation (block_in context.now) first) root.now) }
+    ensures spot { IfOk result HasSpot }
+{
+    context.root(root)
+}
+
+/// [`Context::field`].
+pub fn field<'p>(
+    context: &Context<'p>,
+    begin: Begin<'p>,
+    name: &Name,
+) -> Result<Begin<'p>, ResolveFault>
+    ensures value { (source : Source) → IsContext context.now source
+        → IfOk result (λ b. (address : Option ℕ) (a : ℤ) (first : ℕ)
+        → begins_behind address a (begin_at b first)
+        ≡ field_begins source (begins_behind address a (begin_at begin.entry first)) name.now.key) }
+    ensures spot { IfOk result HasSpot }
+{
+    context.field(begin, name)
 }
 
 /// [`pv_resolve::context_of`].

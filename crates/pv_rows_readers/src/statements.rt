@@ -106,13 +106,21 @@ fn tell_front(view: View, stmt: &Stmt, told: &mut Told) {
     }
 }
 
-/// What stands behind the statements in a loop.
+/// What stands after the statements in a loop.
 fn tell_back(view: View, stmt: &Stmt, told: &mut Told) {
-    told.text("}");
-    if let Stmt::Repeat { cond, .. } = stmt {
-        told.text(" ");
-        tell_expr(view, cond, told);
+    match stmt {
+        Stmt::For { .. } | Stmt::While { .. } => told.text("}"),
+        Stmt::Repeat { cond, .. } => {
+            told.text("} ");
+            tell_expr(view, cond, told);
+        }
+        _ => {}
     }
+}
+
+/// Whether there is an ELSE.
+fn tell_else(is_there: bool, told: &mut Told) {
+    told.text(if is_there { " else {" } else { " else -" });
 }
 
 /// The condition of an arm of IF.
@@ -145,13 +153,10 @@ fn tell_stmt(view: View, stmt: &Stmt, told: &mut Told) {
                 tell_list(view, arm.1.as_slice(), told);
                 told.text("}");
             }
-            match other {
-                Some(list) => {
-                    told.text(" else {");
-                    tell_list(view, list.as_slice(), told);
-                    told.text("}");
-                }
-                None => told.text(" else -"),
+            tell_else(other.is_some(), told);
+            if let Some(list) = other {
+                tell_list(view, list.as_slice(), told);
+                told.text("}");
             }
         }
         Stmt::Case {
@@ -164,29 +169,18 @@ fn tell_stmt(view: View, stmt: &Stmt, told: &mut Told) {
                 tell_list(view, branch.1.as_slice(), told);
                 told.text("]");
             }
-            match other {
-                Some(list) => {
-                    told.text(" else {");
-                    tell_list(view, list.as_slice(), told);
-                    told.text("}");
-                }
-                None => told.text(" else -"),
+            tell_else(other.is_some(), told);
+            if let Some(list) = other {
+                tell_list(view, list.as_slice(), told);
+                told.text("}");
             }
         }
-        Stmt::For { body, .. } => {
-            tell_list(view, body.as_slice(), told);
-            tell_back(view, stmt, told);
-        }
-        Stmt::While { body, .. } => {
-            tell_list(view, body.as_slice(), told);
-            tell_back(view, stmt, told);
-        }
-        Stmt::Repeat { body, .. } => {
-            tell_list(view, body.as_slice(), told);
-            tell_back(view, stmt, told);
-        }
+        Stmt::For { body, .. } => tell_list(view, body.as_slice(), told),
+        Stmt::While { body, .. } => tell_list(view, body.as_slice(), told),
+        Stmt::Repeat { body, .. } => tell_list(view, body.as_slice(), told),
         _ => {}
     }
+    tell_back(view, stmt, told);
 }
 
 /// A statement that has no others in it.

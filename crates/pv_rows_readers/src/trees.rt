@@ -106,9 +106,14 @@ fn tell_value(ty: Option<Ty>, value: i128, told: &mut Told) {
     told.number(value);
 }
 
+/// A value with its type, if it has one, and its place.
+fn tell_constant(view: View, ty: Option<Ty>, value: i128, place: Place, told: &mut Told) {
+    tell_value(ty, value, told);
+    tell_more(view, place, told);
+}
+
 pub fn tell_literal(view: View, literal: &Literal, told: &mut Told) {
-    tell_value(literal.ty, literal.value, told);
-    tell_more(view, literal.place, told);
+    tell_constant(view, literal.ty, literal.value, literal.place, told);
 }
 
 /// The width of an address by its letter.
@@ -145,6 +150,13 @@ fn tell_root(view: View, root: &Root, told: &mut Told) {
             }
         }
     }
+}
+
+/// A sign with its place, and a blank.
+fn tell_sign(view: View, sign: &str, place: Place, told: &mut Told) {
+    told.text(sign);
+    tell_more(view, place, told);
+    told.text(" ");
 }
 
 /// An operand; in the full view with `r` and its place in front.
@@ -193,16 +205,11 @@ fn tell_each(view: View, list: &[Expr], told: &mut Told) {
 #[cycle(showing)]
 pub fn tell_expr(view: View, e: &Expr, told: &mut Told) {
     match e {
-        Expr::Lit { ty, value, place } => {
-            tell_value(*ty, *value, told);
-            tell_more(view, *place, told);
-        }
+        Expr::Lit { ty, value, place } => tell_constant(view, *ty, *value, *place, told),
         Expr::Read(operand) => tell_operand(view, operand, told),
         Expr::Unary { op, place, arg } => {
             told.text("(");
-            told.text(front_sign(*op));
-            tell_more(view, *place, told);
-            told.text(" ");
+            tell_sign(view, front_sign(*op), *place, told);
             tell_expr(view, arg, told);
             told.text(")");
         }
@@ -215,9 +222,7 @@ pub fn tell_expr(view: View, e: &Expr, told: &mut Told) {
             told.text("(");
             tell_expr(view, left, told);
             told.text(" ");
-            told.text(sign(*op));
-            tell_more(view, *place, told);
-            told.text(" ");
+            tell_sign(view, sign(*op), *place, told);
             tell_expr(view, right, told);
             told.text(")");
         }

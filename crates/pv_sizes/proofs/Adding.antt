@@ -18,6 +18,10 @@ capped_sum x y u v e f = sum_alike BEYOND x y u v e f
 pub sum_with : (r a x n : ℕ) → r ≡ capped (a + n) → a ≡ capped x → r ≡ capped (x + n)
 sum_with r a x n is p = is ∙ capped_sum a x n n (ap capped p ∙ capped_twice x) refl
 
+-- the code's sum of two numbers that are counted so
+pub sum_of : (r a b x y : ℕ) → r ≡ capped (a + b) → a ≡ capped x → b ≡ capped y → r ≡ capped (x + y)
+sum_of r a b x y is p q = is ∙ capped_sum a x b y (ap capped p ∙ capped_twice x) (ap capped q ∙ capped_twice y)
+
 -- a sum that is the one up to the bound goes on, and stays within the bound
 pub goes_on : (r total s x rest whole more : ℕ) → r ≡ capped (total + s) → s ≡ capped x → more ≡ x + rest
     → capped (total + more) ≡ capped whole

@@ -1,16 +1,10 @@
--- The measure of going through statements: the statements of a branch are less deep than their CASE.
-use Rattle.std.proofs.Common.{◌≡◌, ℕ, ◌<◌, ◌≤◌, List, get_or, length, max, ap, ◌∙◌, arith}
-use denote.Param.Weighed.{most, at_most}
+-- The measure of going through statements: the statements of branches are less deep than their CASE.
+use Rattle.std.proofs.Common.{◌<◌, arith}
+use denote.Param.Weighed.{most}
 use Rattle.pv_place.specs.declared.place.Place.{Place}
+use Rattle.pv_tree.specs.declared.stmt.Stmt.{size-Stmt, the_lemmas}
 use Rattle.pv_tree.specs.declared.stmt.Stmt.TheViews as form
 
-pub under_most : {B X : Type 0} (size : X → ℕ) (f : B → List X) (bs : List B) (i : ℕ) (b : B) (list : List X) → i < length bs
-    → b ≡ get_or bs i b → list ≡ f b → most size list ≤ most (λ y. max 0 (most size (f y))) bs
-under_most size f bs i b list inside is same =
-    let at = at_most (λ y. max 0 (most size (f y))) bs i b inside in
-    let its : most size list ≡ most size (f (get_or bs i b)) = ap (most size) (same ∙ ap f is) in
-    omega (arith, at, its)
-
-pub case_falls : (selector : _) (bs : _) (other : _) (place : Place)
-    → most (λ b. max 0 (most form.size-Stmt b.1.items)) bs.items < form.size-Stmt (form.Case selector bs other place)
-case_falls selector bs other place = grind (arith, form.sized-Case selector bs other place)
+pub case_deeper : (selector : _) (all : _) (other : _) (place : Place)
+    → most (λ b. most size-Stmt b.1.items) all.items < size-Stmt (form.Case selector all other place)
+case_deeper selector all other place = grind (arith, the_lemmas)
