@@ -1,5 +1,7 @@
 -- What the parts of the rows are.
-use Rattle.std.specs.Prelude.{◌≡◌, ℕ, List, [], ◌∷◌, length}
+use Rattle.std.specs.Prelude.{◌≡◌, ℕ, pos, List, [], ◌∷◌, length}
+use Rattle.pv_word.specs.declared.types.Ty.TheVariants.{Bool}
+use Rattle.pv_flow.specs.declared.term.Node.TheVariants as node
 use Rattle.pv_flow.specs.declared.parts.Parts.{Parts}
 use Rattle.pv_flow.specs.declared.parts.Edge.{Edge}
 use Rattle.pv_flow.specs.declared.parts.Deed.{Deed}
@@ -27,8 +29,10 @@ pub record IsLoopOf (from to : ℕ) (loop : Loop) : Type 0 where
   pub last : loop.last ≡ to
   pub turns : loop.turns.items ≡ []
 
-abbrev pub IsDeedOf : List Set → Deed → Type 0
-IsDeedOf sets deed = deed.sets.items ≡ sets
+-- the deed's guard is the first of the terms
+pub record IsDeedOf (values : List Set) (deed : Deed) : Type 0 where
+  pub guard : deed.guard ≡ 0
+  pub sets : deed.sets.items ≡ values
 
 abbrev pub edge : ℕ → ℕ → Edge
 edge from to = record { from = from; to = to; deed = 0 }
@@ -60,3 +64,24 @@ IsCrossing p = AreLoopsOf ((0, 2) ∷ (1, 3) ∷ []) p.loops.items
 pub record IsEnteredWithin (p : Parts) : Type 0 where
   pub edges : p.edges.items ≡ edge 3 1 ∷ []
   pub loops : AreLoopsOf ((0, 2) ∷ []) p.loops.items
+
+-- one deed, without sets
+abbrev pub IsBareDeed : List Deed → Type 0
+IsBareDeed [] = ⊥
+IsBareDeed (deed ∷ []) = IsDeedOf [] deed
+IsBareDeed (deed ∷ other ∷ deeds) = ⊥
+
+-- two locations, and an edge from the one to the other, whose guard is TRUE
+pub record IsOneEdge (p : Parts) : Type 0 where
+  pub nodes : p.nodes.items ≡ node.Constant Bool (pos 1) ∷ []
+  pub deeds : IsBareDeed p.deeds.items
+  pub vars : p.vars.items ≡ []
+  pub bound : p.bound ≡ 0
+  pub shared : p.shared ≡ 0
+  pub locations : p.locations ≡ 2
+  pub edges : p.edges.items ≡ edge 0 1 ∷ []
+  pub calls : p.calls.items ≡ []
+  pub loops : p.loops.items ≡ []
+  pub done : p.done ≡ 1
+  pub traps : p.traps.items ≡ []
+  pub overs : p.overs.items ≡ []

@@ -1,13 +1,14 @@
 //! The calls of automata.
-ghost use Rattle.std.specs.Prelude.{◌≡◌, true, IfOk, IfErr, IfSome};
+ghost use Rattle.std.specs.Prelude.{◌≡◌, true, length, IfOk, IfErr, IfSome};
 ghost use Rattle.pv_flow.specs.Faults.{IsFaultless, IsFaultOf};
 ghost use Rattle.pv_flow.specs.WellMade.{IsWellMade};
 ghost use Rattle.pv_flow.specs.Machines.{IsInlined, IsAcyclic, IsAttached};
-ghost use Rattle.pv_flow.specs.View.{parts_of};
+ghost use Rattle.pv_flow.specs.View.{parts_of, terms_of};
 ghost use Rattle.pv_flow.specs.Tables.{AreTabled, is_tabled};
-ghost use Rattle.pv_flow.specs.AutomatonView.{automaton_of, attached_to, terms_in};
+ghost use Rattle.pv_flow.specs.AutomatonView.{automaton_of, code_of, attached_of, attached_to, terms_in};
+ghost use Rattle.pv_flow.specs.MachineView.{acyclic_parts};
 
-use pv_flow::{Attached, Automaton, FlowFault, Parts, acyclic, inlined};
+use pv_flow::{Acyclic, Attached, Automaton, FlowFault, Parts, acyclic, inlined};
 use std::alloc::Global;
 
 /// [`pv_flow::build`].
@@ -15,6 +16,7 @@ pub fn build(alloc: Global, parts: Parts) -> Result<Automaton, FlowFault>
     requires well_made { IsFaultless (parts_of parts) → IsWellMade (parts_of parts) }
     requires tabled { IsFaultless (parts_of parts) → AreTabled parts }
     ensures ok { IfOk result (λ automaton. automaton_of automaton ≡ parts_of parts) }
+    ensures parts { IfOk result (λ automaton. code_of automaton ≡ parts) }
     ensures faultless { IfOk result (λ _. IsFaultless (parts_of parts)) }
     ensures fault { IfErr result (IsFaultOf (parts_of parts)) }
 {
@@ -39,4 +41,17 @@ pub fn attached_to(automaton: Automaton, attached: Option<Attached>) -> Option<A
 {
     let machine = acyclic(automaton, attached);
     machine.attached()
+}
+
+/// The machine of these parts with what is attached to them, by terms of their table: it is the automaton's table too.
+pub fn attach(alloc: Global, parts: Parts, attached: Option<Attached>) -> Result<Acyclic, FlowFault>
+    requires well_made { IsFaultless (parts_of parts) → IsWellMade (parts_of parts) }
+    requires tabled { IsFaultless (parts_of parts) → AreTabled parts }
+    requires acyclic { IsAcyclic (parts_of parts) }
+    requires fits { IfSome (attached_of (terms_of parts.nodes.items) attached) (IsAttached (parts_of parts)) }
+    requires terms { is_tabled (length parts.nodes.items) attached ≡ true }
+    ensures { IfOk result (λ machine. acyclic_parts machine ≡ parts_of parts) }
+{
+    let automaton = build(alloc, parts)?;
+    Ok(acyclic(automaton, attached))
 }

@@ -1,6 +1,6 @@
 //! Parts with one fault each, and without any.
 ghost use Rattle.std.specs.Prelude.{IfOk};
-ghost use Rattle.pv_contracts_flow.specs.Rows.{IsBare, IsEdgePast, IsSetPast, IsCrossing, IsEnteredWithin, IsLoopOf, IsDeedOf};
+ghost use Rattle.pv_contracts_flow.specs.Rows.{IsBare, IsEdgePast, IsSetPast, IsCrossing, IsEnteredWithin, IsOneEdge, IsLoopOf, IsDeedOf};
 
 use crate::calls::build;
 use pv_flow::{Deed, Edge, FlowFault, Loop, Node, Parts, Set, Variable};
@@ -113,6 +113,21 @@ pub fn entered_within(alloc: Global) -> Result<Parts, AllocError>
         deed: 0,
     })?;
     parts.loops.push(loop_of(alloc, 0, 2))?;
+    Ok(parts)
+}
+
+/// Two locations, and an edge from the one to the other, whose guard is TRUE.
+pub fn one_edge(alloc: Global) -> Result<Parts, AllocError>
+    ensures { IfOk result IsOneEdge }
+{
+    let mut parts = bare(alloc, 2, 1);
+    parts.nodes.push(Node::Constant(Ty::Bool, 1))?;
+    parts.deeds.push(deed_of(alloc, &[])?)?;
+    parts.edges.push(Edge {
+        from: 0,
+        to: 1,
+        deed: 0,
+    })?;
     Ok(parts)
 }
 

@@ -3,7 +3,7 @@ ghost use Rattle.pv_flow.specs.Faults.{IsFaultless};
 ghost use Rattle.pv_flow.specs.View.{parts_of};
 
 use crate::calls::{attached_to, bound_of, build};
-use crate::parts::{bare, edge_past, entered_within, fault_of_crossing, loops_cross, set_past};
+use crate::parts::{edge_past, entered_within, fault_of_crossing, loops_cross, one_edge, set_past};
 use pv_flow::{FlowFault, Parts};
 use std::alloc::{AllocError, Global};
 use std::test::Fail;
@@ -44,17 +44,17 @@ fn of_entering(alloc: Global) -> Result<Option<FlowFault>, AllocError> {
     Ok(fault_of(alloc, parts))
 }
 
-/// The bound of an automaton of one location.
+/// The bound of an automaton of one edge.
 #[tactic(auto, using(crate::proofs::RowLaws::one_is_well_made, crate::proofs::RowLaws::one_is_tabled, crate::proofs::RowLaws::one_is_inlined))]
 fn bound_at_once(alloc: Global) -> Result<u32, FlowFault> {
-    let automaton = build(alloc, bare(alloc, 1, 0))?;
+    let automaton = build(alloc, one_edge(alloc)?)?;
     Ok(bound_of(automaton, 16))
 }
 
-/// Whether an automaton of one location has something attached.
+/// Whether an automaton of one edge has something attached.
 #[tactic(auto, using(crate::proofs::RowLaws::one_is_well_made, crate::proofs::RowLaws::one_is_tabled, crate::proofs::RowLaws::one_is_acyclic))]
 fn attached_at_once(alloc: Global) -> Result<bool, FlowFault> {
-    let automaton = build(alloc, bare(alloc, 1, 0))?;
+    let automaton = build(alloc, one_edge(alloc)?)?;
     Ok(attached_to(automaton, None).is_some())
 }
 
@@ -69,7 +69,7 @@ fn parts_are_refused(rt: HostRuntime) -> Result<(), Fail> {
 }
 
 #[test]
-fn one_location_is_built(rt: HostRuntime) -> Result<(), Fail> {
+fn one_edge_is_built(rt: HostRuntime) -> Result<(), Fail> {
     let alloc = rt.alloc();
     assert_eq!(rt; bound_at_once(alloc), Ok(16));
     assert_eq!(rt; attached_at_once(alloc), Ok(false));

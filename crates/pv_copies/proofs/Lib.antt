@@ -1,3 +1,4 @@
+pub mod ForCallers
 pub mod Leading
 pub mod Turning
 pub mod Nesting
@@ -12,3 +13,4 @@ pub mod Counting
 pub mod Examples
 pub mod Machine
 pub mod Made
+pub mod SameMachine

@@ -19,7 +19,7 @@ use Rattle.pv_copies.proofs.Nesting.{loops_in_order}
 use Rattle.pv_copies.proofs.Picking.{copy_bounds}
 use Rattle.pv_copies.proofs.Forward.{ranges_of}
 use Rattle.pv_copies.proofs.Whole.{text_is_numbered, text_has_places, text_is_long}
-use Rattle.pv_copies.proofs.Numbers.{ways_at, ways_of_number, none_behind, IsText, stands_text, IsListed, AllListed, all_listed_in, ended_ways, any_behind}
+use Rattle.pv_copies.proofs.Numbers.{ways_at, ways_of_number, none_behind, IsText, stands_text, IsListed, AllListed, all_listed_in, ended_ways, any_behind, numbers_go_on_first}
 use Rattle.pv_copies.proofs.Counting.{any_before, IsAhead, all_ahead, edges_ahead, all_append}
 
 all_of : {X : Type 0} (f : X → Truth) (xs : List X) → AllByRecursion (λ x. f x ≡ true) xs → list_all f xs ≡ true
@@ -583,6 +583,7 @@ made_well p n f w some calls = record {
   ends = λ l end. ends_none (length (edges_from l (unrolled p n).edges)) (no_edges_of p n l (end_begins p n f w l end));
   others = λ l lt off. others_some (length (edges_from l (unrolled p n).edges)) (other_begins p n f w some calls l lt off);
   different = ends_differ p n f w;
+  begins = no_end_there (unrolled p n) 0 (numbers_go_on_first p n f w some);
   loops = All-nil _;
   apart = λ i j lt. tt;
   forward = λ e. forward_at e (slice_get (unrolled p n).edges e) (listed_at (λ (edge : Edge). edge.from < edge.to) (unrolled p n).edges e

@@ -2,7 +2,7 @@
 -- those behind that are of traps.
 use Rattle.std.proofs.Common.{◌≡◌, ℕ, zero, suc, ◌+◌, ◌*◌, ◌<◌, ◌≤◌, ◌⊎◌, inl, inr, List, [], ◌∷◌, ◌++◌, map, length, slice_get, Bool, true, false, not, ◌||◌, ◌==◌, cond, Option, Some, None, refl, sym, subst, ap, ◌∙◌, arith}
 use Rattle.std.specs.List.{AllByRecursion, list_any}
-use Rattle.std.proofs.lemmas.Bool.{eqb-true, eq-eqb, ne_eqb, or_left, or_right, or_from, or_parts, not-true}
+use Rattle.std.proofs.lemmas.Bool.{both_ways, eqb-true, eq-eqb, ne_eqb, or_left, or_right, or_from, or_parts, not-true}
 use Rattle.std.proofs.lemmas.Option.{none-some, same_Some}
 use Rattle.pv_flow.specs.Terms.{Valuation}
 use Rattle.pv_flow.specs.Automata.{Edge, Loop, TrapEnd, OverEnd, Parts, holds, edges_from, calls_from}
@@ -565,11 +565,19 @@ stands_text p l h = subst IsText (sym shown) (over_text l p.overs)
     shown = ap (λ (t : Bool). cond t (Some done) (or_else (trap_at l p.traps) (over_at l p.overs))) both.0
         ∙ ap (λ (o : Option End). or_else o (over_at l p.overs)) (no_trap l p.traps both.1)
 
-first_number : (p : Parts) (n : ℕ) → IsFaultless p → IsWellMade p → 0 < n → stands_in p 0 ≡ true → IsNumberOf p n (first_copy p) (first_spot (unrolled p n))
-first_number p n f w some first = by (exit_of_copy p (entered_copy p.loops 0)) text
+-- a run doesn't end where it begins
+pub goes_on_first : (p : Parts) → IsWellMade p → end_at p 0 ≡ None
+goes_on_first p w = by (end_at p 0) refl
+  where
+    by : (o : Option End) → end_at p 0 ≡ o → end_at p 0 ≡ None
+    by None h = h
+    by (Some e) h = absurd (both_ways (is_end p 0) w.begins (ends_there p 0 e h))
+
+first_number : (p : Parts) (n : ℕ) → IsFaultless p → IsWellMade p → 0 < n → IsNumberOf p n (first_copy p) (first_spot (unrolled p n))
+first_number p n f w some = by (exit_of_copy p (entered_copy p.loops 0)) text
   where
     text : IsText (exit_of_copy p (entered_copy p.loops 0))
-    text = subst (λ (c : Copy). IsText (exit_of_copy p c)) (sym (entered_form p.loops 0)) (stands_text p 0 first)
+    text = subst (λ (c : Copy). IsText (exit_of_copy p c)) (sym (entered_form p.loops 0)) (subst IsText (sym (goes_on_first p w)) tt)
 
     listed : (slice_get (whole_text p n) (place_in_text p n (entered_copy p.loops 0)) ≡ Some (entered_copy p.loops 0))
         × (place_in_text p n (entered_copy p.loops 0) < text_size p n)
@@ -587,8 +595,13 @@ first_number p n f w some first = by (exit_of_copy p (entered_copy p.loops 0)) t
     by (Some (trap kind place)) h = absurd h
     by (Some (over place)) h = there
 
-pub copies_are_numbers : (p : Parts) (n steps : ℕ) (begin : Valuation) → IsFaultless p → IsWellMade p → 0 < n → stands_in p 0 ≡ true
+pub copies_are_numbers : (p : Parts) (n steps : ℕ) (begin : Valuation) → IsFaultless p → IsWellMade p → 0 < n
     → run (copies_control p n) steps (first_copy p) begin ≡ run (control_of (unrolled p n) 1) steps (first_spot (unrolled p n)) begin
-copies_are_numbers p n steps begin f w some first =
+copies_are_numbers p n steps begin f w some =
     same_runs (IsNumberOf p n) (copies_control p n) (control_of (unrolled p n) 1) (numbers_alike p n f w some) steps (first_copy p) (first_spot (unrolled p n)) begin
-    (first_number p n f w some first)
+    (first_number p n f w some)
+
+-- nor does one of the automaton of the copies
+pub numbers_go_on_first : (p : Parts) (n : ℕ) → IsFaultless p → IsWellMade p → 0 < n → end_at (unrolled p n) 0 ≡ None
+numbers_go_on_first p n f w some = sym ((numbers_alike p n f w some).exits (first_copy p) (first_spot (unrolled p n)) (first_number p n f w some))
+    ∙ ap (λ (c : Copy). exit_of_copy p c) (entered_form p.loops 0) ∙ goes_on_first p w

@@ -1,12 +1,12 @@
 -- What is so of the copies of each automaton that is well made: the statements of the laws.
-use Rattle.std.specs.Prelude.{◌≡◌, ℕ, ◌+◌, ◌<◌, ◌≤◌, List, length, slice_get, true, Some, None}
+use Rattle.std.specs.Prelude.{◌≡◌, ℕ, ◌+◌, ◌<◌, ◌≤◌, List, length, slice_get, Some, None}
 use Rattle.pv_machine.specs.Same.{IsSame}
 use Rattle.pv_flow.specs.Terms.{Valuation}
 use Rattle.pv_flow.specs.Automata.{Edge, Parts}
 use Rattle.pv_flow.specs.Faults.{IsFaultless}
 use Rattle.pv_flow.specs.WellMade.{IsWellMade}
 use Rattle.pv_flow.specs.Runs.{run, control_of, first_spot}
-use Rattle.pv_flow.specs.Machines.{machine_of, IsAcyclic}
+use Rattle.pv_flow.specs.Machines.{machine_of, inlined_machine, acyclic_machine, IsInlined, IsAcyclic}
 use Rattle.pv_copies.specs.Copies.{Copy, copy, location_of, numbers_of, target, copies_control, first_copy}
 use Rattle.pv_copies.specs.Places.{text, size, place, first_of_kind, turns_before, IsCopy, stands_in, one_each, Stands}
 use Rattle.pv_copies.specs.Unrolled.{unrolled, unrolled_size}
@@ -64,14 +64,14 @@ TextHasCopies = (p : Parts) (n : ℕ) (c : Copy) → IsFaultless p → IsWellMad
 abbrev pub TextIsLong : Type 0
 TextIsLong = (p : Parts) (n : ℕ) → IsFaultless p → IsWellMade p → length (text_of p n) ≡ size_of p n (one_each (stands_in p)) 1
 
--- the automaton of the copies runs as they do, if a run doesn't end where it begins, done or by a trap
+-- the automaton of the copies runs as they do
 abbrev pub CopiesAreNumbers : Type 0
-CopiesAreNumbers = (p : Parts) (n steps : ℕ) (w : Valuation) → IsFaultless p → IsWellMade p → 0 < n → stands_in p 0 ≡ true
+CopiesAreNumbers = (p : Parts) (n steps : ℕ) (w : Valuation) → IsFaultless p → IsWellMade p → 0 < n
     → run (control_of (unrolled p n) 1) steps (first_spot (unrolled p n)) w ≡ run (control_of p n) steps (first_spot p) w
 
 -- with as many steps its machine is the same
 abbrev pub UnrolledHasTheMachine : Type 0
-UnrolledHasTheMachine = (p : Parts) (n steps : ℕ) → IsFaultless p → IsWellMade p → 0 < n → stands_in p 0 ≡ true
+UnrolledHasTheMachine = (p : Parts) (n steps : ℕ) → IsFaultless p → IsWellMade p → 0 < n
     → IsSame (machine_of (unrolled p n) 1 steps None) (machine_of p n steps None)
 
 -- it has no loops, and its edges lead forward
@@ -82,6 +82,11 @@ NumbersLeadForward = (p : Parts) (n : ℕ) → IsFaultless p → IsWellMade p �
 abbrev pub UnrolledIsWellMade : Type 0
 UnrolledIsWellMade = (p : Parts) (n : ℕ) → IsFaultless p → IsWellMade p → 0 < n → length p.calls ≡ 0
     → IsFaultless (unrolled p n) × IsWellMade (unrolled p n)
+
+-- and its machine is that of the automaton
+abbrev pub SameMachine : Type 0
+SameMachine = (p : Parts) (n : ℕ) → IsFaultless p → IsWellMade p → IsInlined p n
+    → IsSame (acyclic_machine (unrolled p n) None) (inlined_machine p n)
 
 -- it has as many edges as are counted
 abbrev pub EdgesAreCounted : Type 0

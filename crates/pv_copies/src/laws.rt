@@ -1,5 +1,5 @@
 //! Laws of copies, each the contract of a function that does nothing. Their statements are those of `specs/Correct`.
-ghost use Rattle.pv_copies.specs.Correct.{LoopsAreCopies, CopiesLeadToCopies, CopiesLeadForward, PlacesAreShifts, TextHasPlaces, TextHasCopies, TextIsLong, CopiesAreNumbers, UnrolledHasTheMachine, NumbersLeadForward, UnrolledIsWellMade, EdgesAreCounted};
+ghost use Rattle.pv_copies.specs.Correct.{LoopsAreCopies, CopiesLeadToCopies, CopiesLeadForward, PlacesAreShifts, TextHasPlaces, TextHasCopies, TextIsLong, CopiesAreNumbers, UnrolledHasTheMachine, NumbersLeadForward, UnrolledIsWellMade, SameMachine, EdgesAreCounted};
 
 /// Runs with counts and runs along copies are equal, with as many steps.
 pub fn loops_are_copies()
@@ -54,6 +54,11 @@ pub fn numbers_lead_forward()
 /// It has no fault and is well made.
 pub fn unrolled_is_well_made()
     ensures { UnrolledIsWellMade }
+{}
+
+/// Its machine is that of the automaton.
+pub fn same_machine()
+    ensures { SameMachine }
 {}
 
 /// It has as many edges as are counted.

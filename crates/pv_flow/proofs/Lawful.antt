@@ -62,7 +62,7 @@ no_number n lt = absurd (omega (arith, lt))
 below : (n k : ℕ) → suc n < suc k → n < k
 below n k lt = omega (arith, lt)
 
-abbrev Begins : List Variable → Type 0
+abbrev pub Begins : List Variable → Type 0
 Begins vars = (state input : List ℤ) → AreWithin (state_ranges vars) state → AreWithin (input_ranges vars) input
     → (n : ℕ) → n < length vars → InRange (type_at vars n) (valuation_of (begin_of vars state input) n)
 
@@ -79,7 +79,7 @@ begin_step v vars Kept ok rest (x ∷ more) input s i (suc n) lt = rest more inp
 begin_step v vars Brief ok rest state input s i zero lt = ok.start
 begin_step v vars Brief ok rest state input s i (suc n) lt = rest state input s i n (below n (length vars) lt)
 
-begins_typed : (vars : List Variable) → AllByRecursion IsVariable vars → Begins vars
+pub begins_typed : (vars : List Variable) → AllByRecursion IsVariable vars → Begins vars
 begins_typed [] all state input s i n lt = absurd (no_number n lt)
 begins_typed (v ∷ vars) all state input s i n lt = begin_step v vars v.role all.0 (begins_typed vars all.1) state input s i n lt
 

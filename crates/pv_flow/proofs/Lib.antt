@@ -1,11 +1,14 @@
 pub mod Advancing
+pub mod Beside
 pub mod CallEnds
+pub mod CallMachines
 pub mod CallRuns
 pub mod Checking
 pub mod ClosedWalks
 pub mod Depth
 pub mod Examples
 pub mod ForCallers
+pub mod Keeping
 pub mod Lawful
 pub mod Places
 pub mod RunEnds
@@ -16,3 +19,4 @@ pub mod TypedRuns
 pub mod Typing
 pub mod Untouched
 pub mod WellMadeExample
+pub mod WindowLaws

@@ -202,6 +202,7 @@ counted_is_well_made = record {
   ends = ends;
   others = others;
   different = refl;
+  begins = refl;
   loops = All-from_recursion (IsLoop counted) counted.loops (is_loop, tt);
   apart = apart;
   forward = forward;

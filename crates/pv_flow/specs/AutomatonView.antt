@@ -1,6 +1,7 @@
 -- The code's automata, and what is attached to them, as plain data.
 use Rattle.std.specs.Prelude.{ℕ, List, length, Option, Some, None}
 use Rattle.pv_flow.specs.declared.automaton.Automaton.{Automaton}
+use Rattle.pv_flow.specs.declared.parts.Parts.{Parts as CodeParts}
 use Rattle.pv_flow.specs.declared.attached.Looking.{Looking as CodeLooking}
 use Rattle.pv_flow.specs.declared.attached.Guarding.{Guarding as CodeGuarding}
 use Rattle.pv_flow.specs.declared.attached.Attached.{Attached as CodeAttached}
@@ -11,6 +12,10 @@ use Rattle.pv_flow.specs.View.{term_at, terms_of, parts_of}
 
 abbrev pub automaton_of : Automaton → Parts
 automaton_of automaton = parts_of automaton.parts
+
+-- its parts as the code has them
+abbrev pub code_of : Automaton → CodeParts
+code_of automaton = automaton.parts
 
 -- how many terms its table has
 abbrev pub terms_in : Automaton → ℕ

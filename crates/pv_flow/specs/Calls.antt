@@ -66,7 +66,7 @@ abbrev pub call_of : Parts → Spot → Option Numbered
 call_of p (at l counts) = call_from l 0 p.calls
 call_of p (past place) = None
 
--- the first number that the own variables of the callee of call edge j take
+-- the first number that the own variables of the callee of call edge j take: call edges count by their numbers, wherever they begin
 abbrev pub base_of : Blocks → Work → ℕ → ℕ
 base_of blocks k j = k.free + needed_by_calls (needed blocks) (take j k.parts.calls)
 
@@ -102,7 +102,10 @@ is_brief Param = false
 is_brief Kept = false
 is_brief Brief = true
 
--- the block's own variables, and bound ones that are brief, begin with 0
+-- The block's own variables begin with 0, whatever their roles and starts are, and so do bound ones of the role Brief. A translation
+-- gives that role to those that begin without a value, as the outputs and the value of a function, and the role Kept to those that are
+-- copied in before the call. Bound and shared variables are the caller's, so a copy of the call has them with the caller's roles, and the
+-- own ones as Brief ones that start with 0.
 abbrev pub begins_anew : Parts → ℕ → Variable → Bool
 begins_anew p x v = not (nat_lt x (p.bound + p.shared)) || (nat_lt x p.bound && is_brief v.role)
 

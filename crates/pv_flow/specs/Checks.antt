@@ -1,6 +1,6 @@
--- What the code computes of parts, on their lists: whether locations, variables and loops are as they should be, and how many values
--- states and inputs have.
-use Rattle.std.specs.Prelude.{ℕ, List, [], ◌∷◌, ◌++◌, map, length, slice_index_or, Bool, true, not, ◌&&◌, nat_lt, nat_le}
+-- What the code computes of parts, on their lists: whether locations and variables are as they should be, and how many values states and
+-- inputs have. Of loops it is in Windows.
+use Rattle.std.specs.Prelude.{ℕ, List, [], ◌∷◌, ◌++◌, map, length, slice_index_or, Bool, true, ◌&&◌, nat_lt, nat_le}
 use Rattle.std.specs.List.{list_all, filter}
 use Rattle.pv_place.specs.Roles.{is_input, is_stored}
 use Rattle.pv_flow.specs.declared.term.Node.{Node}
@@ -9,10 +9,7 @@ use Rattle.pv_flow.specs.declared.parts.Variable.{Variable}
 use Rattle.pv_flow.specs.declared.parts.Set.{Set}
 use Rattle.pv_flow.specs.declared.parts.Deed.{Deed}
 use Rattle.pv_flow.specs.declared.parts.Edge.{Edge}
-use Rattle.pv_flow.specs.declared.parts.Loop.{Loop}
 use Rattle.pv_flow.specs.declared.parts.Parts.{Parts}
-use Rattle.pv_flow.specs.Faults.{cross, enters_well}
-use Rattle.pv_flow.specs.View.{loop_of}
 
 -- ---- locations
 
@@ -67,24 +64,6 @@ edges_marked k deeds p = list_all (edge_mark deeds) p.edges.items && list_all (�
 
 abbrev pub variables_lie : Parts → Bool
 variables_lie p = edges_marked (length p.vars.items) (deed_marks (length p.vars.items) p.nodes.items p.deeds.items) p
-
--- ---- loops
-
-abbrev pub stands_well : Parts → Loop → Bool
-stands_well p loop =
-    list_all (λ e. nat_lt e (length p.edges.items)) loop.turns.items
-    && list_all (λ other. not (cross (loop_of loop) (loop_of other))) p.loops.items
-
-abbrev pub is_entered : Parts → Loop → Bool
-is_entered p loop =
-    list_all (λ edge. enters_well (loop_of loop) edge.from edge.to) p.edges.items
-    && list_all (λ call. enters_well (loop_of loop) call.from call.to) p.calls.items
-
-abbrev pub loop_lies : Parts → Loop → Bool
-loop_lies p loop = stands_well p loop && is_entered p loop
-
-abbrev pub loops_lie : Parts → Bool
-loops_lie p = list_all (loop_lies p) p.loops.items
 
 -- ---- values
 

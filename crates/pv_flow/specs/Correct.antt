@@ -1,5 +1,5 @@
 -- What is so of all automata and their runs: the statements of the laws.
-use Rattle.std.specs.Prelude.{◌≡◌, ◌≢◌, ℕ, ◌≤◌, ◌<◌, Bool as Truth, true, false, List, ◌∷◌, length, Option, Some, None, IfSome, All, ◌==◌}
+use Rattle.std.specs.Prelude.{◌≡◌, ◌≢◌, ℕ, ◌+◌, ◌≤◌, ◌<◌, ◌⊎◌, Bool as Truth, true, false, List, ◌∷◌, length, Option, Some, None, IfSome, All, ◌==◌}
 use Rattle.std.specs.List.{list_any}
 use Rattle.pv_word.specs.Types.{InRange}
 use Rattle.pv_machine.specs.Machines.{IsLawful}
@@ -7,9 +7,9 @@ use Rattle.pv_flow.specs.Terms.{Term, Valuation, value_of, Types, type_of, IsTyp
 use Rattle.pv_flow.specs.Automata.{Edge, Parts, types_of, HasValues}
 use Rattle.pv_flow.specs.Faults.{has_variables, IsFaultless}
 use Rattle.pv_flow.specs.WellMade.{IsVariable, IsEdge, IsWellMade}
-use Rattle.pv_flow.specs.Runs.{Outcome, done_with, run, control_of, first_spot, copies}
-use Rattle.pv_flow.specs.Calls.{Blocks, block_at, needed_within, needed, Work, Stage, ComesTo, EndsAs}
-use Rattle.pv_flow.specs.Fitting.{AreFitting, AreSound}
+use Rattle.pv_flow.specs.Runs.{Outcome, done_with, Spot, run, control_of, first_spot, copies}
+use Rattle.pv_flow.specs.Calls.{Blocks, block_at, needed_within, needed, Work, entry_work, Numbered, callee_work, cleared, Stage, running, ComesTo, EndsAs}
+use Rattle.pv_flow.specs.Fitting.{IsFit, AreFitting, AreSound}
 use Rattle.pv_flow.specs.Walks.{Hop, IsClosedWalk, TakesTurn}
 use Rattle.pv_flow.specs.Machines.{Attached, IsAttached, IsInlined, IsAcyclic, machine_of}
 
@@ -75,6 +75,38 @@ CallsEnd = (blocks : Blocks) (n b : ℕ) (p : Parts) (w : Valuation) → AreFitt
 abbrev pub CallsKeepTypes : Type 0
 CallsKeepTypes = (blocks : Blocks) (n b : ℕ) (p : Parts) (w end : Valuation) → AreFitting blocks → AreSound blocks → 0 < n
     → block_at blocks b ≡ Some p → HasValues p w → EndsAs blocks n p w (done_with end) → HasValues p end
+
+-- ---- what calls leave alone
+
+-- a place below the first number that neither the block at work nor its callers use, and where none of the block's variables lies
+pub record IsBeside (k : Work) (y : ℕ) : Type 0 where
+  pub below : y < k.free
+  pub apart : (x : ℕ) → k.place x ≢ y
+
+-- a run with calls that is done leaves such a place its value
+abbrev pub CallsLeaveOthers : Type 0
+CallsLeaveOthers = (blocks : Blocks) (n : ℕ) (k : Work) (x : Spot) (w end : Valuation) (y : ℕ) → IsBeside k y
+    → ComesTo blocks n k (running x w) (done_with end) → end y ≡ w y
+
+-- the block's variables lie below its first free number, and where one of its own lies no other does
+pub record IsPlaced (k : Work) : Type 0 where
+  pub below : (x : ℕ) → x < length k.parts.vars → k.place x < k.free
+  pub own : (x z : ℕ) → k.parts.bound + k.parts.shared ≤ x → x < length k.parts.vars → z < length k.parts.vars
+      → k.place z ≡ k.place x → z ≡ x
+
+-- so do the entry's, and where a caller's do, those of a block that it calls
+pub record WorksArePlaced : Type 0 where
+  pub entry : (p : Parts) → IsPlaced (entry_work p)
+  pub callee : (blocks : Blocks) (k : Work) (c : Numbered) (p : Parts) → IsPlaced k → IsFit k.parts c.call p
+      → k.parts.bound + k.parts.shared ≤ length k.parts.vars → IsPlaced (callee_work blocks k c p)
+
+-- a call that is done leaves its caller's own variables their values, but for those that it has as bound ones
+abbrev pub OwnVariablesStay : Type 0
+OwnVariablesStay = (blocks : Blocks) (n : ℕ) (k : Work) (c : Numbered) (p : Parts) (w end : Valuation) (x : ℕ) → IsPlaced k
+    → IsFit k.parts c.call p → k.parts.bound + k.parts.shared ≤ x → x < length k.parts.vars
+    → (x < c.call.instance) ⊎ (c.call.instance + p.bound ≤ x)
+    → ComesTo blocks n (callee_work blocks k c p) (running (first_spot p) (cleared (callee_work blocks k c p) w)) (done_with end)
+    → end (k.place x) ≡ w (k.place x)
 
 -- ---- machines, walks
 

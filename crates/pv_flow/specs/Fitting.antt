@@ -10,7 +10,8 @@ use Rattle.pv_flow.specs.Calls.{Blocks, block_at}
 -- ---- one call
 
 -- a call edge of one automaton runs the other: the callee's bound variables lie among the caller's from `instance` on, and have their
--- types there; both have as many shared variables, of equal types
+-- types there; both have as many shared variables, of equal types. Of roles and starts nothing is said: a run with calls looks at the
+-- callee's role of bound ones alone.
 pub record IsFit (caller : Parts) (call : CallEdge) (callee : Parts) : Type 0 where
   pub room : call.instance + callee.bound ≤ length caller.vars
   pub bound : (x : ℕ) → x < callee.bound → types_of callee x ≡ types_of caller (call.instance + x)

@@ -1,5 +1,5 @@
--- The machines of automata. A state has the values of parameters and kept variables, an input those of input variables, each in the
--- order of the variables. With a pattern attached, a scan fails as the pattern says; without one where a loop's bound is gone over.
+-- The machines of automata. A state has the values of the variables of the roles Param and Kept, an input those of the role Input,
+-- each in the order of the variables. With a pattern attached, a scan fails as the pattern says; without one where a loop's bound is gone over.
 use Rattle.std.specs.Prelude.{◌≡◌, ℕ, suc, ◌+◌, ◌-◌, ◌<◌, ℤ, pos, List, [], ◌∷◌, length, slice_get, slice_index_or, Bool as Truth, true, false, not, ◌&&◌, ◌||◌, ◌==◌, nat_lt, cond, IfSome, Option, Some, None, All}
 use Rattle.std.specs.List.{list_any}
 use Rattle.std.proofs.Props.{props}
@@ -81,7 +81,7 @@ valuation_of values = λ n. slice_index_or values n (pos 0)
 abbrev pub begin_at : Parts → List ℤ → List ℤ → Valuation
 begin_at p state input = valuation_of (begin_of p.vars state input)
 
--- the state that is left: kept variables have their values at the end, parameters their old ones; the variables are numbered from n on
+-- the state that is left: variables of the role Kept have their values at the end, parameters their old ones; they are numbered from n on
 abbrev pub left_of : ℕ → List Variable → List ℤ → Valuation → List ℤ
 left_of n [] state w = []
 left_of n (v ∷ vars) state w = elim v.role [
@@ -113,7 +113,8 @@ pub record Attached : Type 0 where
   pub looking : Option Looking
   pub guarding : Option Guarding
 
--- the valuations at a scan's end, before attached bits are set, and at its beginning as one, of n variables each
+-- The valuations at a scan's end, before attached bits are set, and at its beginning as one, of n variables each. So what adds variables
+-- to an automaton, or takes some away, makes the terms over both anew.
 abbrev pub end_and_begin : ℕ → Valuation → Valuation → Valuation
 end_and_begin n end begin = λ x. cond (nat_lt x n) (end x) (begin (x - n))
 
@@ -215,7 +216,7 @@ pub record IsCondition (types : Types) (n : ℕ) (t : Term) : Type 0 where
 abbrev pub touches : ℕ → Edge → Truth
 touches x edge = reads x edge.guard || list_any (λ set. (set.variable == x) || reads x set.value) edge.sets
 
--- a kept variable of BOOL that starts with 0 and that no edge reads or sets
+-- a variable of BOOL of the role Kept that starts with 0 and that no edge reads or sets
 pub record IsBit (p : Parts) (x : ℕ) : Type 0 where
   pub exists : x < length p.vars
   pub ty : types_of p x ≡ Bool

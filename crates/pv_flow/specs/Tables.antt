@@ -1,5 +1,6 @@
 -- Numbers within the code's tables of terms and deeds name something: each node's operands stand before it, each deed's guard and the
--- values of its sets are nodes, each edge's deed is one, and so are the terms of what is attached.
+-- values of its sets are nodes, each edge's deed is one, and so are the terms of what is attached. Nodes and deeds that no edge uses may
+-- name any variable, and their terms may be untyped.
 use Rattle.std.specs.Prelude.{◌≡◌, ℕ, suc, List, [], ◌∷◌, length, Bool, true, ◌&&◌, nat_lt, Option, Some, None}
 use Rattle.std.specs.List.{list_all}
 use Rattle.pv_flow.specs.declared.term.Node.{Node}

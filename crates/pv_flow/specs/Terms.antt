@@ -22,7 +22,8 @@ pub data Term : Type 0 where
 
 -- ---- values
 
--- a value for each variable, by its number
+-- a value for each variable, by its number: any whole number, so it may be none of the variable's type. What is said of automata is said
+-- of valuations that give their variables values of their types (AreTyped).
 abbrev pub Valuation : Type 0
 Valuation = ℕ → ℤ
 

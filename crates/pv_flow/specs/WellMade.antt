@@ -105,6 +105,8 @@ pub record IsWellMade (p : Parts) : Type 0 where
   pub ends : (l : ℕ) → is_end p l ≡ true → length (calls_from l p.calls) + length (edges_from l p.edges) ≡ 0
   pub others : (l : ℕ) → l < p.locations → is_end p l ≡ false → 0 < length (calls_from l p.calls) + length (edges_from l p.edges)
   pub different : are_different (ends_of p) ≡ true
+  -- where a scan begins it doesn't end
+  pub begins : is_end p 0 ≡ false
   -- loops, and which way edges lead
   pub loops : All (IsLoop p) p.loops
   pub apart : (i j : ℕ) → i < j → IfSome (slice_get p.loops i) (λ loop. IfSome (slice_get p.loops j) (λ other. AreApart loop other))

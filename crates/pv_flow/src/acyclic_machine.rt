@@ -32,6 +32,13 @@ impl Acyclic {
         &self.automaton
     }
 
+    /// The automaton, which it gives up.
+    pub fn into_automaton(self) -> Automaton
+        ensures { result ≡ self.automaton }
+    {
+        self.automaton
+    }
+
     /// What is attached to it.
     pub fn attached(&self) -> Option<Attached>
         ensures { result ≡ self.now.attached }

@@ -23,7 +23,15 @@ impl Automaton {
     /// Its parts.
     pub fn parts(&self) -> &Parts
         ensures parts { parts_of result.now ≡ automaton_of self.now }
+        ensures same { result.now ≡ self.now.parts }
     {
         &self.parts
+    }
+
+    /// Its parts, which it gives up.
+    pub fn into_parts(self) -> Parts
+        ensures { result ≡ self.parts }
+    {
+        self.parts
     }
 }

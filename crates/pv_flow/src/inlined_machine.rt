@@ -25,6 +25,13 @@ impl Inlined {
         &self.automaton
     }
 
+    /// The automaton, which it gives up.
+    pub fn into_automaton(self) -> Automaton
+        ensures { result ≡ self.automaton }
+    {
+        self.automaton
+    }
+
     /// How many turns one entry into a loop may take.
     pub fn bound(&self) -> u32
         ensures { result ≡ self.now.bound }

@@ -1,5 +1,6 @@
 //! Laws of automata and their runs, each the contract of a function that does nothing. Their statements are those of `specs/Correct`.
-ghost use Rattle.pv_flow.specs.Correct.{TermsAreTyped, RunsKeepTypes, MoreStepsChangeNothing, RunsEndOnce, RunsEnd, AcyclicRunsEnd, UntouchedStay, CallsEndOnce, MoreLevelsChangeNothing, CallsEnd, CallsKeepTypes, MachinesAreLawful, ClosedWalksTakeTurns};
+ghost use Rattle.pv_flow.specs.Correct.{TermsAreTyped, RunsKeepTypes, MoreStepsChangeNothing, RunsEndOnce, RunsEnd, AcyclicRunsEnd, UntouchedStay, CallsEndOnce, MoreLevelsChangeNothing, CallsEnd, CallsKeepTypes, CallsLeaveOthers, WorksArePlaced, OwnVariablesStay, MachinesAreLawful, ClosedWalksTakeTurns};
+ghost use Rattle.pv_flow.specs.CallMachines.{OneMachineWithCalls, InlinedMachineWithCalls};
 ghost use Rattle.pv_flow.specs.Kept.{TypesKeep};
 
 /// A typed term over variables that have values of their types has a value of its type.
@@ -52,9 +53,34 @@ pub fn calls_keep_types()
     ensures { CallsKeepTypes }
 {}
 
+/// A run with calls that is done leaves places alone that its block's callers use and where none of its variables lies.
+pub fn calls_leave_others()
+    ensures { CallsLeaveOthers }
+{}
+
+/// Variables lie below the first free number, and no other lies where one of a block's own does.
+pub fn works_are_placed()
+    ensures { WorksArePlaced }
+{}
+
+/// A call that is done leaves its caller's own variables alone, but for those that it has as bound ones.
+pub fn own_variables_stay()
+    ensures { OwnVariablesStay }
+{}
+
 /// A variable that no edge sets keeps its value.
 pub fn untouched_variables_stay()
     ensures { UntouchedStay }
+{}
+
+/// Of blocks that fit, an automaton with call edges has one machine.
+pub fn one_machine_with_calls()
+    ensures { OneMachineWithCalls }
+{}
+
+/// Without call edges it is that of the automaton with its loop bound.
+pub fn inlined_machine_with_calls()
+    ensures { InlinedMachineWithCalls }
 {}
 
 /// The machine of an automaton with typed parts is lawful.

@@ -18,6 +18,7 @@ mod op;
 mod parts;
 mod term;
 mod variables;
+mod windows;
 
 pub use acyclic_machine::Acyclic;
 pub use as_machines::{acyclic, inlined};

@@ -1,36 +1,13 @@
 //! Whether loops are as they should be: their edges are there, they nest, and they are entered at their first location.
-ghost use Rattle.std.specs.Prelude.{◌≡◌, not, nat_lt};
+ghost use Rattle.std.specs.Prelude.{◌≡◌, ◌&&◌, true, IfOk, map, nat_lt};
 ghost use Rattle.std.specs.List.{list_all};
-ghost use Rattle.pv_flow.specs.Automata.{holds, holds_loop};
-ghost use Rattle.pv_flow.specs.Faults.{cross, enters_well, has_loops};
-ghost use Rattle.pv_flow.specs.Checks.{stands_well, is_entered, loop_lies, loops_lie};
+ghost use Rattle.pv_flow.specs.Faults.{has_locations, has_loops};
+ghost use Rattle.pv_flow.specs.Windows.{AreNested, calls_enter, edges_enter, ranges_nest, turns_lie, windows_let};
 ghost use Rattle.pv_flow.specs.View.{loop_of, parts_of};
 
 use crate::parts::{CallEdge, Edge, Loop, Parts};
-
-fn holds(range: &Loop, location: u32) -> bool
-    ensures { result ≡ holds (loop_of range.now) location }
-{
-    range.first <= location && location <= range.last
-}
-
-fn holds_loop(outer: &Loop, inner: &Loop) -> bool
-    ensures { result ≡ holds_loop (loop_of outer.now) (loop_of inner.now) }
-{
-    outer.first <= inner.first && inner.last <= outer.last
-}
-
-fn cross(a: &Loop, b: &Loop) -> bool
-    ensures { result ≡ cross (loop_of a.now) (loop_of b.now) }
-{
-    a.first <= b.last && b.first <= a.last && !holds_loop(a, b) && !holds_loop(b, a)
-}
-
-fn enters_well(range: &Loop, from: u32, to: u32) -> bool
-    ensures { result ≡ enters_well (loop_of range.now) from to }
-{
-    holds(range, from) || !holds(range, to) || to == range.first
-}
+use crate::windows::{Range, lets, window_at, windows_of};
+use std::alloc::{AllocError, Global};
 
 fn turns_are_there(turns: &[u32], edges: usize) -> bool
     ensures { result ≡ list_all (λ e. nat_lt e edges) turns.now }
@@ -38,59 +15,79 @@ fn turns_are_there(turns: &[u32], edges: usize) -> bool
     turns.iter().all(|e| (*e as usize) < edges)
 }
 
-fn crosses_none(range: &Loop, loops: &[Loop]) -> bool
-    ensures { result ≡ list_all (λ other. not (cross (loop_of range.now) (loop_of other))) loops.now }
+/// Whether the turn edges of all loops are there.
+fn turns_lie(parts: &Parts) -> bool
+    ensures { result ≡ turns_lie parts.now }
 {
-    loops.iter().all(|other| !cross(range, other))
+    let edges = parts.edges.len();
+    parts
+        .loops
+        .iter()
+        .all(|range| turns_are_there(range.turns.as_slice(), edges))
 }
 
-fn edges_enter_well(range: &Loop, edges: &[Edge]) -> bool
-    ensures { result ≡ list_all (λ edge. enters_well (loop_of range.now) edge.from edge.to) edges.now }
+/// Whether each loop ends within those around its first location.
+fn ranges_nest(windows: &[Option<Range>], loops: &[Loop]) -> bool
+    ensures { result ≡ ranges_nest windows.now loops.now }
+{
+    loops
+        .iter()
+        .all(|range| lets(window_at(windows, range.first), range.last))
+}
+
+/// Whether each edge enters loops at their first locations.
+fn edges_enter(windows: &[Option<Range>], edges: &[Edge]) -> bool
+    ensures { result ≡ edges_enter windows.now edges.now }
 {
     edges
         .iter()
-        .all(|edge| enters_well(range, edge.from, edge.to))
+        .all(|edge| lets(window_at(windows, edge.to), edge.from))
 }
 
-fn calls_enter_well(range: &Loop, calls: &[CallEdge]) -> bool
-    ensures { result ≡ list_all (λ call. enters_well (loop_of range.now) call.from call.to) calls.now }
+fn calls_enter(windows: &[Option<Range>], calls: &[CallEdge]) -> bool
+    ensures { result ≡ calls_enter windows.now calls.now }
 {
     calls
         .iter()
-        .all(|call| enters_well(range, call.from, call.to))
+        .all(|call| lets(window_at(windows, call.to), call.from))
 }
 
-/// Whether the loop's turn edges are there, and no loop crosses it.
-fn stands_well(parts: &Parts, range: &Loop) -> bool
-    ensures { result ≡ stands_well parts.now range.now }
+fn loops_lie(parts: &Parts, windows: &[Option<Range>]) -> bool
+    ensures { result ≡ (turns_lie parts.now && ranges_nest windows.now parts.now.loops.items) }
 {
-    turns_are_there(range.turns.as_slice(), parts.edges.len())
-        && crosses_none(range, parts.loops.as_slice())
+    turns_lie(parts) && ranges_nest(windows, parts.loops.as_slice())
 }
 
-/// Whether edges from outside enter it at its first location.
-fn is_entered(parts: &Parts, range: &Loop) -> bool
-    ensures { result ≡ is_entered parts.now range.now }
+fn all_enter(parts: &Parts, windows: &[Option<Range>]) -> bool
+    ensures { result ≡ (edges_enter windows.now parts.now.edges.items && calls_enter windows.now parts.now.calls.items) }
 {
-    edges_enter_well(range, parts.edges.as_slice())
-        && calls_enter_well(range, parts.calls.as_slice())
+    edges_enter(windows, parts.edges.as_slice()) && calls_enter(windows, parts.calls.as_slice())
 }
 
-fn loop_lies(parts: &Parts, range: &Loop) -> bool
-    ensures { result ≡ loop_lies parts.now range.now }
+fn windows_let(parts: &Parts, windows: &[Option<Range>]) -> bool
+    ensures { result ≡ windows_let parts.now windows.now }
 {
-    stands_well(parts, range) && is_entered(parts, range)
+    loops_lie(parts, windows) && all_enter(parts, windows)
 }
 
-fn loops_lie(parts: &Parts) -> bool
-    ensures { result ≡ loops_lie parts.now }
+fn judged(swept: bool, parts: &Parts, windows: &Vec<Option<Range>>) -> bool
+    ensures { result ≡ (swept && windows_let parts.now windows.now.items) }
 {
-    parts.loops.iter().all(|range| loop_lies(parts, range))
+    swept && windows_let(parts, windows.as_slice())
 }
 
-/// Whether all loops are as they should be. It takes time by the product of loops and edges.
-pub(crate) fn has_loops(parts: &Parts) -> bool
-    ensures { result ≡ has_loops (parts_of parts.now) }
+/// Whether all loops are as they should be. It takes time by the numbers of locations, edges and loops.
+pub(crate) fn has_loops(alloc: Global, parts: &Parts) -> Result<bool, AllocError>
+    requires locations { has_locations (parts_of parts.now) ≡ true }
+    requires nested { has_loops (parts_of parts.now) ≡ true → AreNested (map loop_of parts.now.loops.items) }
+    ensures { IfOk result (λ found. found ≡ has_loops (parts_of parts.now)) }
 {
-    loops_lie(parts)
+    let mut windows = Vec::new(alloc);
+    let swept = windows_of(
+        alloc,
+        &mut windows,
+        parts.loops.as_slice(),
+        parts.locations as usize,
+    )?;
+    Ok(judged(swept, parts, &windows))
 }

@@ -9,9 +9,9 @@ pub enum UnaryOp {
     Not,
     /// The number with the other sign, wrapped.
     Negate,
-    /// The pattern so many places higher, with zeros from below.
+    /// The pattern so many places higher, with zeros from below, whatever the number.
     Left(u32),
-    /// The pattern so many places lower, with zeros from above.
+    /// The pattern so many places lower, with zeros from above, whatever the number.
     Right(u32),
     /// The value wrapped to the result's type.
     Convert,
