@@ -1,8 +1,7 @@
 //! Calls of pv_frames.
 ghost use Rattle.std.specs.Prelude.{◌≡◌, ◌≢◌, ◌≤◌, ℕ, List, length, IsTrue, OnOk, IfErr};
-ghost use Rattle.pv_gate.specs.Node.{Names, gate_count};
+ghost use Rattle.pv_gate.specs.Node.{gate_count};
 ghost use Rattle.pv_circuit.specs.Made.{circuit_seen};
-ghost use Rattle.pv_frames.specs.Formulas.{step_clauses};
 ghost use Rattle.pv_frames.specs.Pushing.{ArePushed, StopsAt};
 ghost use Rattle.pv_frames.specs.Queries.{IsAsked, query_clauses, variable_count};
 
@@ -11,29 +10,7 @@ use pv_circuit::{Start, StepCircuit};
 use pv_cnf::{Clauses, PushFault};
 use pv_frames::query::MAX_QUERY_NODES;
 use pv_frames::{MAX_CLAUSES_BEFORE, MAX_QUERY_GATES};
-use pv_gate::Gates;
 use std::alloc::Global;
-
-/// [`pv_frames::push_step`].
-pub fn push_step<C: Clauses>(gates: &Gates, fail: i32, into: &mut C) -> Result<(), PushFault>
-    requires fail { Names (length gates.now.nodes) fail }
-    requires few_gates { gate_count gates.now.nodes ≤ MAX_QUERY_GATES }
-    requires takes { IsTrue (C.takes_clauses into.old) }
-    requires variables { length gates.now.nodes ≤ C.variables into.old }
-    requires room { length (C.clauses into.old) ≤ MAX_CLAUSES_BEFORE }
-    ensures ok { OnOk result (ArePushed (C.overflow into.old) (C.clauses into.old)
-        (step_clauses gates.now.nodes fail) (C.clauses into.new)) }
-    ensures err { IfErr result (λ fault. StopsAt (C.overflow into.old) (C.clauses into.old)
-        (step_clauses gates.now.nodes fail) (C.clauses into.new) fault) }
-    ensures in_range { result ≢ Err PushFault.VariableOutOfRange }
-    ensures distinct { result ≢ Err PushFault.Doubled }
-    ensures nonempty { result ≢ Err PushFault.Empty }
-    ensures variables_kept { C.variables into.new ≡ C.variables into.old }
-    ensures takes_kept { C.takes_clauses into.new ≡ C.takes_clauses into.old }
-    ensures overflow_kept { (all : List (List ℕ)) → C.overflow into.new all ≡ C.overflow into.old all }
-{
-    pv_frames::push_step(gates, fail, into)
-}
 
 /// [`pv_frames::query::push_frames`].
 pub fn push_frames<C: Clauses>(

@@ -1,4 +1,3 @@
 -- What proofs of crates above cite.
-pub use Rattle.pv_frames.proofs.StepValues.{step-holds, step-only}
 pub use Rattle.pv_frames.proofs.RunValues.{run-meets}
 pub use Rattle.pv_frames.proofs.RunsHold.{run-holds}

@@ -1,20 +1,17 @@
 -- The clauses of a frame, node by node: they are clauses, and few.
 -- A node of `gates.node(k + 1)` is at `k + 1 - 1`: one `back` equation and `ap` of `slice_get`.
-use Rattle.std.proofs.Common.{◌≡◌, ℕ, ℤ, pos, negsuc, ◌+◌, ◌*◌, ◌/◌, ◌<◌, ◌≤◌, zero, suc, Bool, true, false, cond, List, [], ◌∷◌, ◌++◌, length, take, drop, Some, Option, unwrap_or, slice_get, refl, sym, ◌∙◌, ap, subst, length-take-le, arith, lit≤, lit<, length-append, append_assoc, append-nil}
+use Rattle.std.proofs.Common.{◌≡◌, ℕ, ◌+◌, ◌*◌, ◌/◌, ◌<◌, ◌≤◌, zero, suc, Bool, true, false, cond, List, [], ◌∷◌, ◌++◌, length, take, drop, Some, Option, unwrap_or, slice_get, refl, sym, ◌∙◌, ap, subst, arith, lit≤, lit<, length-append, append_assoc, append-nil}
 use Rattle.std.specs.List.{flat_map, AllByRecursion}
 use Rattle.std.proofs.lemmas.Bool.{or_from, ne_eqb, le-ltb}
 use Rattle.std.proofs.lemmas.Grind.{flat_map-append}
-use Rattle.std.proofs.lemmas.Option.{slice_get_within}
 use Rattle.std.proofs.lemmas.List.Sums.{sum_by-append, sum_by-take-drop}
 use Rattle.pv_gate.specs.declared.netlist.Node.{Node}
 use Rattle.pv_gate.specs.declared.netlist.Node.TheVariants.{True, Input, And, Xor, Mux}
-use Rattle.pv_gate.specs.Node.{Names, is_gate, gate_count}
-use Rattle.pv_gate.specs.Netlist.{IsNetlist, MayFollow}
-use Rattle.pv_gate.proofs.ForCallers.{Names-more}
+use Rattle.pv_gate.specs.Node.{is_gate, gate_count}
 use Rattle.pv_cnf.specs.Literal.{complement, is_outside}
 use Rattle.pv_cnf.specs.Clause.{has_outside, AreClauses}
-use Rattle.pv_frames.specs.Frames.{Frame, own_variables, literal_in, and_clauses, xor_clauses, mux_clauses, node_clauses, frame_clauses}
-use Rattle.pv_frames.specs.Formulas.{has_complements, once, written, step_clauses}
+use Rattle.pv_frames.specs.Frames.{Frame, and_clauses, xor_clauses, mux_clauses, node_clauses, frame_clauses}
+use Rattle.pv_frames.specs.Formulas.{has_complements, once, written}
 use Rattle.pv_frames.proofs.Lists.{clauses-both}
 use Rattle.pv_frames.proofs.Literals.{outside-complement}
 use Rattle.pv_frames.proofs.Written.{written-valid}
@@ -70,10 +67,6 @@ written-all v (c ∷ cs) all = clauses-both v (written c) (flat_map written cs) 
 pub inside-variable : (v lit : ℕ) → 1 ≤ lit / 2 → lit / 2 ≤ v → is_outside v lit ≡ false
 inside-variable v lit from to = or_from _ _ (ne_eqb (lit / 2) 0 (λ e. omega arith)) (le-ltb v (lit / 2) to)
 
-pub inside-literal : (v : ℕ) (l : ℤ) → Names v l → is_outside v (literal_in own_variables l) ≡ false
-inside-literal v (pos n) h = inside-variable v (2 * n) (omega (arith, h.from_one)) (omega (arith, h.to_last))
-inside-literal v (negsuc n) h = outside-complement v (2 * suc n) ∙ inside-variable v (2 * suc n) (omega arith) (omega (arith, h.to_last))
-
 two-inside : (v a b : ℕ) → is_outside v a ≡ false → is_outside v b ≡ false → AreInside v (a ∷ b ∷ [])
 two-inside v a b p q = record { inside = or_from _ _ p (or_from _ _ q refl); some = lit< tt }
 
@@ -115,23 +108,6 @@ mux-inside v g s a b p o q r = (
     ),
   ),
 )
-
--- a node's clauses are clauses
-pub node-valid : (v n : ℕ) (before : List Node) (node : Node) → 1 ≤ n → n ≤ v → length before ≤ v → MayFollow before node → AreClauses v (flat_map written (node_clauses own_variables n node))
-node-valid v n before node from to few follows = written-all v (node_clauses own_variables n node) (by node follows)
-  where
-    gate : is_outside v (own_variables n) ≡ false
-    gate = inside-variable v (2 * n) (omega arith) (omega arith)
-
-    operand : (l : ℤ) → Names (length before) l → is_outside v (literal_in own_variables l) ≡ false
-    operand l h = inside-literal v l (Names-more (length before) v l few h)
-
-    by : (node : Node) → MayFollow before node → AllByRecursion (AreInside v) (node_clauses own_variables n node)
-    by True h = tt
-    by (Input m) h = tt
-    by (And a b) h = and-inside v _ _ _ gate (operand a h.0) (operand b h.1)
-    by (Xor a b) h = xor-inside v _ _ _ gate (operand a h.0) (operand b h.1)
-    by (Mux s a b) h = mux-inside v _ _ _ _ gate (operand s h.0) (operand a h.1.0) (operand b h.1.1)
 
 -- the clauses of all nodes, where those of each are
 pub frame-valid : (frame : Frame) (v n : ℕ) (nodes : List Node) → ((k : ℕ) (node : Node) → slice_get nodes k ≡ Some node → AreClauses v (flat_map written (node_clauses frame (n + k) node))) → AreClauses v (flat_map written (frame_clauses frame n nodes))
@@ -180,28 +156,7 @@ written-few frame n nodes = let some = frame-few frame n nodes in let less = len
 pub gates-taken : (nodes : List Node) (k : ℕ) → gate_count (take k nodes) ≤ gate_count nodes
 gates-taken nodes k = let split = sum_by-take-drop (λ (y : Node). cond (is_gate y) 1 0) nodes k in omega arith
 
--- ---- the whole list
-
-pub step-is : (nodes : List Node) (fail : ℤ) → step_clauses nodes fail ≡ (2 ∷ []) ∷ (flat_map written (frame_clauses own_variables 1 nodes) ++ (literal_in own_variables fail ∷ []) ∷ [])
-step-is nodes fail =
-    let l = literal_in own_variables fail in
-    ap (λ (cs : List (List ℕ)). (2 ∷ []) ∷ flat_map written (cs ++ (l ∷ []) ∷ [])) (append-nil (frame_clauses own_variables 1 nodes))
-    ∙ ap (λ (cs : List (List ℕ)). (2 ∷ []) ∷ cs) (flat_map-append written (frame_clauses own_variables 1 nodes) ((l ∷ []) ∷ []))
+-- ---- the clause of one literal
 
 pub unit-valid : (v lit : ℕ) → is_outside v lit ≡ false → AreClauses v ((lit ∷ []) ∷ [])
 unit-valid v lit h = written-valid v (lit ∷ []) (or_from _ _ h refl) (lit< tt)
-
--- it is a formula over one variable for each node
-pub step-valid : (nodes : List Node) (fail : ℤ) → IsNetlist nodes → Names (length nodes) fail → AreClauses (length nodes) (step_clauses nodes fail)
-step-valid nodes fail net names =
-    let v = length nodes in
-    let some = slice_get_within nodes 0 True net.first in
-    subst (AreClauses v) (sym (step-is nodes fail))
-    (clauses-both v ((2 ∷ []) ∷ []) (flat_map written (frame_clauses own_variables 1 nodes) ++ (literal_in own_variables fail ∷ []) ∷ [])
-    (unit-valid v 2 (inside-variable v 2 (lit≤ tt) some))
-    (clauses-both v (flat_map written (frame_clauses own_variables 1 nodes)) ((literal_in own_variables fail ∷ []) ∷ [])
-    (frame-valid own_variables v 1 nodes (λ k node at.
-    let below = slice_get_within nodes k node at in
-    let taken = length-take-le k nodes (omega arith) in
-    node-valid v (1 + k) (take k nodes) node (omega arith) (omega arith) (omega arith) (net.each k node at)))
-    (unit-valid v (literal_in own_variables fail) (inside-literal v fail names))))

@@ -13,10 +13,11 @@ use Rattle.pv_gate.specs.Value.{exclusive_or, value_of}
 use Rattle.pv_gate.proofs.ForCallers.{value_of-true, value_of-neg}
 use Rattle.pv_cnf.specs.Literal.{literal_value}
 use Rattle.pv_cnf.specs.Clause.{clause_value}
-use Rattle.pv_frames.specs.Frames.{Frame, own_variables, literal_in, node_clauses, frame_clauses}
+use Rattle.pv_frames.specs.Frames.{Frame, literal_in, node_clauses, frame_clauses}
 use Rattle.pv_frames.specs.Values.{AreFrameValues}
 use Rattle.pv_frames.proofs.Literals.{value-plain, value-complement}
 use Rattle.pv_frames.proofs.GateValues.{and-means, xor-means, mux-means}
+use Rattle.pv_frames.proofs.NodeValues.{own_variables}
 use Rattle.pv_frames.proofs.StepValues.{step-value, step-holds, step-only}
 
 -- the values of a frame's nodes, by their numbers

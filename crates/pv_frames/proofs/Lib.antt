@@ -19,5 +19,4 @@ pub mod Reading
 pub mod FrameValues
 pub mod RunValues
 pub mod RunsHold
-pub mod StepZero
 pub mod ForCallers

@@ -16,9 +16,13 @@ use Rattle.pv_gate.specs.Value.{node_value, exclusive_or}
 use Rattle.pv_gate.proofs.ForCallers.{Names-more}
 use Rattle.pv_cnf.specs.Literal.{literal_value}
 use Rattle.pv_cnf.specs.Clause.{clause_value}
-use Rattle.pv_frames.specs.Frames.{own_variables, literal_in, node_clauses, frame_clauses}
+use Rattle.pv_frames.specs.Frames.{Frame, literal_in, node_clauses, frame_clauses}
 use Rattle.pv_frames.proofs.Literals.{value-plain, value-complement}
 use Rattle.pv_frames.proofs.GateValues.{and-means, xor-means, mux-means}
+
+-- each node has the variable of its number
+abbrev pub own_variables : Frame
+own_variables n = 2 * n
 
 -- the values of `count` variables, from variable n on
 abbrev pub column : (ℕ → Bool) → ℕ → ℕ → List Bool

@@ -1,7 +1,8 @@
--- Values make the formula of step(0) hold exactly where they are those of the nodes and `fail` is true.
+-- The law of one frame, whose nodes have the variables of their numbers: values make its clauses hold exactly where they are those of
+-- the nodes and a literal is true.
 use Rattle.std.proofs.Common.{◌≡◌, ℕ, ℤ, pos, ◌+◌, ◌<◌, ◌≤◌, zero, suc, Bool, true, false, ◌||◌, ◌&&◌, List, [], ◌∷◌, ◌++◌, length, take, get_or, Some, slice_get, refl, sym, ◌∙◌, ap, arith, length-take-le, append-nil}
 use Rattle.std.specs.List.{list_all}
-use Rattle.std.proofs.lemmas.Bool.{and_parts, and_from, true≢false, false_from_ne_true}
+use Rattle.std.proofs.lemmas.Bool.{and_parts, and_from}
 use Rattle.std.proofs.lemmas.List.{ext_get_or}
 use Rattle.std.proofs.lemmas.Option.{slice_get_within}
 use Rattle.std.proofs.lemmas.List.Folds.{list_all-append}
@@ -14,12 +15,19 @@ use Rattle.pv_gate.specs.Value.{node_value, node_values, value_of}
 use Rattle.pv_gate.proofs.ForCallers.{length-node_values, node_values_at, node_values_only}
 use Rattle.pv_cnf.specs.Literal.{literal_value}
 use Rattle.pv_cnf.specs.Clause.{clause_value, Holds}
-use Rattle.pv_frames.specs.Frames.{own_variables, literal_in, node_clauses, frame_clauses}
-use Rattle.pv_frames.specs.Formulas.{unit, step_clauses}
-use Rattle.pv_frames.specs.Values.{AreNodeValues}
+use Rattle.pv_frames.specs.Frames.{literal_in, node_clauses, frame_clauses}
+use Rattle.pv_frames.specs.Formulas.{unit, formula}
 use Rattle.pv_frames.proofs.Written.{written-means, and_true}
 use Rattle.pv_frames.proofs.GateValues.{beq-same, same-beq}
-use Rattle.pv_frames.proofs.NodeValues.{column, length-column, get-column, literal-value, gate-means, no_clauses, nodes-only, nodes-hold, input_value, input-at}
+use Rattle.pv_frames.proofs.NodeValues.{own_variables, column, length-column, get-column, literal-value, gate-means, no_clauses, nodes-only, nodes-hold, input_value, input-at}
+
+-- each node's variable has the value that the node has under these values of the inputs
+abbrev pub AreNodeValues : (ℕ → Bool) → List Node → (ℕ → Bool) → Type 0
+AreNodeValues inputs nodes values = (n : ℕ) → 1 ≤ n → n ≤ length nodes → values n ≡ value_of inputs nodes (pos n)
+
+-- one frame, in which the literal is true
+abbrev pub step_clauses : List Node → ℤ → List (List ℕ)
+step_clauses nodes fail = formula nodes (own_variables ∷ []) (literal_in own_variables fail ∷ [])
 
 or_false : (b : Bool) → (b || false) ≡ b
 or_false true = refl
@@ -111,16 +119,3 @@ step-only nodes fail values net names holds =
     node_values_only inputs nodes (column values 1 (length nodes)) net (length-column values 1 (length nodes))
     (λ k node at. get-column values 1 (length nodes) k (slice_get_within nodes k node at) ∙ node-value values nodes one.0 two.0 k node at (net.each k node at)) in
     (inputs, from-column values inputs nodes is, sym (fail-value values inputs nodes fail names is) ∙ two.1)
-
--- ---- no values at all
-
-pub none-fails : (nodes : List Node) (fail : ℤ) → IsNetlist nodes → Names (length nodes) fail → ((values : ℕ → Bool) → Holds values (step_clauses nodes fail) → ⊥) → (inputs : ℕ → Bool) → value_of inputs nodes fail ≡ false
-none-fails nodes fail net names never inputs =
-    false_from_ne_true (value_of inputs nodes fail) (λ fails.
-    let values = λ (n : ℕ). value_of inputs nodes (pos n) in
-    never values (step-holds nodes fail values inputs net names (λ n from to. refl) fails))
-
-pub none-hold : (nodes : List Node) (fail : ℤ) → IsNetlist nodes → Names (length nodes) fail → ((inputs : ℕ → Bool) → value_of inputs nodes fail ≡ false) → (values : ℕ → Bool) → Holds values (step_clauses nodes fail) → ⊥
-none-hold nodes fail net names never values holds =
-    let found = step-only nodes fail values net names holds in
-    true≢false (sym found.2 ∙ never found.0)

@@ -1,9 +1,9 @@
 -- The formula of a query: its frames' clauses, and the literals that have to be true.
-use Rattle.std.specs.Prelude.{ℕ, ◌==◌, ℤ, Bool, false, not, ◌||◌, if◌then◌else◌, List, [], ◌∷◌, ◌++◌, map, filter}
+use Rattle.std.specs.Prelude.{ℕ, ◌==◌, Bool, false, not, ◌||◌, if◌then◌else◌, List, [], ◌∷◌, ◌++◌, map, filter}
 use Rattle.std.specs.List.{list_any, flat_map}
 use Rattle.pv_gate.specs.declared.netlist.Node.{Node}
 use Rattle.pv_cnf.specs.Literal.{complement}
-use Rattle.pv_frames.specs.Frames.{Frame, literal_in, own_variables, frame_clauses}
+use Rattle.pv_frames.specs.Frames.{Frame, frame_clauses}
 
 -- whether a literal stands beside its complement
 abbrev pub has_complements : List ℕ → Bool
@@ -27,7 +27,3 @@ unit lit = lit ∷ []
 abbrev pub formula : List Node → List Frame → List ℕ → List (List ℕ)
 formula nodes frames lits =
     flat_map written (unit 2 ∷ flat_map (λ frame. frame_clauses frame 1 nodes) frames ++ map unit lits)
-
--- step(0): one frame from any state, in which `fail` is true
-abbrev pub step_clauses : List Node → ℤ → List (List ℕ)
-step_clauses nodes fail = formula nodes (own_variables ∷ []) (literal_in own_variables fail ∷ [])

@@ -1,5 +1,5 @@
 -- Frames: a circuit's gates as clauses. A frame gives each node of the circuit a literal of the formula.
-use Rattle.std.specs.Prelude.{ℕ, suc, ◌*◌, ℤ, pos, negsuc, List, [], ◌∷◌, ◌++◌}
+use Rattle.std.specs.Prelude.{ℕ, suc, ℤ, pos, negsuc, List, [], ◌∷◌, ◌++◌}
 use Rattle.pv_gate.specs.declared.netlist.Node.{Node}
 use Rattle.pv_gate.specs.declared.netlist.Node.TheVariants.{True, Input, And, Xor, Mux}
 use Rattle.pv_cnf.specs.Literal.{complement}
@@ -12,10 +12,6 @@ Frame = ℕ → ℕ
 abbrev pub literal_in : Frame → ℤ → ℕ
 literal_in frame (pos n) = frame n
 literal_in frame (negsuc n) = complement (frame (suc n))
-
--- each node has the variable of its number
-abbrev pub own_variables : Frame
-own_variables n = 2 * n
 
 -- ---- the clauses by which g is what a gate makes of its operands
 

@@ -5,10 +5,6 @@ use Rattle.pv_gate.specs.Value.{value_of}
 use Rattle.pv_cnf.specs.Literal.{literal_value}
 use Rattle.pv_frames.specs.Frames.{Frame}
 
--- each node's variable has the value that the node has under these values of the inputs
-abbrev pub AreNodeValues : (ℕ → Bool) → List Node → (ℕ → Bool) → Type 0
-AreNodeValues inputs nodes values = (n : ℕ) → 1 ≤ n → n ≤ length nodes → values n ≡ value_of inputs nodes (pos n)
-
 -- each node's literal in the frame has the value that the node has under these values of the inputs
 abbrev pub AreFrameValues : (ℕ → Bool) → List Node → (ℕ → Bool) → Frame → Type 0
 AreFrameValues inputs nodes values frame = (n : ℕ) → 1 ≤ n → n ≤ length nodes → literal_value values (frame n) ≡ value_of inputs nodes (pos n)

@@ -1,6 +1,6 @@
 //! The formula of a query: a circuit's gates as clauses.
 //!
-//! Variable `n` stands for node `n` of the circuit, so variable 1 is true.
+//! Variable 1 is true; each frame of a query gives the circuit's nodes literals of their own.
 //!
 //! Clauses are made as small values (`Short`, four in an array) by functions without a bound; only
 //! what pushes them is generic over the store. That a gate's clauses mean what the gate does is a
@@ -18,5 +18,5 @@ mod short;
 mod table;
 
 pub use bits::{BitTrace, Bits, ScanBits};
-pub use push::{MAX_CLAUSES_BEFORE, MAX_QUERY_GATES, push_step, variables};
+pub use push::{MAX_CLAUSES_BEFORE, MAX_QUERY_GATES};
 pub use read::read_frames;

@@ -2,11 +2,16 @@
 --
 -- The steps of a check have stops and relations of their own (specs/Judging), one a layer: their exits close with no file, and one lemma
 -- (`answers_by_proofs`) goes from the inner to the outer.
-use Rattle.std.proofs.Common.{◌≡◌, ℕ, zero, suc, arith, List, [], ◌∷◌, refl, ap, sym, subst, ◌∙◌, inl, inr, Result, Ok, Err, length, ℤ}
-use Rattle.std.specs.Prelude.{codes}
+use Rattle.std.proofs.Common.{◌≡◌, ℕ, zero, suc, arith, List, [], ◌∷◌, refl, ap, sym, subst, ◌∙◌, inl, inr, Result, Ok, Err, ℤ}
+use Rattle.std.specs.Prelude.{codes, IfOk}
 use Rattle.pv_bool.specs.Tree.{ProgramTree}
-use Rattle.pv_gate.specs.declared.netlist.Node.{Node}
-use Rattle.pv_gate.specs.Node.{Names}
+use Rattle.pv_gate.specs.declared.fault.GateFault.{GateFault}
+use Rattle.pv_gate.specs.Netlist.{Netlist}
+use Rattle.pv_cnf.specs.Clause.{Cnf}
+use Rattle.pv_circuit.specs.declared.start.Start.{Start}
+use Rattle.pv_circuit.specs.declared.circuit.StepCircuit.{StepCircuit}
+use Rattle.pv_circuit.specs.Circuits.{Literals, Circuit, circuit_with}
+use Rattle.pv_circuit.specs.Made.{circuit_seen, IsStepCircuit}
 use Rattle.pv_cert.specs.declared.proof.Proof.{Proof}
 use Rattle.pv_cert.specs.declared.certificate.Certificate.{Certificate}
 use Rattle.pv_cert.specs.CertificateText.{satisfied_by, no_reduction, IsTextOf}
@@ -20,7 +25,7 @@ use Rattle.pv_recheck.specs.declared.stop.LogStop.TheVariants.{TooManyGates, Lin
 use Rattle.pv_recheck.specs.declared.stop.ProofStop.{ProofStop}
 use Rattle.pv_recheck.specs.declared.stop.ProofStop.TheVariants.{Log, WrongQuery}
 use Rattle.pv_recheck.specs.Form.{IsUnbuilt}
-use Rattle.pv_recheck.specs.Validity.{IsValid}
+use Rattle.pv_recheck.specs.Validity.{formula_over, IsValid}
 use Rattle.pv_recheck.specs.Answers.{Answers}
 use Rattle.pv_recheck.specs.Judging.{JudgesProofs, answer_of}
 use Rattle.pv_recheck.proofs.Lines.{fourth_of, second_of}
@@ -76,8 +81,18 @@ module _ (limit : ℕ) (program : ProgramTree) where
   answers_by_proofs bytes c (Err (WrongQuery at)) built t (inl j) = (built, (c, t, inl j), λ many. inr j.1)
   answers_by_proofs bytes c (Err (WrongQuery at)) built t (inr j) = (built, (c, t, inr j.1), λ many. absurd (j.0 many))
 
--- a literal that names a node
-pub names_at : (nodes others : List Node) (fail other : ℤ) → nodes ≡ others → fail ≡ other → Names (length others) other
-    → Names (length nodes) fail
-names_at nodes others fail other e f h = subst (λ (ns : List Node). Names (length ns) fail) (sym e)
-    (subst (λ (l : ℤ). Names (length others) l) (sym f) h)
+-- what the code has of a circuit is that circuit
+pub seen-is : (c : Circuit) (limit : ℕ) (made : StepCircuit) → IsStepCircuit c limit made → circuit_seen made ≡ c
+seen-is c limit made is =
+    ap (λ (g : Netlist). circuit_with g.nodes made.state_in.items made.input.items made.state_out.items made.ok made.fail) is.gates
+    ∙ (ap (λ (ls : Literals). circuit_with c.nodes ls made.input.items made.state_out.items made.ok made.fail) is.state_in
+    ∙ (ap (λ (ls : Literals). circuit_with c.nodes c.state_in ls made.state_out.items made.ok made.fail) is.input
+    ∙ (ap (λ (ls : Literals). circuit_with c.nodes c.state_in c.input ls made.ok made.fail) is.state_out
+    ∙ (ap (λ (l : ℤ). circuit_with c.nodes c.state_in c.input c.state_out l made.fail) is.ok
+    ∙ ap (λ (l : ℤ). circuit_with c.nodes c.state_in c.input c.state_out c.ok l) is.fail))))
+
+-- a formula of the same circuit, whose state begins in the same way
+pub formula-is : (c d : Circuit) (starts others : List Start) (r : Result Cnf GateFault) → c ≡ d → starts ≡ others
+    → IfOk r (λ f. f ≡ formula_over c starts) → IfOk r (λ f. f ≡ formula_over d others)
+formula-is c d starts others (Ok f) e s h = h ∙ (ap (λ (x : Circuit). formula_over x starts) e ∙ ap (λ (xs : List Start). formula_over d xs) s)
+formula-is c d starts others (Err fault) e s h = tt

@@ -13,5 +13,5 @@ mod form;
 pub mod laws;
 mod stop;
 
-pub use check::{MAX_STEP_GATES, check_certificate};
+pub use check::{MAX_STEP_BITS, MAX_STEP_GATES, check_certificate};
 pub use fault::{Kind, RecheckFault};

@@ -6,6 +6,7 @@ use crate::clauses::{tell_flip, tell_formula, tell_solver, tell_values};
 use crate::logs::{tell_line, tell_verdict};
 use crate::memory::{tell_files, tell_sink};
 use crate::queries::{Asked, tell_query};
+use crate::sources::tell_source;
 use crate::texts::{tell_sample, tell_tokens};
 use pv_lex::Language;
 use pv_rows_form::{Calls, Row, Told, last};
@@ -84,6 +85,11 @@ impl Calls for Base {
             "query" => ask(row, Asked::Formula, told),
             "query into a solver" => ask(row, Asked::Solver(words(row, told)), told),
             "run of a query" => ask(row, Asked::Run(said(row, 3, told).as_str()), told),
+            "source" => tell_source(
+                said(row, 0, told).as_str(),
+                said(row, 1, told).as_str(),
+                told,
+            ),
             "trace" => tell_trace(given, row.bytes(0, told).as_slice(), told),
             call => tell_arithmetic(call, said(row, 0, told).as_str(), told),
         }

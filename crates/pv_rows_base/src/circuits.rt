@@ -1,15 +1,12 @@
 //! Circuits, step by step. A literal is the number of a node, with a minus where it is the complement; words have `:` between them.
 ghost use Rattle.std.specs.Prelude.{◌≡◌, ◌≤◌, length, All, IfOk};
-ghost use Rattle.pv_gate.specs.Node.{Names, gate_count};
-ghost use Rattle.pv_frames.specs.declared.push.TheConstants.{MAX_QUERY_GATES};
+ghost use Rattle.pv_gate.specs.Node.{Names};
 
 use crate::clauses::first_number;
 use pv_bits::{
     adder, difference_overflow, divide, equal, less, multiply, product_overflow, select, shift,
     subtract, sum_overflow,
 };
-use pv_cnf::{Formula, PushFault, to_dimacs};
-use pv_frames::{push_step, variables};
 use pv_gate::{FALSE, GateFault, Gates, Literals, make};
 use pv_rows_form::Told;
 use std::alloc::{AllocError, Global};
@@ -88,35 +85,6 @@ fn tell_node(gates: &Gates, number: &[i32], told: &mut Told)
     }
 }
 
-/// The clauses of the step query in which this literal is true.
-fn formula(alloc: Global, gates: &Gates, fail: i32) -> Result<Formula, PushFault>
-    requires fail { Names (length gates.now.nodes) fail }
-    requires few { gate_count gates.now.nodes ≤ MAX_QUERY_GATES }
-{
-    let mut formula = Formula::make(alloc, variables(gates))?;
-    push_step(gates, fail, &mut formula)?;
-    Ok(formula)
-}
-
-fn tell_formula(made: Result<Formula, PushFault>, told: &mut Told) {
-    match made {
-        Ok(formula) => match to_dimacs(told.alloc(), &formula) {
-            Ok(text) => told.bytes(text.as_slice()),
-            Err(_) => told.lose(),
-        },
-        Err(fault) => told.words(&fault),
-    }
-}
-
-/// The same as text, of the first of some literals.
-fn tell_clauses(gates: &Gates, fail: &[i32], told: &mut Told)
-    requires { All (Names (length gates.now.nodes)) fail.now }
-{
-    if !fail.is_empty() && gates.nodes() < 1_000_000 {
-        tell_formula(formula(told.alloc(), gates, fail[0]), told);
-    }
-}
-
 /// A gate of two literals, or of three.
 fn tell_gate(gates: &mut Gates, name: &str, of: &[i32], told: &mut Told)
     requires { All (Names (length gates.old.nodes)) of.now }
@@ -192,7 +160,6 @@ fn tell_made(gates: &mut Gates, name: &str, a: &[i32], b: &[i32], c: &[i32], tol
         "input" => tell_input(gates, told),
         "nodes" => told.number(i128::from(gates.nodes())),
         "node" => tell_node(gates, a, told),
-        "clauses" => tell_clauses(gates, a, told),
         "and" | "xor" | "mux" => tell_gate(gates, name, a, told),
         "choice" => tell_choice(gates, a, b, c, told),
         "up" => tell_word(shift(told.alloc(), gates, a, true, 1), told),

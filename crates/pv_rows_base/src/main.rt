@@ -12,6 +12,7 @@ mod logs;
 mod memory;
 mod programs;
 mod queries;
+mod sources;
 mod texts;
 
 use calls::{Base, NAMES};

@@ -5,5 +5,5 @@ pub mod Meaning
 pub mod Outcome
 pub mod ScanLaws
 pub mod Denoting
-pub mod ProgramSteps
+pub mod Stepping
 pub mod ForCallers

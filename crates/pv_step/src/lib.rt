@@ -9,7 +9,9 @@
 
 mod build;
 pub mod laws;
+mod state;
 mod step;
 
 pub use pv_circuit::StepCircuit;
+pub use state::starts;
 pub use step::circuit;

@@ -19,7 +19,7 @@ use Rattle.pv_step.proofs.Denoting.{widths-bools, denote-numbers, denote-back, d
 
 -- ---- bits that runs begin with, and that scans change
 
-begin-state : (begins bits : Bits) → length bits ≡ length begins → AreState (map (λ b. Begins b) begins) bits
+pub begin-state : (begins bits : Bits) → length bits ≡ length begins → AreState (map (λ b. Begins b) begins) bits
 begin-state [] [] long = tt
 begin-state [] (x ∷ bits) long = absurd (omega (arith, long))
 begin-state (b ∷ begins) [] long = absurd (omega (arith, long))
@@ -54,8 +54,8 @@ true-not b e = ap not e
 
 -- ---- the parts
 
-long-starts : (program : ProgramTree) → length (starts_of program) ≡ state_len program.bits
-long-starts program = length-map (start program.bits) (λ b. Begins b) ∙ length-start program.bits
+starts-count : (program : ProgramTree) → length (starts_of program) ≡ state_len program.bits
+starts-count program = length-map (start program.bits) (λ b. Begins b) ∙ length-start program.bits
 
 ranges : (program : ProgramTree) → HasRanges (machine_of program) (form_of program) (starts_of program)
 ranges program = record {
@@ -93,7 +93,7 @@ form program is =
     let input : length (circuit_of program).input ≡ input_len program.bits =
     sym (length-map (circuit_of program).input (value_of (λ n. false) (circuit_of program).nodes)) ∙ long.input in
     record {
-      starts = long-starts program ∙ sym state;
+      starts = starts-count program ∙ sym state;
       state = state ∙ sym (widths-bools (state_len program.bits));
       input = input ∙ sym (widths-bools (input_len program.bits));
     }
@@ -171,3 +171,7 @@ does_the_steps program is = record {
   scan = λ s i state input d. scan program is s i d;
   every = every program is;
 }
+
+-- there is a start for each bit of the state
+pub long-starts : (program : ProgramTree) → IsProgram program → length (starts_of program) ≡ length (circuit_of program).state_in
+long-starts program is = (form program is).starts
