@@ -47,6 +47,18 @@ fn ask(row: Row<'_>, asked: Asked<'_>, told: &mut Told) {
     tell_query(name.as_str(), start.as_str(), query.as_str(), asked, told);
 }
 
+/// What answers a row by its first two fields as texts.
+fn tell_texts(call: &str, first: &str, second: &str, told: &mut Told) {
+    match call {
+        "solver" => tell_solver(first, second, told),
+        "circuit" => tell_circuit(first, second, told),
+        "files" => tell_files(first, second, told),
+        "sink" => tell_sink(first, second, told),
+        "source" => tell_source(first, second, told),
+        _ => tell_arithmetic(call, first, told),
+    }
+}
+
 impl Calls for Base {
     fn answer(&self, row: Row<'_>, told: &mut Told) {
         let given = last(row.head, "given").unwrap_or("");
@@ -58,26 +70,6 @@ impl Calls for Base {
             "formula" => tell_formula(given, said(row, 0, told).as_str(), told),
             "flip" => tell_flip(said(row, 0, told).as_str(), told),
             "values" => tell_values(given, said(row, 0, told).as_str(), told),
-            "solver" => tell_solver(
-                said(row, 0, told).as_str(),
-                said(row, 1, told).as_str(),
-                told,
-            ),
-            "circuit" => tell_circuit(
-                said(row, 0, told).as_str(),
-                said(row, 1, told).as_str(),
-                told,
-            ),
-            "files" => tell_files(
-                said(row, 0, told).as_str(),
-                said(row, 1, told).as_str(),
-                told,
-            ),
-            "sink" => tell_sink(
-                said(row, 0, told).as_str(),
-                said(row, 1, told).as_str(),
-                told,
-            ),
             "line" => tell_line(row.bytes(0, told).as_slice(), told),
             "log" => tell_verdict(given, false, said(row, 0, told).as_str(), told),
             "new log" => tell_verdict(given, true, said(row, 0, told).as_str(), told),
@@ -85,13 +77,13 @@ impl Calls for Base {
             "query" => ask(row, Asked::Formula, told),
             "query into a solver" => ask(row, Asked::Solver(words(row, told)), told),
             "run of a query" => ask(row, Asked::Run(said(row, 3, told).as_str()), told),
-            "source" => tell_source(
+            "trace" => tell_trace(given, row.bytes(0, told).as_slice(), told),
+            call => tell_texts(
+                call,
                 said(row, 0, told).as_str(),
                 said(row, 1, told).as_str(),
                 told,
             ),
-            "trace" => tell_trace(given, row.bytes(0, told).as_slice(), told),
-            call => tell_arithmetic(call, said(row, 0, told).as_str(), told),
         }
     }
 }
