@@ -1,0 +1,11 @@
+pub mod Compares
+pub mod Empties
+pub mod Finds
+pub mod Refusals
+pub mod Queries
+pub mod Ranged
+pub mod Scans
+pub mod Spending
+pub mod Whole
+pub mod Costs
+pub mod Wrongs

@@ -1,0 +1,5 @@
+pub mod Steps
+pub mod Sums
+pub mod Logs
+pub mod Joining
+pub mod Answers

@@ -1,0 +1,15 @@
+pub mod Lists
+pub mod Says
+pub mod Sound
+pub mod Traces
+pub mod Logs
+pub mod Proofs
+pub mod Spent
+pub mod Contents
+pub mod FaultKinds
+pub mod One
+pub mod Sums
+pub mod Oracles
+pub mod Endings
+pub mod Decided
+pub mod ForCallers
