@@ -12,7 +12,7 @@ use Rattle.pv_valid.specs.declared.fault.Fault.TheVariants.{Line}
 use Rattle.pv_valid.specs.Validity.{with_next, first_sum_past}
 use Rattle.pv_valid.specs.Walk.{or_else, unless, lines_fault, wrong_lemma, budget_fault, need_fault, next_fault, is_same}
 use Rattle.pv_judge.specs.Joining.{IsNextAt}
-use Rattle.pv_judge.specs.Steps.{placed, is_within}
+use Rattle.pv_judge.specs.Steps.{placed, is_in_log}
 
 -- ---- a log and a line after it
 
@@ -178,24 +178,24 @@ module _ (f : Cnf) (log : List line.Line) (at : ℕ) where
         ∙ ap (λ (b : Bool). or_else (need_part b) next_part) same
 
     -- what is wrong first lies in the log
-    pub spend-within : (w : Option (ℕ × Kind)) → is_within w (length log) ≡ true
+    pub spend-within : (w : Option (ℕ × Kind)) → is_in_log w (length log) ≡ true
         → lines_fault (wrong_lemma f.variables) f.clauses (suc at) (with_next log next) ≡ placed at w
         → need_fault words need next f at log ≡ placed at w
     spend-within None within e = absurd cc
     spend-within (Some w) within e = need-line (Line (at + w.0) w.1) (in-log next w.0 w.1 (leb-true w.0 (length log) within) e)
 
-    behind-log : (w : Option (ℕ × Kind)) → is_within w (length log) ≡ false → IsBehind (length log) w
+    behind-log : (w : Option (ℕ × Kind)) → is_in_log w (length log) ≡ false → IsBehind (length log) w
     behind-log None out = tt
     behind-log (Some w) out = leb-false w.0 (length log) out
 
     -- it doesn't, and the sum is another
-    pub spend-sum : (w : Option (ℕ × Kind)) → is_within w (length log) ≡ false
+    pub spend-sum : (w : Option (ℕ × Kind)) → is_in_log w (length log) ≡ false
         → lines_fault (wrong_lemma f.variables) f.clauses (suc at) (with_next log next) ≡ placed at w
         → is_need ≡ false → need_fault words need next f at log ≡ Some (Line (at + 1 + length log) kind.WrongNeed)
     spend-sum w out e differs = need-sum (log-clear next w (behind-log w out) e) differs
 
     -- nor is it
-    pub spend-next : (w : Option (ℕ × Kind)) → is_within w (length log) ≡ false
+    pub spend-next : (w : Option (ℕ × Kind)) → is_in_log w (length log) ≡ false
         → ((place : ℕ) → lines_fault (wrong_lemma f.variables) f.clauses (suc place) (with_next log next) ≡ placed place w)
         → is_need ≡ true → need_fault words need next f at log ≡ placed (at + 1) w
     spend-next w out e same =

@@ -130,9 +130,9 @@ placed at None = None
 placed at (Some wrong) = Some (Line (at + wrong.0) wrong.1)
 
 -- whether it is one of so many lines
-abbrev pub is_within : Option (ℕ × Kind) → ℕ → Bool
-is_within None count = false
-is_within (Some wrong) count = nat_le wrong.0 count
+abbrev pub is_in_log : Option (ℕ × Kind) → ℕ → Bool
+is_in_log None count = false
+is_in_log (Some wrong) count = nat_le wrong.0 count
 
 -- the first line without a literal, from 1
 abbrev pub first_empty : List line.Line → Option ℕ

@@ -1,7 +1,7 @@
 //! Logs of lemmas, for which a limit was spent.
 ghost use Rattle.std.specs.Prelude.{◌≡◌, ℕ, ◌^◌, ◌<◌, suc, Some, IfOk, IfErr};
 ghost use Rattle.pv_valid.specs.Walk.{lines_fault, wrong_lemma, budget_fault, need_fault, is_same};
-ghost use Rattle.pv_judge.specs.Steps.{Finds, first_empty, is_not_new, refused_in, first_wrong, placed, is_within};
+ghost use Rattle.pv_judge.specs.Steps.{Finds, first_empty, is_not_new, refused_in, first_wrong, placed, is_in_log};
 
 use crate::joined::Joined;
 use crate::logs::fault_at;
@@ -122,8 +122,8 @@ fn is_same(sum: Option<u128>, need: u64) -> bool
 }
 
 /// Whether what is wrong first stands in one of the first lines.
-fn is_within(wrong: Option<(u32, Kind)>, lines: u32) -> bool
-    ensures { result ≡ is_within wrong lines }
+fn is_in_log(wrong: Option<(u32, Kind)>, lines: u32) -> bool
+    ensures { result ≡ is_in_log wrong lines }
 {
     match wrong {
         Some((line, _)) => line <= lines,
@@ -151,7 +151,7 @@ pub(crate) fn spend_words(
     };
     let wrong = wrong_lemma(alloc, formula, &lemmas)?;
     let own = log.lines();
-    if is_within(wrong, own) {
+    if is_in_log(wrong, own) {
         return placed(at, wrong);
     }
     if !is_same(first_sum_past(limit, formula, &lemmas), need) {

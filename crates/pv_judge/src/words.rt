@@ -11,7 +11,7 @@ use pv_log::LogView;
 #[derive(Clone, Copy)]
 pub(crate) enum Sum {
     /// Up to this one, which may be past the words and isn't looked at yet.
-    Within(u128),
+    UpTo(u128),
     /// To this one, the first past the words.
     Past(u128),
 }
@@ -38,7 +38,7 @@ fn clauses_sum(words: u64, formula: &Formula) -> Sum
         }
         sum = with_cost(sum, formula.clause(n + 1).len(), 0, 3);
     }
-    Sum::Within(sum)
+    Sum::UpTo(sum)
 }
 
 /// The first of the running sums past the words: of the variables, each clause and each line.
@@ -48,7 +48,7 @@ pub(crate) fn first_sum_past<L: LogView>(words: u64, formula: &Formula, lines: &
 {
     let mut sum = match clauses_sum(words, formula) {
         Sum::Past(sum) => return Some(sum),
-        Sum::Within(sum) => sum,
+        Sum::UpTo(sum) => sum,
     };
     for n in 0..lines.lines() {
         if (words as u128) < sum {

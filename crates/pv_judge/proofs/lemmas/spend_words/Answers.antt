@@ -6,7 +6,7 @@ use Rattle.pv_valid.specs.declared.fault.Kind.TheVariants as kind
 use Rattle.pv_valid.specs.declared.fault.Fault.TheVariants.{Line as FaultLine}
 use Rattle.pv_valid.specs.Validity.{with_next, first_sum_past}
 use Rattle.pv_valid.specs.Walk.{lines_fault, wrong_lemma, need_fault, is_same}
-use Rattle.pv_judge.specs.Steps.{placed, is_within}
+use Rattle.pv_judge.specs.Steps.{placed, is_in_log}
 use Rattle.pv_judge.proofs.Finds.{finds-at, finds-as}
 use Rattle.pv_judge.proofs.Spending.{spend-within, spend-sum, spend-next}
 use Rattle.pv_judge.proofs.lemmas.spend_words.Goals as goal
@@ -14,15 +14,15 @@ use Rattle.pv_judge.proofs.lemmas.spend_words.Goals as goal
 Told : Cnf → List Line → Option (ℕ × Kind) → Type 0
 Told f lines w = (at : ℕ) → lines_fault (wrong_lemma f.variables) f.clauses (suc at) lines ≡ placed at w
 
-pub returns-then-is_within : goal.returns-then-is_within
+pub returns-then-is_in_log : goal.returns-then-is_in_log
 unfolding Told
-returns-then-is_within c =
+returns-then-is_in_log c =
     let f = c.args.formula.now in
     let log = c.args.log.now in
     let next = c.args.next.now in
     let w = c.in_ok-wrong.wrong in
     let told : Told f (with_next log next) w = subst (λ (ls : List Line). Told f ls w) c.in-Some.ensures c.in_ok-wrong.ensures.wrong in
-    let within = ap (is_within w) (sym c.lines-own.ensures) ∙ (sym c.is_within.ensures ∙ c.if-is_within.true) in
+    let within = ap (is_in_log w) (sym c.lines-own.ensures) ∙ (sym c.is_in_log.ensures ∙ c.if-is_in_log.true) in
     finds-as (need_fault c.args.limit c.args.need next f c.args.at log) (placed c.args.at w) c.placed.result
     (spend-within f log c.args.at c.args.limit c.args.need next w within (told c.args.at)) c.placed.ensures
 
@@ -34,7 +34,7 @@ returns-then-not-is_same c =
     let next = c.args.next.now in
     let w = c.in_ok-wrong.wrong in
     let told : Told f (with_next log next) w = subst (λ (ls : List Line). Told f ls w) c.in-Some.ensures c.in_ok-wrong.ensures.wrong in
-    let out = ap (is_within w) (sym c.lines-own.ensures) ∙ (sym c.is_within.ensures ∙ c.if-is_within.false) in
+    let out = ap (is_in_log w) (sym c.lines-own.ensures) ∙ (sym c.is_in_log.ensures ∙ c.if-is_in_log.false) in
     let sum : c.first_sum_past.result ≡ first_sum_past c.args.limit f (with_next log next) (2 * f.variables) =
     c.first_sum_past.ensures ∙ ap (λ (ls : List Line). first_sum_past c.args.limit f ls (2 * f.variables)) c.in-Some.ensures in
     let differs = ap (λ (o : Option ℕ). is_same o c.args.need) (sym sum) ∙ (sym c.is_same.ensures ∙ c.if-not-is_same.true) in
@@ -51,7 +51,7 @@ returns c =
     let next = c.args.next.now in
     let w = c.in_ok-wrong.wrong in
     let told : Told f (with_next log next) w = subst (λ (ls : List Line). Told f ls w) c.in-Some.ensures c.in_ok-wrong.ensures.wrong in
-    let out = ap (is_within w) (sym c.lines-own.ensures) ∙ (sym c.is_within.ensures ∙ c.if-is_within.false) in
+    let out = ap (is_in_log w) (sym c.lines-own.ensures) ∙ (sym c.is_in_log.ensures ∙ c.if-is_in_log.false) in
     let sum : c.first_sum_past.result ≡ first_sum_past c.args.limit f (with_next log next) (2 * f.variables) =
     c.first_sum_past.ensures ∙ ap (λ (ls : List Line). first_sum_past c.args.limit f ls (2 * f.variables)) c.in-Some.ensures in
     let same = ap (λ (o : Option ℕ). is_same o c.args.need) (sym sum) ∙ (sym c.is_same.ensures ∙ c.if-not-is_same.false) in

@@ -9,8 +9,8 @@ use Rattle.pv_judge.proofs.words.first_sum_past.Goals as goal
 
 pub loop-n-init : goal.loop-n-init
 loop-n-init g c = record {
-  bounded = (c.in-Within.ensures []).1;
-  left = sym (c.in-Within.ensures (map line_cost (g.L.LogView.all_lines c.args.lines.now))).0;
+  bounded = (c.in-UpTo.ensures []).1;
+  left = sym (c.in-UpTo.ensures (map line_cost (g.L.LogView.all_lines c.args.lines.now))).0;
 }
 
 pub returns-then-words-sum : goal.returns-then-words-sum
