@@ -1,0 +1,5 @@
+pub mod Renaming
+pub mod Nests
+pub mod Levels
+pub mod Inlined
+pub mod Correct
