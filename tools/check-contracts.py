@@ -27,7 +27,12 @@ EQUATIONS = {"Finds", "Gives", "Leaves", "Pops"}
 
 NEAREST = "its clause is that of `wrong_condition`, the nearest place of a rule; `check` of pv_rules, which is tested, is proved from it"
 READING = "`parse` of pv_scl_parse and of pv_stl_parse and `expression`, which are tested, say the same of their languages and are proved from it"
+LEARNING = "`solve` of pv_solver, which is tested, is proved from it"
 EXCEPTIONS = {
+    "pv_learn::Draft::new": LEARNING,
+    "pv_learn::look_at": LEARNING,
+    "pv_learn::make_last": LEARNING,
+    "pv_learn::make_lemma": LEARNING,
     "pv_ll::recognize_sample": "`recognize`, which is tested, at one grammar",
     "pv_parse_source::*": READING,
     "pv_rules_call::call_too_deep": NEAREST,

@@ -92,3 +92,59 @@ def adders(width):
     one, two = ripple(circuit, left, right), prefix(circuit, left, right)
     circuit.clauses.append([circuit.differ(a, b) for a, b in zip(one, two)])
     return dimacs(circuit.variables, circuit.clauses)
+
+
+def chain(variables):
+    """'Not i, or i + 1' for each odd i, rising, then for each even one, falling, then the first variable: all are true."""
+    below = range(1, variables)
+    clauses = [[-i, i + 1] for i in below if i % 2 == 1]
+    clauses.extend([-i, i + 1] for i in reversed(below) if i % 2 == 0)
+    clauses.append([1])
+    return dimacs(variables, clauses)
+
+
+def product(circuit, left, right):
+    """The lowest bits of the product, as many as a word has, by rows of sums."""
+    width = len(left)
+    total = [circuit.both(a, right[0]) for a in left]
+    for shift in range(1, width):
+        row = [circuit.both(a, right[shift]) for a in left[: width - shift]]
+        total[shift:] = ripple(circuit, total[shift:], row)[:-1]
+    return total
+
+
+def products(width):
+    """A bit in which the product of two words differs from that of the same in the other order: there is none."""
+    circuit = Circuit()
+    left = [circuit.input() for _ in range(width)]
+    right = [circuit.input() for _ in range(width)]
+    one, two = product(circuit, left, right), product(circuit, right, left)
+    circuit.clauses.append([circuit.differ(a, b) for a, b in zip(one, two)])
+    return dimacs(circuit.variables, circuit.clauses)
+
+
+def latches(count):
+    """A step of so many latches 'start or run, and not stop', of which one is to be on, off, and started: there is a way."""
+    circuit = Circuit()
+    ends = []
+    for _ in range(count):
+        start, run, stop = circuit.input(), circuit.input(), circuit.input()
+        ends.append(circuit.both(circuit.either(start, run), -stop))
+    circuit.clauses.append(ends)
+    circuit.clauses.extend([-a, -b] for a, b in zip(ends, ends[1:]))
+    return dimacs(circuit.variables, circuit.clauses)
+
+
+def counters(count, width=16):
+    """Two steps of so many counters, all of which are to be past their ends after the second but not after the first."""
+    circuit = Circuit()
+    for _ in range(count):
+        bits, ticks = [circuit.input() for _ in range(width)], [circuit.input() for _ in range(2)]
+        for step, tick in enumerate(ticks):
+            carry, after = tick, []
+            for bit in bits:
+                after.append(circuit.differ(bit, carry))
+                carry = circuit.both(bit, carry)
+            circuit.clauses.append([carry if step == 1 else -carry])
+            bits = after
+    return dimacs(circuit.variables, circuit.clauses)

@@ -1,8 +1,8 @@
 #!/usr/bin/env python3
 """Times the solver beside minisat and cadical on the same formulas, and has the log of each refuted one checked.
 
-Usage: run.py [seeds=N] [KIND=SIZE,..].. with the kinds pigeons, random and adders; without a kind seeds=5 pigeons=6,7,8
-random=100,125,150 adders=8,16,32. Builds the programs in a temporary copy of the crates, and needs `rt`, a C compiler, and
+Usage: run.py [seeds=N] [KIND=SIZE,..].. with the kinds pigeons, random, adders, products, latches, counters and chain; without a kind
+seeds=5 pigeons=7,8,9 random=150,200 adders=32,64 products=5 latches=10000 counters=100 chain=200000,400000. Builds the programs in a temporary copy of the crates, and needs `rt`, a C compiler, and
 `minisat` and `cadical` (Debian's packages). For each formula it prints the answer, processor times of whole processes (the least of five, of
 fewer where they are long), numbers of conflicts (of the solver: the lines of its log, each of which came of a conflict), and the
 ratios. Where the answer is Unsat, the log is checked by `Checker::check`, by `Checker::check_new`, and by lrat.c. Of the random
@@ -19,7 +19,7 @@ HERE = pathlib.Path(__file__).resolve().parent
 sys.path.insert(0, str(HERE.parent))
 sys.dont_write_bytecode = True
 from build import built  # noqa: E402
-from formulas import adders, pigeons, random_clauses  # noqa: E402
+from formulas import adders, chain, counters, latches, pigeons, products, random_clauses  # noqa: E402
 from measure import machine, measured  # noqa: E402
 
 OTHERS = {
@@ -125,7 +125,25 @@ def many(programs, place, variables, seeds):
             print(f"{counts[refuted]} random formulas of {variables} variables, {word}: {sums[refuted].text()}", flush=True)
 
 
-SIZES = {"pigeons": [6, 7, 8], "random": [100, 125, 150], "adders": [8, 16, 32]}
+SIZES = {
+    "pigeons": [7, 8, 9],
+    "random": [150, 200],
+    "adders": [32, 64],
+    "products": [5],
+    "latches": [10000],
+    "counters": [100],
+    "chain": [200000, 400000],
+}
+
+# What a formula of a kind is called, and its text.
+SINGLE = {
+    "pigeons": (lambda holes: f"{holes} pigeons in {holes - 1} holes", lambda holes: pigeons(holes - 1)),
+    "adders": (lambda width: f"two adders of {width} bits", adders),
+    "products": (lambda width: f"two products of {width} bits", products),
+    "latches": (lambda count: f"a step of {count} latches", latches),
+    "counters": (lambda count: f"two steps of {count} counters", counters),
+    "chain": (lambda variables: f"a chain of {variables} variables", chain),
+}
 
 
 def asked(words):
@@ -136,10 +154,9 @@ def asked(words):
 
 
 def run_all(programs, place, seeds, sizes):
-    for holes in sizes.get("pigeons", []):
-        one(programs, place, f"{holes + 1} pigeons in {holes} holes", pigeons(holes))
-    for width in sizes.get("adders", []):
-        one(programs, place, f"two adders of {width} bits", adders(width))
+    for kind, (name, text) in SINGLE.items():
+        for size in sizes.get(kind, []):
+            one(programs, place, name(size), text(size))
     for variables in sizes.get("random", []):
         many(programs, place, variables, seeds)
 

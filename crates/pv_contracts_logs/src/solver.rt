@@ -1,5 +1,5 @@
 //! Calls of pv_solver.
-ghost use Rattle.std.specs.Prelude.{◌≡◌, ℕ, ◌*◌, ◌<◌, ◌≤◌, [], Ok, Err, Some, None, IfOk, OnErr, IsSome};
+ghost use Rattle.std.specs.Prelude.{◌≡◌, ℕ, ◌*◌, ◌<◌, ◌≤◌, [], Err, Some, None, IfOk, IsSome};
 ghost use Rattle.pv_cnf.specs.Clause.{Holds};
 ghost use Rattle.pv_log.specs.declared.line.Line.{Line};
 ghost use Rattle.pv_log.specs.Follows.{Follows, IsAccepted};
@@ -7,7 +7,7 @@ ghost use Rattle.pv_solver.specs.Answers.{truth_of, HasSpentLemmas, HasSpentRegi
 
 use pv_log::Line;
 use pv_solver::{Answer, MakeFault, Solver};
-use std::alloc::{AllocError, Global};
+use std::alloc::Global;
 
 /// [`Solver::make`].
 pub fn make(alloc: Global, variables: u32, words: u64, lemmas: u32) -> Result<Solver, MakeFault>
@@ -29,18 +29,17 @@ pub fn make(alloc: Global, variables: u32, words: u64, lemmas: u32) -> Result<So
 }
 
 /// [`Solver::solve`].
-pub fn solve(solver: &mut Solver) -> Result<Answer, AllocError>
-    ensures answered { IfOk result (λ a. answer_of solver.new.outcome ≡ Some a) }
+pub fn solve(solver: &mut Solver) -> Answer
+    ensures answered { answer_of solver.new.outcome ≡ Some result }
     ensures problem { solver.new.problem ≡ solver.old.problem }
-    ensures again { (a : Answer) → answer_of solver.old.outcome ≡ Some a → (result ≡ Ok a) × (solver.new ≡ solver.old) }
-    ensures err { OnErr result (solver.new ≡ solver.old) }
-    ensures sat { result ≡ Ok Answer.Sat →
+    ensures again { (a : Answer) → answer_of solver.old.outcome ≡ Some a → (result ≡ a) × (solver.new ≡ solver.old) }
+    ensures sat { result ≡ Answer.Sat →
         Holds (truth_of (values_of solver.new.outcome)) solver.new.problem.clauses }
-    ensures unsat { result ≡ Ok Answer.Unsat → IsAccepted (Follows solver.new.problem.variables)
+    ensures unsat { result ≡ Answer.Unsat → IsAccepted (Follows solver.new.problem.variables)
         solver.new.problem.clauses (lines_of solver.new.outcome) }
-    ensures spent_lemmas { result ≡ Ok Answer.SpentLemmas →
+    ensures spent_lemmas { result ≡ Answer.SpentLemmas →
         HasSpentLemmas solver.new.problem (lines_of solver.new.outcome) }
-    ensures spent_region { (need : ℕ) → result ≡ Ok (Answer.SpentRegion need) →
+    ensures spent_region { (need : ℕ) → result ≡ Answer.SpentRegion need →
         (next : Line) → next_of solver.new.outcome ≡ Some next →
         HasSpentRegion solver.new.problem (lines_of solver.new.outcome) next need }
 {

@@ -7,8 +7,7 @@ use Rattle.pv_log.specs.declared.line.Line.{Line}
 use Rattle.pv_log.specs.Follows.{Follows, IsAccepted}
 use Rattle.pv_solver.specs.declared.answer.Answer.{Answer}
 use Rattle.pv_solver.specs.declared.answer.Answer.TheVariants.{Sat, SpentRegion}
-use Rattle.pv_solver.specs.declared.outcome.Outcome.{Outcome}
-use Rattle.pv_solver.specs.Answers.{Problem, Solving, HasSpentLemmas, HasSpentRegion, answer_of, next_as, next_of, assigned_as, assigned_in, assigned_of}
+use Rattle.pv_solver.specs.Answers.{Problem, Outcome, Solving, HasSpentLemmas, HasSpentRegion, answer_of, next_as, next_of, assigned_as, assigned_in, assigned_of}
 use Rattle.pv_solver.specs.Costs.{words_of, past}
 use Rattle.pv_cert.specs.declared.proof.Query.{Query}
 use Rattle.pv_cert.specs.declared.proof.Query.TheVariants.{Base, Step}

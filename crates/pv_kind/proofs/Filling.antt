@@ -6,8 +6,7 @@ use Rattle.std.proofs.lemmas.List.Sums.{sum_by-cons}
 use Rattle.pv_cnf.specs.declared.clauses.PushFault.TheVariants.{Full}
 use Rattle.pv_frames.specs.Pushing.{AllFit, ArePushed, StopsAt}
 use Rattle.pv_log.specs.declared.line.Line.{Line}
-use Rattle.pv_solver.specs.Answers.{Problem, Solving, HasSpentLemmas, HasSpentRegion}
-use Rattle.pv_solver.specs.declared.outcome.Outcome.{Outcome}
+use Rattle.pv_solver.specs.Answers.{Problem, Outcome, Solving, HasSpentLemmas, HasSpentRegion}
 use Rattle.pv_solver.specs.Costs.{words_of, words_with, clause_cost, line_cost, past}
 use Rattle.pv_kind.specs.Decisions.{IsFull}
 use Rattle.pv_kind.specs.Asking.{IsFilled}

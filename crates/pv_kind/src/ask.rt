@@ -143,7 +143,7 @@ fn decided<O: Oracle>(
     ensures fixed_kept { O.fixed oracle.new ≡ O.fixed oracle.old }
 {
     solver.set_lemmas(limits.lemmas);
-    match solver.solve()? {
+    match solver.solve() {
         Answer::Sat => match told(oracle, q, solver)? {
             Some(trace) => Ok(Some(Reply::Met(trace))),
             None => Ok(None),

@@ -164,12 +164,8 @@ fn tell_lines(solver: &Solver, told: &mut Told) {
 /// What a solver answers, how many lines there are then, and what the checker says of them; of values, whether the clauses hold. Then the
 /// second answer, where it isn't the first one.
 fn tell_answer(solver: &mut Solver, told: &mut Told) {
-    let Ok(first) = solver.solve() else {
-        return told.lose();
-    };
-    let Ok(again) = solver.solve() else {
-        return told.lose();
-    };
+    let first = solver.solve();
+    let again = solver.solve();
     told.words(&first);
     tell_lines(solver, told);
     if let Answer::Sat = again {

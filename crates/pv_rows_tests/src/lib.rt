@@ -8,6 +8,8 @@ mod region;
 #[cfg(test)]
 mod slow;
 #[cfg(test)]
+mod solved;
+#[cfg(test)]
 mod trace;
 #[cfg(test)]
 mod views;

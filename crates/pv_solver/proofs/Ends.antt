@@ -7,10 +7,11 @@ use Rattle.pv_cnf.specs.Literal.{complement, variable_of, literal_value, is_outs
 use Rattle.pv_cnf.specs.Clause.{has_double, has_variable, clause_value, IsClause, AreClauses}
 use Rattle.pv_log.specs.Propagation.{is_false, left_of, unit_of, named, LeadsToFalse}
 use Rattle.pv_log.proofs.ForCallers.{slice_get-all, inside-bounds}
-use Rattle.pv_solver.specs.Quiet.{IsQuiet, AreQuiet, NoneFalse}
+use Rattle.pv_watch.specs.Quiet.{IsQuiet, AreQuiet}
+use Rattle.pv_solver.specs.Quiet.{NoneFalse}
 use Rattle.pv_log.specs.Newness.{subsumes, is_subsumed}
 use Rattle.pv_solver.specs.Search.{AllSet}
-use Rattle.pv_solver.proofs.Lefts.{Within, false-append, left-in, left-out, left-within, falsified-nil, unit-is, quiet-one, quiet-not-nil, first-of}
+use Rattle.pv_watch.proofs.ForCallers.{Within, false-append, left-in, left-out, left-within, falsified-nil, unit-is, quiet-one, quiet-not-nil, first-of}
 
 pub named-quiet : (F : List ℕ) (clauses : List (List ℕ)) (h : ℕ) (clause : List ℕ) → AreQuiet F clauses
     → named clauses h ≡ Some clause → IsQuiet F clause

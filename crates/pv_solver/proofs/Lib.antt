@@ -1,11 +1,12 @@
-pub mod Lefts
 pub mod Ends
-pub mod Places
-pub mod Paths
 pub mod Visits
 pub mod Wholes
 pub mod Lines
+pub mod Logs
 pub mod Backs
 pub mod Saying
 pub mod Steps
 pub mod Endings
+pub mod Enough
+pub mod Faults
+pub mod Pushing

@@ -1,12 +1,9 @@
 -- Logs that grow by a line.
-use Rattle.std.proofs.Common.{◌≡◌, ℕ, ◌+◌, ◌*◌, ◌<◌, ◌≤◌, true, List, [], ◌∷◌, ◌++◌, length, map, sym, ap, subst, ◌∙◌, arith, append_assoc}
-use Rattle.std.specs.Prelude.{sum_by}
+use Rattle.std.proofs.Common.{◌≡◌, ℕ, ◌<◌, true, List, [], ◌∷◌, ◌++◌, length, map, refl, sym, ap, subst, append_assoc, arith}
 use Rattle.std.proofs.lemmas.Bool.{eq-eqb}
-use Rattle.std.proofs.lemmas.List.{length-append, length-map, append-nil, map_push}
-use Rattle.std.proofs.lemmas.List.Sums.{sum_by-cons, sum_by_push}
+use Rattle.std.proofs.lemmas.List.{append-nil}
 use Rattle.pv_log.specs.declared.line.Line.{Line}
 use Rattle.pv_log.specs.Follows.{Follows as FollowsLog, EachFollows, IsAccepted, ends_empty}
-use Rattle.pv_solver.specs.Costs.{clause_cost, line_cost, words_of, words_with}
 use Rattle.pv_solver.specs.Quiet.{with_lines}
 use Rattle.pv_log.specs.Newness.{FollowsNew, NoneEmpty}
 use Rattle.pv_solver.specs.Lemmas.{IsLemma, AreLemmas}
@@ -37,15 +34,6 @@ lemmas-push v clauses lines line a l = record {
   none_empty = none-push lines line a.none_empty l.nonempty;
 }
 
-pub with-push : (clauses : List (List ℕ)) (lines : List Line) (line : Line)
-    → with_lines clauses (lines ++ line ∷ []) ≡ with_lines clauses lines ++ line.lits ∷ []
-with-push clauses lines line = ap (λ (cs : List (List ℕ)). clauses ++ cs) (map_push (λ (x : Line). x.lits) lines line)
-    ∙ sym (append_assoc clauses (map (λ (x : Line). x.lits) lines) (line.lits ∷ []))
-
-pub words-push : (v : ℕ) (clauses : List (List ℕ)) (lines : List Line) (line : Line)
-    → words_with v clauses (lines ++ line ∷ []) ≡ words_with v clauses lines + line_cost line
-words-push v clauses lines line = omega (arith, sum_by_push line_cost lines line)
-
 -- ---- the empty line
 
 ends-last : (lines : List Line) (line : Line) → line.lits ≡ [] → ends_empty (lines ++ line ∷ []) ≡ true
@@ -59,28 +47,3 @@ accepted-last v clauses lines line a f e = record {
   each = each-push (FollowsLog v) clauses lines line (each-weaker v clauses lines a.each) f;
   ends = ends-last lines line e;
 }
-
--- ---- few clauses fit
-
-few-clauses : (clauses : List (List ℕ)) → 3 * length clauses ≤ sum_by clause_cost clauses
-few-clauses [] = omega arith
-few-clauses (c ∷ clauses) = omega (arith, few-clauses clauses, sum_by-cons clause_cost c clauses)
-
-few-lines : (lines : List Line) → 3 * length lines ≤ sum_by line_cost lines
-few-lines [] = omega arith
-few-lines (l ∷ lines) = omega (arith, few-lines lines, sum_by-cons line_cost l lines)
-
-pub few : (v : ℕ) (clauses : List (List ℕ)) (lines : List Line) → 3 * length (with_lines clauses lines) ≤ words_with v clauses lines
-few v clauses lines = omega (
-  arith,
-  few-clauses clauses,
-  few-lines lines,
-  length-append clauses (map (λ (x : Line). x.lits) lines),
-  length-map lines (λ (x : Line). x.lits),
-)
-
-pub few-lines-fit : (v : ℕ) (clauses : List (List ℕ)) (lines : List Line) → 3 * length lines ≤ words_with v clauses lines
-few-lines-fit v clauses lines = omega (arith, few-lines lines)
-
-pub few-clauses-fit : (v : ℕ) (clauses : List (List ℕ)) → 3 * length clauses ≤ words_of v clauses
-few-clauses-fit v clauses = omega (arith, few-clauses clauses)

@@ -1,60 +1,17 @@
--- A clause is looked at.
-use Rattle.std.proofs.Common.{◌≡◌, ℕ, zero, suc, ◌+◌, ◌*◌, ◌/◌, ◌%◌, ◌<◌, inl, inr, eqb, ltb, Bool, false, List, [], ◌∷◌, ◌++◌, length, take, get_or, refl, ap, subst, ◌∙◌, arith, Some, true}
-use Rattle.std.specs.Prelude.{slice_get}
+-- Variables without a value, and the values of all.
+use Rattle.std.proofs.Common.{◌≡◌, ℕ, zero, suc, ◌+◌, ◌*◌, ◌/◌, ◌%◌, ◌<◌, inl, inr, eqb, ltb, Bool, false, List, [], ◌∷◌, ◌++◌, length, get_or, refl, subst, ◌∙◌, arith}
 use Rattle.std.proofs.lemmas.Bool.{cases_eq, cases_lt, ne_eqb, le-ltb, or_from}
-use Rattle.std.proofs.lemmas.List.{get_or_append_left, get_or_push}
+use Rattle.std.proofs.lemmas.List.{length_push, get_or_append_left, get_or_push}
 use Rattle.pv_cnf.specs.Literal.{complement, is_outside}
-use Rattle.pv_cnf.specs.Clause.{has_outside}
-use Rattle.pv_log.specs.Propagation.{is_false, unit_of, is_falsified}
-use Rattle.pv_log.proofs.ForCallers.{named-at, complement-inside, complement-complement}
-use Rattle.pv_solver.specs.declared.propagate.Pass.{Pass}
-use Rattle.pv_solver.specs.declared.propagate.Pass.TheVariants as pass
-use Rattle.pv_solver.specs.Quiet.{IsQuiet, AreQuiet}
-use Rattle.pv_solver.specs.Trail.{Path}
-use Rattle.pv_solver.specs.Search.{Extends, SoFar, IsConflict, IsFree}
-use Rattle.pv_solver.proofs.Places.{Unset}
-use Rattle.pv_solver.proofs.Lefts.{unit-is, first-of}
+use Rattle.pv_log.specs.Propagation.{is_false}
+use Rattle.pv_solver.specs.Logged.{values_to}
+use Rattle.pv_solver.specs.Search.{IsFree}
 
-pub extends-self : (path : Path) → Extends path path
-extends-self path = record { variables = refl; starts = refl; longer = omega arith }
-
-pub extends-on : (a b c : Path) → Extends a b → Extends b c → Extends a c
-extends-on a b c f g = record {
-  variables = g.variables ∙ f.variables;
-  starts = g.starts ∙ f.starts;
-  longer = omega (arith, f.longer, g.longer);
-}
-
-quiet-next : (F : List ℕ) (clauses : List (List ℕ)) (n : ℕ) (clause : List ℕ) → slice_get clauses n ≡ Some clause
-    → AreQuiet F (take n clauses) → IsQuiet F clause → AreQuiet F (take (suc n) clauses)
-quiet-next F [] n clause at a q = tt
-quiet-next F (c ∷ clauses) zero clause at a q = (let same : clause ≡ c = cc in subst (IsQuiet F) same q, tt)
-quiet-next F (c ∷ clauses) (suc n) clause at a q = (a.0, quiet-next F clauses n clause at a.1 q)
-
--- a quiet clause changes nothing
-pub so-quiet : (clauses : List (List ℕ)) (n : ℕ) (clause : List ℕ) (first path : Path) (before : Pass) → slice_get clauses n ≡ Some clause
-    → IsQuiet path.falses clause → SoFar clauses (take n clauses) first path before → SoFar clauses (take (n + 1) clauses) first path before
-so-quiet clauses n clause first path pass.Quiet at q s =
-    let next : suc n ≡ n + 1 = omega arith in
-    (s.0, subst (λ (k : ℕ). AreQuiet path.falses (take k clauses)) next (quiet-next path.falses clauses n clause at s.1 q))
-so-quiet clauses n clause first path pass.Changed at q s = s
-so-quiet clauses n clause first path (pass.Conflict m) at q s = s
-
-pub conflict-at : (clauses : List (List ℕ)) (falses : List ℕ) (n : ℕ) (clause : List ℕ) → slice_get clauses n ≡ Some clause
-    → is_falsified falses clause ≡ true → IsConflict clauses falses (n + 1)
-conflict-at clauses falses n clause at is = record { clause = clause; at = named-at clauses (n + 1) n refl ∙ at; false_is = is }
-
--- the literal of a unit clause has no value
-pub unset-of : (v : ℕ) (falses clause : List ℕ) (lit other : ℕ) → unit_of falses clause ≡ Some lit → has_outside v clause ≡ false
-    → other ≡ complement lit → Unset v falses other
-unset-of v falses clause lit other unit inside is =
-    let u = unit-is falses clause lit unit in
-    let f = first-of v falses clause lit [] u.0 in
-    record {
-      inside = ap (is_outside v) is ∙ complement-inside v lit (f.inside inside);
-      not_false = ap (is_false falses) is ∙ u.1;
-      not_true = ap (λ (l : ℕ). is_false falses (complement l)) is ∙ ap (is_false falses) (complement-complement lit) ∙ f.not_false;
-    }
+-- a literal that can be made false
+pub record Unset (variables : ℕ) (falses : List ℕ) (lit : ℕ) : Type 0 where
+  pub inside : is_outside variables lit ≡ false
+  pub not_false : is_false falses lit ≡ false
+  pub not_true : is_false falses (complement lit) ≡ false
 
 -- a literal of a variable without a value has none
 pub free-unset : (v : ℕ) (falses : List ℕ) (lit : ℕ) → IsFree v falses (lit / 2) → Unset v falses lit
@@ -75,16 +32,8 @@ free-unset v falses lit f =
       })
     ]
 
-pub take-get : (clauses : List (List ℕ)) (n : ℕ) (clause : List ℕ) → slice_get clauses n ≡ Some clause
-    → take (n + 1) clauses ≡ take n clauses ++ clause ∷ []
-take-get [] n clause at = absurd cc
-take-get (c ∷ clauses) zero clause at = (let same : c ≡ clause = cc in ap (λ (x : List ℕ). x ∷ []) same)
-take-get (c ∷ clauses) (suc n) clause at =
-    let e : suc n + 1 ≡ suc (n + 1) = omega arith in
-    ap (λ (k : ℕ). take k (c ∷ clauses)) e ∙ ap (λ (xs : List (List ℕ)). c ∷ xs) (take-get clauses n clause at)
-
 -- one more value
-pub values-push : (items : List Bool) (falses : List ℕ) (n : ℕ) (b : Bool) → length items ≡ n
+values-push : (items : List Bool) (falses : List ℕ) (n : ℕ) (b : Bool) → length items ≡ n
     → ((x : ℕ) → x < n → get_or items x false ≡ is_false falses (2 * x + 1)) → b ≡ is_false falses (2 * n + 1) → (x : ℕ) → x < n + 1
     → get_or (items ++ b ∷ []) x false ≡ is_false falses (2 * x + 1)
 values-push items falses n b size each here x lt =
@@ -93,3 +42,12 @@ values-push items falses n b size each here x lt =
       | inr from ↦ (let e : n ≡ x = omega arith in
           subst (λ (k : ℕ). get_or (items ++ b ∷ []) k false ≡ is_false falses (2 * k + 1)) e (get_or_push items b false n size ∙ here))
     ]
+
+pub values-size : (falses : List ℕ) (n : ℕ) → length (values_to falses n) ≡ n
+values-size falses zero = refl
+values-size falses (suc n) = omega (arith, length_push (values_to falses n) (is_false falses (2 * n + 1)), values-size falses n)
+
+pub values-at : (falses : List ℕ) (n x : ℕ) → x < n → get_or (values_to falses n) x false ≡ is_false falses (2 * x + 1)
+values-at falses zero x lt = absurd (omega arith)
+values-at falses (suc n) x lt =
+    values-push (values_to falses n) falses n (is_false falses (2 * n + 1)) (values-size falses n) (values-at falses n) refl x (omega (arith, lt))

@@ -5,7 +5,6 @@ use Rattle.pv_log.specs.declared.line.Line.{Line}
 use Rattle.pv_log.specs.Follows.{Follows, IsAccepted}
 use Rattle.pv_solver.specs.declared.answer.Answer.{Answer}
 use Rattle.pv_solver.specs.declared.answer.Answer.TheVariants.{Sat, Unsat, SpentLemmas, SpentRegion}
-use Rattle.pv_solver.specs.declared.outcome.Outcome.{Outcome}
 use Rattle.pv_solver.specs.Costs.{line_cost, words_with}
 use Rattle.pv_solver.specs.Lemmas.{IsLemma, AreLemmas}
 use Rattle.pv_solver.specs.Quiet.{with_lines, NoneFalse}
@@ -16,6 +15,14 @@ pub record Problem : Type 0 where
   pub clauses : List (List ℕ)
   pub words : ℕ
   pub lemmas : ℕ
+
+-- what was found: the answer, the lines of the log, the value of each variable with one for 0 where the answer is Sat, and the
+-- lemma for which there was no room where it is SpentRegion
+pub record Outcome : Type 0 where
+  pub answer : Answer
+  pub log : List Line
+  pub values : List Bool
+  pub next : Line
 
 -- a solver: its problem, and what was found once it has answered
 pub record Solving : Type 0 where
@@ -55,7 +62,7 @@ Says p lines values next SpentLemmas = HasSpentLemmas p lines
 Says p lines values next (SpentRegion need) = HasSpentRegion p lines next need
 
 abbrev pub SaysAll : Problem → Outcome → Type 0
-SaysAll p found = Says p found.log found.values.items found.next found.answer
+SaysAll p found = Says p found.log found.values found.next found.answer
 
 -- the answer, if there is one
 abbrev pub answer_of : Option Outcome → Option Answer
@@ -70,7 +77,7 @@ lines_of (Some found) = found.log
 -- the values that were found, with one for 0
 abbrev pub values_of : Option Outcome → List Bool
 values_of None = []
-values_of (Some found) = found.values.items
+values_of (Some found) = found.values
 
 -- the lemma for which there was no room, where that is the answer
 abbrev pub next_as : Answer → Line → Option Line

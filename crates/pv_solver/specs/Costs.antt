@@ -2,10 +2,7 @@
 -- beside its literals for a clause, and four beside its literals and hints for a lemma.
 use Rattle.std.specs.Prelude.{ℕ, ◌+◌, ◌*◌, List, length, sum_by, Option, None, Some, nat_lt, if◌then◌else◌}
 use Rattle.pv_log.specs.declared.line.Line.{Line}
-
--- the words of a clause
-abbrev pub clause_cost : List ℕ → ℕ
-clause_cost lits = 3 + length lits
+pub use Rattle.pv_region.specs.Stored.{clause_cost}
 
 -- the words of a lemma
 abbrev pub line_cost : Line → ℕ

@@ -1,7 +1,7 @@
 pub mod Costs
 pub mod Lemmas
 pub mod Quiet
-pub mod Trail
+pub mod Logged
 pub mod Answers
 pub mod Search
 pub mod States

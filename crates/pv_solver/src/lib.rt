@@ -1,21 +1,19 @@
-//! A clause-learning solver with a log of what it learned, in its first form: clauses and lemmas lie in
-//! vectors, and propagation goes over all clauses.
+//! A clause-learning solver with a log of what it learned. Clauses, lemmas and lists of watches lie in one region
+//! of words (`pv_region`), over which unit propagation goes by two watched literals a clause (`pv_watch`).
 //!
-//! The search finds lemmas as it likes; what an answer says is checked or holds by what the trail keeps:
-//! propagation had ended at each decision, and each other literal has a clause as its reason.
+//! All memory is taken when a solver is made. The search finds lemmas as it likes; what an answer says is checked
+//! or holds by what the trail keeps: propagation had ended at each decision, and each other literal has a clause as
+//! its reason.
 #![tactic(auto)]
 
-mod analysis;
 mod answer;
-mod learn;
-mod order;
-mod outcome;
-mod propagate;
+mod laws;
+mod pick;
 mod restarts;
 mod search;
 mod solver;
-mod trail;
 
-pub use answer::{Answer, MakeFault};
-pub use outcome::Outcome;
+pub use answer::Answer;
+pub use laws::{limits_that_suffice, propagation_spends_nothing};
+pub use pv_region::MakeFault;
 pub use solver::Solver;

@@ -1,100 +1,74 @@
 //! The search: propagate to the end, decide, and learn of each conflict.
-ghost use Rattle.std.specs.Prelude.{◌≡◌, ℕ, ◌+◌, ◌*◌, ◌^◌, ◌<◌, ◌≤◌, false, [], length, take, IfOk, OnOk, IfSome, IfNone};
+ghost use Rattle.std.specs.Prelude.{◌≡◌, ℕ, ◌*◌, ◌^◌, ◌<◌, ◌≤◌, false, [], length, take, Err, IfOk, IfSome, IfNone};
 ghost use Rattle.std.specs.List.{AllByRecursion};
 ghost use Rattle.pv_cnf.specs.Clause.{has_outside};
-ghost use Rattle.pv_log.specs.Propagation.{is_false};
-ghost use Rattle.pv_solver.specs.Answers.{Problem, SaysAll, truth_of};
-ghost use Rattle.pv_solver.specs.Costs.{words_of, line_cost};
-ghost use Rattle.pv_solver.specs.Lemmas.{IsLemma};
-ghost use Rattle.pv_solver.specs.Quiet.{IsQuiet, AreQuiet};
-ghost use Rattle.pv_solver.specs.Trail.{IsSound};
-ghost use Rattle.pv_solver.specs.Search.{IsConflict, AllSet, GoesBack};
-ghost use Rattle.pv_solver.specs.States.{IsSearching, HasLearned, Turns, Ends, EndsWith, HasValues};
+ghost use Rattle.pv_region.specs.Stored.{all_lits};
+ghost use Rattle.pv_watch.specs.Trail.{IsSound};
+ghost use Rattle.pv_watch.specs.Quiet.{IsQuiet, AreQuiet, IsConflict};
+ghost use Rattle.pv_watch.specs.Watched.{IsReady};
+ghost use Rattle.pv_watch.specs.Turns.{SameText};
+ghost use Rattle.pv_solver.specs.Answers.{Problem};
+ghost use Rattle.pv_learn.specs.Learning.{IsNext};
+ghost use Rattle.pv_solver.specs.Search.{AllSet, StepsBack, GoesBack};
+ghost use Rattle.pv_solver.specs.States.{problem_in, line_in, IsFresh, IsUnderWay, IsSearching, HasLearned, HasEnded, Turns};
 
-use crate::answer::Answer;
-use crate::learn::{lemma, refutation};
-use crate::order::Order;
-use crate::outcome::Outcome;
-use crate::propagate::{Look, look_at, propagate};
+use crate::pick::pick;
 use crate::restarts::Restarts;
-use crate::trail::Trail;
-use pv_cnf::{ClauseView, Clauses, Formula};
-use pv_log::{Checker, Line, Log, LogView, Numbers};
-use std::alloc::{AllocError, Global};
+use pv_learn::{Analysis, Draft, Look, look_at, make_last, make_lemma};
+use pv_log::Checker;
+use pv_order::Order;
+use pv_region::MakeFault;
+use pv_watch::{Propagator, Trail};
+use std::alloc::Global;
 
-/// What a search is to stay within.
-#[derive(Clone, Copy, Debug)]
-pub(crate) struct Limits {
-    /// The words that there are, at most 250,000,000.
-    pub(crate) words: u64,
-    /// The words that the variables and clauses take.
-    pub(crate) used: u64,
+/// A search with what it has found. All its memory is taken when it is made.
+#[derive(Drop)]
+pub(crate) struct Search {
+    /// The clauses, the lemmas, and which literals are false.
+    pub(crate) propagator: Propagator,
+    /// The line at hand.
+    pub(crate) draft: Draft,
+    analysis: Analysis,
+    order: Order,
+    checker: Checker,
+    restarts: Restarts,
     /// How many lemmas may be learned.
     pub(crate) lemmas: u32,
 }
 
-/// A search with what it has found.
-#[derive(Drop)]
-struct Search {
-    /// The clauses, and behind them those of the log's lines.
-    known: Formula,
-    log: Log,
-    trail: Trail,
-    order: Order,
-    checker: Checker,
-    restarts: Restarts,
-    limits: Limits,
-    /// The words in use.
-    used: u64,
-}
-
 /// How a search ends.
-#[derive(Drop)]
-enum End {
+#[derive(Clone, Copy, Debug)]
+pub(crate) enum End {
     /// Each variable has a value, and no clause is false.
     Settled,
-    /// The log ends with the empty line.
+    /// The line at hand is the empty one that ends the log.
     Refuted,
     /// As many lemmas were learned as may be.
     NoLemma,
-    /// There is no room for this lemma, with which so many words would be in use.
-    NoRoom(Line, u64),
-}
-
-/// The same clauses in a formula of its own.
-fn copy(alloc: Global, clauses: &Formula) -> Result<Formula, AllocError>
-    requires { clauses.now.variables < 2 ^ 31 }
-    ensures { IfOk result (λ f. f ≡ clauses.now) }
-{
-    let mut known = Formula::make(alloc, clauses.variables())?;
-    for n in 0..clauses.count() {
-        match known.push(clauses.clause(n + 1)) {
-            Ok(()) => {}
-            Err(_) => return Err(AllocError),
-        }
-    }
-    Ok(known)
+    /// There is no room for the line at hand, with which so many words would be in use.
+    NoRoom(u64),
 }
 
 /// Propagates and decides up to a conflict, or until each variable has a value.
-fn descend(known: &Formula, trail: &mut Trail, order: &mut Order) -> Result<Option<u32>, AllocError>
-    requires variables { known.now.variables ≡ trail.old.variables }
-    requires sound { IsSound known.now.clauses trail.old }
-    ensures variables { trail.new.variables ≡ trail.old.variables }
-    ensures sound { OnOk result (IsSound known.now.clauses trail.new) }
-    ensures conflict { IfOk result (λ found. IfSome found (IsConflict known.now.clauses trail.new.falses)) }
-    ensures quiet { IfOk result (λ found. IfNone found (AreQuiet trail.new.falses known.now.clauses)) }
-    ensures set { IfOk result (λ found. IfNone found (AllSet trail.new.variables trail.new.falses)) }
+fn descend(propagator: &mut Propagator, order: &mut Order) -> Option<u32>
+    requires { IsReady (all_lits propagator.old.stored) propagator.old.path }
+    ensures text { SameText propagator.old.stored propagator.new.stored }
+    ensures variables { propagator.new.path.variables ≡ propagator.old.path.variables }
+    ensures ready { IsReady (all_lits propagator.new.stored) propagator.new.path }
+    ensures conflict { IfSome result (IsConflict (all_lits propagator.new.stored) propagator.new.path.falses) }
+    ensures quiet { IfNone result (AreQuiet propagator.new.path.falses (all_lits propagator.new.stored)) }
+    ensures set { IfNone result (AllSet propagator.new.path.variables propagator.new.path.falses) }
 {
     'levels: loop {
-        match propagate(known, trail) {
-            Some(n) => return Ok(Some(n)),
+        match propagator.propagate() {
+            Some(n) => return Some(n),
             None => {}
         }
-        match order.pick(trail) {
-            None => return Ok(None),
-            Some(lit) => trail.decide(lit)?,
+        match pick(order, propagator.trail()) {
+            None => return None,
+            Some(lit) => propagator.decide(lit),
         }
+        let _ = propagator.trail().len();
     }
 }
 
@@ -129,210 +103,178 @@ fn kept_starts(restarts: &mut Restarts, trail: &Trail, lits: &[u32]) -> usize
     quiet_starts(trail, lits)
 }
 
+/// Takes the last decision back.
+fn undo(propagator: &mut Propagator, order: &mut Order)
+    requires { 0 < length propagator.old.path.starts }
+    ensures stored { propagator.new.stored ≡ propagator.old.stored }
+    ensures back { StepsBack propagator.old.path propagator.new.path }
+    ensures ended { propagator.new.done ≡ length propagator.new.path.falses }
+{
+    let trail = propagator.trail();
+    let start = trail.last_start();
+    order.take_back(&trail.falses()[start..]);
+    propagator.undo();
+}
+
 /// Takes all decisions back but the first `keep`.
-fn undo_to(trail: &mut Trail, order: &mut Order, keep: usize) -> Result<(), AllocError>
-    requires { keep ≤ length trail.old.starts }
-    ensures { OnOk result (GoesBack keep trail.old trail.new) }
+fn undo_to(propagator: &mut Propagator, order: &mut Order, keep: usize)
+    requires { keep ≤ length propagator.old.path.starts }
+    ensures stored { propagator.new.stored ≡ propagator.old.stored }
+    ensures back { GoesBack keep propagator.old.path propagator.new.path }
+    ensures ended { keep < length propagator.old.path.starts
+        → propagator.new.done ≡ length propagator.new.path.falses }
 {
-    'levels: while trail.starts().len() > keep {
-        let start = trail.last_start();
-        order.take_back(&trail.falses()[start..])?;
-        trail.undo();
+    'levels: while propagator.trail().starts().len() > keep {
+        undo(propagator, order);
     }
-    Ok(())
-}
-
-/// The value of each variable, with one for 0.
-fn values_of(alloc: Global, trail: &Trail) -> Result<Vec<bool>, AllocError>
-    ensures size { IfOk result (λ values. length values.items ≡ trail.now.variables + 1) }
-    ensures values { IfOk result (λ values. (v : ℕ) → v ≤ trail.now.variables →
-        truth_of values.items v ≡ is_false trail.now.falses (2 * v + 1)) }
-{
-    let upto = trail.len();
-    let mut values = Vec::new(alloc);
-    for v in 0..trail.variables() + 1 {
-        values.push(trail.is_false_at(upto, 2 * v + 1))?;
-    }
-    Ok(values)
-}
-
-/// The words that a line takes.
-fn cost_of(line: &Line) -> u64
-    requires { length line.now.lits + length line.now.hints < 2 ^ 63 }
-    ensures { result ≡ line_cost line.now }
-{
-    4 + line.lits.as_slice().len() as u64 + line.hints.as_slice().len() as u64
 }
 
 impl Search {
-    fn new(alloc: Global, clauses: &Formula, limits: Limits) -> Result<Search, AllocError>
-        requires { clauses.now.variables < 2 ^ 31 }
-        ensures known { IfOk result (λ s. s.known ≡ clauses.now) }
-        ensures log { IfOk result (λ s. s.log ≡ []) }
-        ensures variables { IfOk result (λ s. s.trail.variables ≡ clauses.now.variables) }
-        ensures falses { IfOk result (λ s. s.trail.falses ≡ []) }
-        ensures starts { IfOk result (λ s. s.trail.starts ≡ []) }
-        ensures checker { IfOk result (λ s. s.checker ≡ clauses.now.variables) }
-        ensures limits { IfOk result (λ s. s.limits ≡ limits) }
-        ensures used { IfOk result (λ s. s.used ≡ limits.used) }
+    /// A search without clauses over the variables 1 to `variables`, with room for `words` words, that learns at
+    /// most `lemmas` lemmas.
+    pub(crate) fn new(
+        alloc: Global,
+        variables: u32,
+        words: u64,
+        lemmas: u32,
+    ) -> Result<Search, MakeFault>
+        requires { words ≤ 250000000 }
+        ensures fresh { IfOk result IsFresh }
+        ensures problem { IfOk result (λ s. problem_in s ≡ record {
+          variables = variables;
+          clauses = [];
+          words = words;
+          lemmas = lemmas;
+        }) }
+        ensures full { (need : ℕ) → result ≡ Err (MakeFault.Full need) → (need ≡ 2 * variables) × (words < need) }
+        ensures fits { IfOk result (λ _. 2 * variables ≤ words) }
+        ensures small { IfOk result (λ _. variables < 2 ^ 31) }
     {
-        let variables = clauses.variables();
+        let propagator = match Propagator::make(alloc, words, variables) {
+            Ok(propagator) => propagator,
+            Err(fault) => return Err(fault),
+        };
+        let _ = propagator.region().used();
+        let count = propagator.trail().variables();
+        let draft = Draft::new(alloc, count)?;
+        let analysis = Analysis::new(alloc, count)?;
+        let order = Order::new(alloc, count)?;
+        let checker = Checker::make(alloc, count)?;
         Ok(Search {
-            known: copy(alloc, clauses)?,
-            log: Log::new(alloc),
-            trail: Trail::new(alloc, variables)?,
-            order: Order::new(alloc, variables)?,
-            checker: Checker::make(alloc, variables)?,
+            propagator,
+            draft,
+            analysis,
+            order,
+            checker,
             restarts: Restarts::new(),
-            limits,
-            used: limits.used,
+            lemmas,
         })
     }
 
-    /// Learns a lemma, with which `need` words are in use.
-    fn learn(&mut self, line: Line, need: u64) -> Result<(), AllocError>
-        requires searching { (p : Problem) × IsSearching p self.old }
-        requires lemma { IsLemma self.old.known.variables self.old.known.clauses line }
-        requires left { length self.old.log < self.old.limits.lemmas }
-        requires need { need ≡ self.old.used + line_cost line }
-        requires fits { need ≤ self.old.limits.words }
-        ensures { OnOk result ((p : Problem) → IsSearching p self.old → HasLearned p self.old self.new) }
+    /// Ends the log with the empty line, of a conflict without a decision.
+    fn refute(&mut self, conflict: u32)
+        requires under_way { (p : Problem) × IsUnderWay p self.old }
+        requires undecided { self.old.propagator.path.starts ≡ [] }
+        requires sound { IsSound (all_lits self.old.propagator.stored) self.old.propagator.path }
+        requires conflict { IsConflict (all_lits self.old.propagator.stored)
+            self.old.propagator.path.falses conflict }
+        ensures { (p : Problem) → IsUnderWay p self.old → HasEnded p self.new End.Refuted }
     {
-        let keep = kept_starts(&mut self.restarts, &self.trail, line.lits.as_slice());
-        undo_to(&mut self.trail, &mut self.order, keep)?;
-        self.order.decay()?;
-        match self.known.push(line.lits.as_slice()) {
-            Ok(()) => {}
-            Err(_) => return Err(AllocError),
+        make_last(
+            &mut self.draft,
+            &mut self.analysis,
+            &mut self.checker,
+            &self.propagator,
+            &mut self.order,
+            conflict,
+        );
+    }
+
+    /// Learns the line at hand, or tells how many words would be in use with it, more than there are.
+    fn learn(&mut self) -> Option<u64>
+        requires searching { (p : Problem) × IsSearching p self.old }
+        requires next { IsNext self.old.propagator.stored.variables (all_lits self.old.propagator.stored)
+            self.old.propagator.path (line_in self.old) }
+        requires left { length self.old.propagator.stored.lemmas < self.old.lemmas }
+        ensures learned { IfNone result ((p : Problem) → IsSearching p self.old → HasLearned p self.old self.new) }
+        ensures full { IfSome result (λ need. (p : Problem) → IsSearching p self.old
+            → HasEnded p self.new (End.NoRoom need)) }
+    {
+        let region = self.propagator.region();
+        let _ = region.used();
+        let keep = kept_starts(
+            &mut self.restarts,
+            self.propagator.trail(),
+            self.draft.lits.as_slice(),
+        );
+        undo_to(&mut self.propagator, &mut self.order, keep);
+        self.order.decay();
+        match self
+            .propagator
+            .learn(self.draft.lits.as_slice(), self.draft.hints.as_slice())
+        {
+            Ok(_) => None,
+            Err(full) => Some(full.need),
         }
-        self.used = need;
-        self.log.push(line)?;
-        Ok(())
     }
 
     /// Learns a lemma of a false clause, or ends.
-    fn turn(&mut self, alloc: Global, conflict: u32) -> Result<Option<End>, AllocError>
+    fn turn(&mut self, conflict: u32) -> Option<End>
         requires searching { (p : Problem) × IsSearching p self.old }
-        requires conflict { IsConflict self.old.known.clauses self.old.trail.falses conflict }
-        ensures { IfOk result (λ end. (p : Problem) → IsSearching p self.old → Turns p self.old self.new end) }
+        requires conflict { IsConflict (all_lits self.old.propagator.stored)
+            self.old.propagator.path.falses conflict }
+        ensures { (p : Problem) → IsSearching p self.old → Turns p self.old self.new result }
     {
-        if self.trail.starts().is_empty() {
-            let line = refutation(
-                alloc,
-                &mut self.checker,
-                &self.known,
-                &self.trail,
-                &mut self.order,
-                conflict,
-            )?;
-            self.log.push(line)?;
-            return Ok(Some(End::Refuted));
+        if self.propagator.trail().starts().is_empty() {
+            self.refute(conflict);
+            return Some(End::Refuted);
         }
-        if self.log.lines() == self.limits.lemmas {
-            return Ok(Some(End::NoLemma));
+        if self.propagator.region().lemmas() == self.lemmas {
+            return Some(End::NoLemma);
         }
-        let line = lemma(
-            alloc,
+        make_lemma(
+            &mut self.draft,
+            &mut self.analysis,
             &mut self.checker,
-            &self.known,
-            &self.trail,
+            &self.propagator,
             &mut self.order,
             conflict,
-        )?;
-        let need = self.used + cost_of(&line);
-        if need > self.limits.words {
-            return Ok(Some(End::NoRoom(line, need)));
+        );
+        match self.learn() {
+            None => None,
+            Some(need) => Some(End::NoRoom(need)),
         }
-        self.learn(line, need)?;
-        Ok(None)
     }
 
     /// Goes on until it ends.
-    fn go(&mut self, alloc: Global) -> Result<End, AllocError>
+    fn go_on(&mut self) -> End
         requires { (p : Problem) × IsSearching p self.old }
-        ensures { IfOk result (λ end. (p : Problem) → IsSearching p self.old → Ends p self.new end) }
+        ensures { (p : Problem) → IsSearching p self.old → HasEnded p self.new result }
     {
         'conflicts: loop {
-            let Some(conflict) = descend(&self.known, &mut self.trail, &mut self.order)? else {
-                return Ok(End::Settled);
+            let conflict = match descend(&mut self.propagator, &mut self.order) {
+                Some(conflict) => conflict,
+                None => return End::Settled,
             };
-            if let Some(end) = self.turn(alloc, conflict)? {
-                return Ok(end);
+            match self.turn(conflict) {
+                Some(end) => return end,
+                None => {}
             }
         }
     }
 
-    /// The values where each variable has one, else none.
-    fn values(&self, alloc: Global, end: &End) -> Result<Vec<bool>, AllocError>
-        requires { (p : Problem) × Ends p self.now end.now }
-        ensures { IfOk result (λ values. (p : Problem) → Ends p self.now end.now →
-            HasValues p end.now values.items) }
+    /// Searches until it ends.
+    pub(crate) fn run(&mut self) -> End
+        requires { IsFresh self.old }
+        ensures { HasEnded (problem_in self.old) self.new result }
     {
-        // Each clause has a literal.
-        let _ = self.known.count();
-        match end {
-            End::Settled => values_of(alloc, &self.trail),
-            _ => Ok(Vec::new(alloc)),
+        match self.propagator.begin() {
+            Some(conflict) => {
+                self.refute(conflict);
+                return End::Refuted;
+            }
+            None => {}
         }
+        self.go_on()
     }
-}
-
-/// A line without literals that stands for none.
-fn no_line(alloc: Global) -> Line {
-    Line {
-        id: 0,
-        lits: Numbers::new(alloc),
-        hints: Numbers::new(alloc),
-    }
-}
-
-/// What was found.
-fn outcome_of(alloc: Global, log: Log, values: Vec<bool>, end: End) -> Outcome
-    ensures { (p : Problem) → EndsWith p log values.items end → SaysAll p result }
-{
-    match end {
-        End::Settled => Outcome {
-            answer: Answer::Sat,
-            log,
-            values,
-            next: no_line(alloc),
-        },
-        End::Refuted => Outcome {
-            answer: Answer::Unsat,
-            log,
-            values,
-            next: no_line(alloc),
-        },
-        End::NoLemma => Outcome {
-            answer: Answer::SpentLemmas,
-            log,
-            values,
-            next: no_line(alloc),
-        },
-        End::NoRoom(next, need) => Outcome {
-            answer: Answer::SpentRegion { need },
-            log,
-            values,
-            next,
-        },
-    }
-}
-
-/// Searches until there is an answer.
-pub(crate) fn run(alloc: Global, clauses: &Formula, limits: Limits) -> Result<Outcome, AllocError>
-    requires variables { clauses.now.variables < 2 ^ 31 }
-    requires words { limits.words ≤ 250000000 }
-    requires used { limits.used ≡ words_of clauses.now.variables clauses.now.clauses }
-    requires fits { limits.used ≤ limits.words }
-    ensures { IfOk result (SaysAll (record {
-      variables = clauses.now.variables;
-      clauses = clauses.now.clauses;
-      words = limits.words;
-      lemmas = limits.lemmas;
-    })) }
-{
-    let mut state = Search::new(alloc, clauses, limits)?;
-    let end = state.go(alloc)?;
-    let values = state.values(alloc, &end)?;
-    Ok(outcome_of(alloc, state.log, values, end))
 }

@@ -1,58 +1,79 @@
 //! The solver: a store of clauses, a log and values.
-ghost use Rattle.std.specs.Prelude.{◌≡◌, ◌↔◌, ℕ, ◌+◌, ◌*◌, ◌^◌, ◌<◌, ◌≤◌, [], Some, None, length, IfOk, OnErr, IsSome};
+ghost use Rattle.std.specs.Prelude.{◌≡◌, ℕ, ◌*◌, ◌<◌, ◌≤◌, [], Err, Some, None, IfOk, IsSome};
 ghost use Rattle.pv_cnf.specs.Clause.{Holds};
 ghost use Rattle.pv_log.specs.Follows.{Follows, IsAccepted};
 ghost use Rattle.pv_solver.specs.Answers.{Solving, truth_of, HasSpentLemmas, HasSpentRegion, lines_of, values_of, next_of, answer_of};
+ghost use Rattle.pv_solver.specs.Logged.{extra_as};
+ghost use Rattle.pv_solver.specs.States.{answer_as};
 
-use crate::answer::{Answer, MakeFault};
-use crate::outcome::Outcome;
-use crate::search::{Limits, run};
+use crate::answer::Answer;
+use crate::search::{End, Search};
 use pv_cnf::{ClauseView, Clauses, Formula, PushFault, Values};
-use pv_log::{Line, LogView};
-use std::alloc::{AllocError, Global};
+use pv_learn::next_id;
+use pv_log::{Line, LogView, Numbers};
+use pv_region::MakeFault;
+use std::alloc::Global;
 use std::marker::Model;
 
-/// A solver: a formula with two limits, and what was found of it.
+/// A solver: a formula with two limits, and what was found of it. Of its calls `make` alone takes memory.
 #[derive(Drop)]
 pub struct Solver {
     alloc: Global,
-    clauses: Formula,
-    /// The words that there are, and how many of them the variables and clauses take.
-    words: u64,
-    used: u64,
-    lemmas: u32,
-    outcome: Option<Outcome>,
+    /// A formula without clauses, which says what is wrong with one.
+    blank: Formula,
+    search: Search,
+    found: Option<Answer>,
+    /// After Unsat the empty line, after SpentRegion the lemma for which there was no room.
+    last: Line,
 }
 
 impl Model for Solver {
-    ghost use Rattle.std.specs.Prelude.{◌≡◌, ◌<◌, ◌≤◌, ◌^◌, IfSome};
-    ghost use Rattle.pv_solver.specs.Answers.{Solving, SaysAll};
-    ghost use Rattle.pv_solver.specs.Costs.{words_of};
+    ghost use Rattle.std.specs.Prelude.{◌≡◌, ◌<◌, ◌^◌};
+    ghost use Rattle.pv_solver.specs.Answers.{Solving};
+    ghost use Rattle.pv_solver.specs.States.{problem_in, outcome_in, IsKept};
 
     ghost Value = { Solving };
 
-    ghost view = { λ s. record {
-      problem = record {
-        variables = s.clauses.variables;
-        clauses = s.clauses.clauses;
-        words = s.words;
-        lemmas = s.lemmas;
-      };
-      outcome = s.outcome;
-    } };
+    ghost view = { λ s. record { problem = problem_in s.search; outcome = outcome_in s.search s.last s.found } };
 
     ghost invariant = { λ s. record {
-      small : s.clauses.variables < 2 ^ 31;
-      words : s.words ≤ 250000000;
-      used_is : s.used ≡ words_of s.clauses.variables s.clauses.clauses;
-      fits : s.used ≤ s.words;
-      says : IfSome s.outcome (SaysAll (record {
-        variables = s.clauses.variables;
-        clauses = s.clauses.clauses;
-        words = s.words;
-        lemmas = s.lemmas;
-      }));
+      small : s.search.propagator.stored.variables < 2 ^ 31;
+      blank : s.blank.variables ≡ s.search.propagator.stored.variables;
+      kept : IsKept s.search s.last s.found;
     } };
+}
+
+/// What an end answers.
+fn answer_for(end: End) -> Answer
+    ensures { result ≡ answer_as end }
+{
+    match end {
+        End::Settled => Answer::Sat,
+        End::Refuted => Answer::Unsat,
+        End::NoLemma => Answer::SpentLemmas,
+        End::NoRoom(need) => Answer::SpentRegion { need },
+    }
+}
+
+/// How many lines of the log lie outside the region with an answer: after Unsat the empty one does.
+fn extra(answer: Answer) -> u32
+    ensures { result ≡ extra_as answer }
+{
+    match answer {
+        Answer::Sat => 0,
+        Answer::Unsat => 1,
+        Answer::SpentLemmas => 0,
+        Answer::SpentRegion { need: _ } => 0,
+    }
+}
+
+/// A line without literals that stands for none.
+fn no_line(alloc: Global) -> Line {
+    Line {
+        id: 0,
+        lits: Numbers::new(alloc),
+        hints: Numbers::new(alloc),
+    }
 }
 
 impl Solver {
@@ -74,17 +95,17 @@ impl Solver {
         ensures full { (need : ℕ) → result ≡ Err (MakeFault.Full need) → (need ≡ 2 * variables) × (words < need) }
         ensures fits { IfOk result (λ _. 2 * variables ≤ words) }
     {
-        let need = 2 * variables as u64;
-        if need > words {
-            return Err(MakeFault::Full { need });
-        }
+        let search = match Search::new(alloc, variables, words, lemmas) {
+            Ok(search) => search,
+            Err(fault) => return Err(fault),
+        };
+        let blank = Formula::make(alloc, variables)?;
         Ok(Solver {
             alloc,
-            clauses: Formula::make(alloc, variables)?,
-            words,
-            used: need,
-            lemmas,
-            outcome: None,
+            blank,
+            search,
+            found: None,
+            last: no_line(alloc),
         })
     }
 
@@ -95,39 +116,35 @@ impl Solver {
         requires some { 1 ≤ lemmas }
         ensures { self.new ≡ record { problem = record self.old.problem { lemmas = lemmas }; outcome = None } }
     {
-        self.lemmas = lemmas;
+        self.search.lemmas = lemmas;
     }
 
-    /// Decides whether some values make the clauses hold. After an answer each further call gives the same. After
-    /// want of memory the solver is as before.
-    pub fn solve(&mut self) -> Result<Answer, AllocError>
-        ensures answered { IfOk result (λ a. answer_of self.new.outcome ≡ Some a) }
+    /// Decides whether some values make the clauses hold. After an answer each further call gives the same.
+    pub fn solve(&mut self) -> Answer
+        ensures answered { answer_of self.new.outcome ≡ Some result }
         ensures problem { self.new.problem ≡ self.old.problem }
-        ensures again { (a : Answer) → answer_of self.old.outcome ≡ Some a → (result ≡ Ok a) × (self.new ≡ self.old) }
-        ensures err { OnErr result (self.new ≡ self.old) }
+        ensures again { (a : Answer) → answer_of self.old.outcome ≡ Some a → (result ≡ a) × (self.new ≡ self.old) }
 
-        ensures sat { result ≡ Ok Answer.Sat →
+        ensures sat { result ≡ Answer.Sat →
             Holds (truth_of (values_of self.new.outcome)) self.new.problem.clauses }
-        ensures unsat { result ≡ Ok Answer.Unsat → IsAccepted (Follows self.new.problem.variables)
+        ensures unsat { result ≡ Answer.Unsat → IsAccepted (Follows self.new.problem.variables)
             self.new.problem.clauses (lines_of self.new.outcome) }
-        ensures spent_lemmas { result ≡ Ok Answer.SpentLemmas →
+        ensures spent_lemmas { result ≡ Answer.SpentLemmas →
             HasSpentLemmas self.new.problem (lines_of self.new.outcome) }
-        ensures spent_region { (need : ℕ) → result ≡ Ok (Answer.SpentRegion need) →
+        ensures spent_region { (need : ℕ) → result ≡ Answer.SpentRegion need →
             (next : Line) → next_of self.new.outcome ≡ Some next →
             HasSpentRegion self.new.problem (lines_of self.new.outcome) next need }
     {
-        if let Some(found) = &self.outcome {
-            return Ok(found.answer);
+        match self.found {
+            Some(answer) => return answer,
+            None => {}
         }
-        let limits = Limits {
-            words: self.words,
-            used: self.used,
-            lemmas: self.lemmas,
-        };
-        let found = run(self.alloc, &self.clauses, limits)?;
-        let answer = found.answer;
-        self.outcome = Some(found);
-        Ok(answer)
+        let end = self.search.run();
+        let id = next_id(&self.search.propagator);
+        self.last = self.search.draft.line(self.alloc, id);
+        let answer = answer_for(end);
+        self.found = Some(answer);
+        answer
     }
 
     /// The lemma for which there was no room.
@@ -135,10 +152,7 @@ impl Solver {
         requires { IsSome (next_of self.now.outcome) }
         ensures { next_of self.now.outcome ≡ Some result.now }
     {
-        match &self.outcome {
-            Some(found) => &found.next,
-            None => unreachable!(),
-        }
+        &self.last
     }
 }
 
@@ -155,15 +169,15 @@ impl Clauses for Solver {
     ghost overflow = { λ s all. past s.problem.words (words_of s.problem.variables all) };
 
     fn push(&mut self, lits: &[u32]) -> Result<(), PushFault> {
-        if let Some(fault) = self.clauses.fault(lits) {
-            return Err(fault);
+        match self.blank.fault(lits) {
+            Some(fault) => return Err(fault),
+            None => {}
         }
-        let need = self.used + 3 + lits.len() as u64;
-        if need > self.words {
-            return Err(PushFault::Full { need });
+        match self.search.propagator.put_clause(lits) {
+            Ok(_) => {}
+            Err(full) => return Err(PushFault::Full { need: full.need }),
         }
-        self.clauses.push(lits)?;
-        self.used = need;
+        let _ = self.search.propagator.region().used();
         Ok(())
     }
 }
@@ -174,15 +188,15 @@ impl ClauseView for Solver {
     ghost clauses = { λ s. s.problem.clauses };
 
     fn variables(&self) -> u32 {
-        self.clauses.variables()
+        self.blank.variables()
     }
 
     fn count(&self) -> u32 {
-        self.clauses.count()
+        self.search.propagator.region().clauses()
     }
 
     fn clause(&self, n: u32) -> &[u32] {
-        self.clauses.clause(n)
+        self.search.propagator.region().lits(n)
     }
 }
 
@@ -192,31 +206,39 @@ impl LogView for Solver {
     ghost all_lines = { λ s. lines_of s.outcome };
 
     fn lines(&self) -> u32 {
-        match &self.outcome {
-            Some(found) => found.log.lines(),
+        let _ = next_id(&self.search.propagator);
+        let lemmas = self.search.propagator.region().lemmas();
+        match self.found {
+            Some(answer) => lemmas + extra(answer),
             None => 0,
         }
     }
 
     fn id(&self, n: u32) -> u32 {
-        match &self.outcome {
-            Some(found) => found.log.id(n),
-            None => unreachable!(),
+        let _ = next_id(&self.search.propagator);
+        let region = self.search.propagator.region();
+        if n > region.lemmas() {
+            return self.last.id;
         }
+        region.clauses() + n
     }
 
     fn lits(&self, n: u32) -> &[u32] {
-        match &self.outcome {
-            Some(found) => found.log.lits(n),
-            None => unreachable!(),
+        let _ = next_id(&self.search.propagator);
+        let region = self.search.propagator.region();
+        if n > region.lemmas() {
+            return self.last.lits.as_slice();
         }
+        region.lits(region.clauses() + n)
     }
 
     fn hints(&self, n: u32) -> &[u32] {
-        match &self.outcome {
-            Some(found) => found.log.hints(n),
-            None => unreachable!(),
+        let _ = next_id(&self.search.propagator);
+        let region = self.search.propagator.region();
+        if n > region.lemmas() {
+            return self.last.hints.as_slice();
         }
+        region.hints(region.clauses() + n)
     }
 }
 
@@ -228,9 +250,6 @@ impl Values for Solver {
     ghost truth = { λ s. truth_of (values_of s.outcome) };
 
     fn value(&self, v: u32) -> bool {
-        match &self.outcome {
-            Some(found) => found.values[v as usize],
-            None => unreachable!(),
-        }
+        self.search.propagator.trail().is_false(2 * v + 1)
     }
 }

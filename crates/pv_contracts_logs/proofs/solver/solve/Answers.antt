@@ -9,9 +9,6 @@ returns-clause-problem c = c.solve.ensures.problem
 pub returns-clause-again : goal.returns-clause-again
 returns-clause-again c = c.solve.ensures.again
 
-pub returns-clause-err : goal.returns-clause-err
-returns-clause-err c = c.solve.ensures.err
-
 pub returns-clause-sat : goal.returns-clause-sat
 returns-clause-sat c = c.solve.ensures.sat
 

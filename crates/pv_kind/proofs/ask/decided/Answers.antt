@@ -1,4 +1,4 @@
-use Rattle.std.proofs.Common.{List, ap, sym, refl, ◌∙◌, Ok, Some}
+use Rattle.std.proofs.Common.{List, ap, sym, refl, ◌∙◌, Some}
 use Rattle.pv_log.specs.declared.line.Line.{Line}
 use Rattle.pv_solver.specs.Answers.{Problem, lines_of}
 use Rattle.pv_kind.specs.Decisions.{problem_of, SpendsWords}
@@ -15,7 +15,7 @@ returns-in_ok-next-in-SpentRegion-clause-goes_on g c =
     let need = c.in-SpentRegion.need in
     let next = c.in_ok-next-in-SpentRegion.next in
     let is = is_posed p c.args.solver.now c.set_lemmas.new.self solved c.requires.filled c.set_lemmas.ensures c.solve.ensures.problem in
-    let spent = c.solve.ensures.spent_region need (c.in_ok-solve.was ∙ ap Ok c.in-SpentRegion.is) next
+    let spent = c.solve.ensures.spent_region need c.in-SpentRegion.is next
     (c.next.ensures ∙ ap Some (sym c.in_ok-next-in-SpentRegion.ensures)) in (
       refl,
       adds e s c.args.limits c.args.q (λ (x : Problem) (all : List Line). SpendsWords x all need (Some next)) c.args.proofs.now

@@ -1,5 +1,5 @@
 use Rattle.std.proofs.Common.{List, ℕ, length, sym, subst, arith}
-use Rattle.pv_solver.specs.Trail.{Rise}
+use Rattle.pv_watch.specs.Trail.{Rise}
 use Rattle.pv_solver.proofs.Backs.{start-below}
 use Rattle.pv_solver.proofs.search.quiet_starts.Goals as goal
 

@@ -1,6 +1,6 @@
 use Rattle.std.proofs.Common.{◌≡◌, take}
 use Rattle.std.specs.List.{AllByRecursion}
-use Rattle.pv_solver.specs.Quiet.{IsQuiet}
+use Rattle.pv_watch.specs.Quiet.{IsQuiet}
 use Rattle.pv_solver.proofs.search.quiet_starts.Given as goal
 
 abbrev pub invariant-loop-start : goal.invariant-loop-start

@@ -1,0 +1,4 @@
+pub mod Counts
+pub mod Rooms
+pub mod Wholes
+pub mod ForCallers
