@@ -6,9 +6,11 @@ ghost use Rattle.pv_flow.specs.Machines.{IsInlined, IsAcyclic, IsAttached};
 ghost use Rattle.pv_flow.specs.View.{parts_of, terms_of};
 ghost use Rattle.pv_flow.specs.Tables.{AreTabled, is_tabled};
 ghost use Rattle.pv_flow.specs.AutomatonView.{automaton_of, code_of, attached_of, attached_to, terms_in};
-ghost use Rattle.pv_flow.specs.MachineView.{acyclic_parts};
+ghost use Rattle.pv_flow.specs.MachineView.{acyclic_parts, inlined_parts, bound_of};
+ghost use Rattle.pv_unroll.specs.Correct.{IsSizeOf, IsTooLarge};
 
-use pv_flow::{Acyclic, Attached, Automaton, FlowFault, Parts, acyclic, inlined};
+use pv_flow::{Acyclic, Attached, Automaton, FlowFault, Inlined, Parts, acyclic, inlined};
+use pv_unroll::TooLarge;
 use std::alloc::Global;
 
 /// [`pv_flow::build`].
@@ -54,4 +56,12 @@ pub fn attach(alloc: Global, parts: Parts, attached: Option<Attached>) -> Result
 {
     let automaton = build(alloc, parts)?;
     Ok(acyclic(automaton, attached))
+}
+
+/// [`pv_unroll::unrolled_size`].
+pub fn unrolled_size(alloc: Global, from: &Inlined) -> Result<u64, TooLarge>
+    ensures size { IfOk result (IsSizeOf (inlined_parts from.now) (bound_of from.now)) }
+    ensures large { IfErr result (IsTooLarge (inlined_parts from.now) (bound_of from.now)) }
+{
+    pv_unroll::unrolled_size(alloc, from)
 }

@@ -29,7 +29,7 @@ out_numbers : (c : Copy) → numbers_of (taken_out c) ≡ back (numbers_of c)
 out_numbers (copy l ks) = refl
 out_numbers (beyond loop ks) = refl
 
-no_turns : (w : ℕ → ℕ) (o n : ℕ) (loops : List Loop) (l : ℕ) → turns_before w o n loops l [] ≡ 0
+pub no_turns : (w : ℕ → ℕ) (o n : ℕ) (loops : List Loop) (l : ℕ) → turns_before w o n loops l [] ≡ 0
 no_turns w o n [] l = refl
 no_turns w o n (loop ∷ loops) l = by (holds loop l) (no_turns w o n loops l)
   where

@@ -1,0 +1,29 @@
+//! Why an automaton isn't unrolled.
+
+use std::alloc::AllocError;
+use thiserror::Error;
+
+/// The greatest number of edges that an unrolled automaton may have.
+pub const MAX_EDGES: u64 = 200_000;
+
+/// Why an automaton isn't unrolled.
+#[derive(Clone, Copy, Debug, PartialEq, Eq, Error)]
+pub enum TooLarge {
+    /// It would have so many edges, more than [`MAX_EDGES`]. Counting stops at the greatest number of 64 bits.
+    #[error("an automaton would have {0} edges")]
+    Edges(u64),
+    /// The allocator has no memory left.
+    #[error("out of memory")]
+    NoMemory,
+}
+
+impl From<AllocError> for TooLarge {
+    ghost use Rattle.std.specs.Prelude.{◌≡◌};
+    ghost use Rattle.pv_unroll.specs.declared.fault.TooLarge.TheVariants.{NoMemory};
+
+    ghost from_gives = { λ _ fault. fault ≡ NoMemory };
+
+    fn from(_: AllocError) -> TooLarge {
+        TooLarge::NoMemory
+    }
+}
