@@ -51,7 +51,7 @@ invariant_of-self c = record {
   small = subst (λ (p : Problem). p.variables < 2147483648) (sym (problem-solved c.self.inside.search c.run-end.new.self c.line.new.self c.run-end.result c.run-end.ensures)) c.self.invariant.small;
   blank = c.self.invariant.blank ∙ sym (ap (λ (p : Problem). p.variables) (problem-solved c.self.inside.search c.run-end.new.self c.line.new.self c.run-end.result c.run-end.ensures));
   kept = (kept-solved c.self.inside.search c.run-end.new.self c.line.new.self c.run-end.result c.next_id-id.result c.line.result c.answer_for-answer.result
-    c.run-end.ensures c.next_id-id.ensures.valid c.next_id-id.ensures.id c.line.ensures c.answer_for-answer.ensures);
+      c.run-end.ensures c.next_id-id.ensures.valid c.next_id-id.ensures.id c.line.ensures c.answer_for-answer.ensures);
 }
 
 pub returns-clause-answered : goal.returns-clause-answered
