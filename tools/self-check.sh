@@ -64,6 +64,7 @@ check "a public call has no contract test" python3 tools/check-contracts.py
 check "a recipe leaves out a file that its change touches" python3 tools/check-recipes.py
 check "an example is answered otherwise" examples_answer
 check "tools/trace.py makes another trace, or tells another fault" python3 tools/check-trace.py
+check "tools/waveform.py draws something else" python3 tools/check-waveform.py
 check "docs/case.schema.json takes or refuses a case that it should not" schema_holds
 for document in $(git grep -lE '^```console' -- '*.md'); do
   check "the program says something else than $document" python3 tools/check-sessions.py "$document"

@@ -1,8 +1,9 @@
 #!/usr/bin/env python3
-"""Times `plcv replay` on blocks and traces of a size and of twice that size, and beside C.
+"""Times `plcv replay`, and `plcv show`, on blocks and traces of a size and of twice that size, and beside C.
 
 Usage: run.py [n [scans]]: blocks of n and 2n variables (10,000) and traces of so many and twice so many scans (100,000). A block
 has at most 20,000 cells, so n is at most 10,000. The script `plcv` at the top builds the program where it is missing.
+`show` is timed on the same traces as `replay`, with inputs that change in each scan and that don't, where it prints two lines a scan.
 The last rows are the blocks of bench/scans, in SCL and STL, by the whole command and beside the same blocks in C (gcc -O1): reading the
 trace counts with the scans."""
 import importlib.util
@@ -99,9 +100,9 @@ def case_of(source, language="scl", bound=1):
     }
 
 
-def trace_of(inputs, scans):
-    """A trace of so many scans, whose inputs change in each."""
-    rows = ["scan" + "".join(f" {(k + row) % 2}" for k in range(inputs)) + "\n" for row in range(2)]
+def trace_of(inputs, scans, changing=True):
+    """A trace of so many scans, whose inputs change in each, or in none."""
+    rows = ["scan" + "".join(f" {(k + row * changing) % 2}" for k in range(inputs)) + "\n" for row in range(2)]
     return "PLCVTRACE 1\nparams\n" + "".join(rows) * (scans // 2) + rows[0] * (scans % 2) + "end\n"
 
 
@@ -130,6 +131,24 @@ def pair(place, name, made, scans):
         found, of_source, of_trace = replay(place, source, count)
         rows.append((f"source {of_source:.2f} MiB, {count} scans in {of_trace:.2f} MiB", found))
     compare(name, *rows)
+
+
+def shown(place, made, scans, changing):
+    """Compares `plcv show` on so many and twice so many scans, and tells how many times the time of `plcv replay` it takes."""
+    source, inputs = made
+    (place / "source.scl").write_text(source)
+    (place / "case.json").write_text(json.dumps(case_of(place / "source.scl")))
+    found, times = [], []
+    for count in scans, 2 * scans:
+        (place / "trace.txt").write_text(trace_of(inputs, count, changing))
+        show, replay = (measured([PROGRAM, command, place / "case.json", place / "trace.txt"]) for command in ("show", "replay"))
+        if not show[2].endswith(f"replay kept\nscans {count}\n"):
+            sys.exit(show[2][-200:])
+        found.append((f"{count} scans, {len(show[2]) / MIB:.1f} MiB printed", show))
+        times.append(show[0] / replay[0])
+    name = f"show, inputs {'change' if changing else 'stay'}"
+    compare(name, *found)
+    print("{}: {:.2f} and {:.2f} times replay's time".format(name, *times), flush=True)
 
 
 def beside_c(place, scans, scans_of_c, case, count):
@@ -175,6 +194,8 @@ def main():
             made = [full(n, 2 * MIB, reads), full(2 * n, 4 * MIB, reads)]
             pair(place, f"{n} and {2 * n} cells in 2 and 4 MiB, {name} ones read", made, [1, 1])
         pair(place, "30 variables and assignments", [mixed(30)] * 2, [scans, 2 * scans])
+        for changing in True, False:
+            shown(place, mixed(30), scans, changing)
         blocks = scans_module()
         for case in blocks.CASES:
             beside_c(place, blocks, 20 * scans, case, scans // 5)

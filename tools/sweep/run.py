@@ -23,6 +23,8 @@ COMMANDS = [
     "replay tank/case.json tank/trap.txt",
     "replay sequence/case.json sequence/trace.txt",
     "replay conveyor/case.json conveyor/trace.txt",
+    "show tank/case.json tank/broken.txt",
+    "show starter/blocked.json starter/broken.txt",
     "recheck conveyor/case.json conveyor/certificate.txt",
 ]
 

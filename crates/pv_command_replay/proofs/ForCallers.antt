@@ -1,3 +1,5 @@
--- What proofs of the crates above take from here: what the files hold decides a replay.
-pub use Rattle.pv_command_replay.proofs.Exactly.{Laws, Came, by_result, one_came, replays_exactly, never_five, has_text}
-pub use Rattle.pv_command_replay.proofs.TraceLaws.{one_trace_held}
+-- What proofs of the crates above take from here: what the files hold decides a replay, and what a run begins with.
+pub use Rattle.pv_command_replay.proofs.Exactly.{Laws, Came, ends, by_stop, by_result, one_came, replays_exactly, end_never_five, stop_never_five, never_five, stop_has_text, has_text}
+pub use Rattle.pv_command_replay.proofs.TraceLaws.{one_trace_held, has_values}
+pub use Rattle.pv_command_replay.proofs.Starts.{subject_starts}
+pub use Rattle.pv_command_replay.proofs.Saying.{reported_as, all_read}

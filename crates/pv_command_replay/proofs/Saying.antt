@@ -1,5 +1,6 @@
--- What a replay came to, by what its stages say.
-use Rattle.std.proofs.Common.{◌≡◌, ℕ, List, map, Option, Result, Ok, Err, sym, ap, subst, ◌∙◌, arith, string_bytes}
+-- What a run and a replay came to, by what their stages say.
+use Rattle.std.proofs.Common.{◌≡◌, ℕ, List, map, Option, Result, Ok, Err, refl, sym, ap, subst, ◌∙◌, arith, string_bytes}
+use Rattle.std.specs.Prelude.{MatchResult}
 use Rattle.std.specs.Result.{IsErrAnd}
 use Rattle.pv_edge.specs.Files.{FileMap}
 use Rattle.pv_mean.specs.Runs.{run}
@@ -10,6 +11,8 @@ use Rattle.pv_command_load.specs.Reads.{Reads}
 use Rattle.pv_command_load.specs.Held.{Counts}
 use Rattle.pv_command_load.specs.Stops.{text_tree}
 use Rattle.pv_command_load.specs.Made.{IsSubject}
+use Rattle.pv_command_replay.specs.declared.end.End.{End}
+use Rattle.pv_command_replay.specs.declared.replay.Ran.{Ran}
 use Rattle.pv_command_replay.specs.declared.replay.Replayed.{Replayed}
 use Rattle.pv_command_replay.specs.declared.trace.TraceStop.{TraceStop}
 use Rattle.pv_command_replay.specs.declared.replay.ReplayStop.{ReplayStop}
@@ -17,48 +20,68 @@ use Rattle.pv_command_replay.specs.declared.replay.ReplayStop.TheVariants as rep
 use Rattle.pv_command_replay.specs.Ends.{IsEnd}
 use Rattle.pv_command_replay.specs.Traces.{HoldsTrace, StopsTrace}
 use Rattle.pv_command_replay.specs.Judged.{HasValuesOf}
-use Rattle.pv_command_replay.specs.Replays.{SaysReplay, replay_status}
+use Rattle.pv_command_replay.specs.Replays.{IsReplayed, IsRan, IsReportOf, StopsReplay, stop_status, SaysReplay, replay_status}
 use Rattle.pv_command_replay.proofs.TraceLaws.{has_values}
 
 module _ (told again : Option FileMap) (case_file trace_file : List ℕ) (subject : Subject) (s : SubjectData) where
-  -- it is replayed, and reported so
-  pub says_replayed : (trace : Trace) (r : Replayed) → Reads told case_file s → IsSubject subject s → again ≡ told
+  -- it is run
+  pub says_ran : (trace : Trace) (end : End) → Reads told case_file s → IsSubject subject s → again ≡ told
       → HoldsTrace again trace_file (source_in s) trace
-      → (HasValuesOf (source_in s) trace → IsEnd (source_in s) s.pattern (run (source_in s) trace.params trace.inputs) r.end)
-      → r.case ≡ subject.case.name → r.kind ≡ subject.case.pattern.kind → r.sources ≡ subject.sources
-      → SaysReplay told case_file trace_file (Ok r)
-  says_replayed trace r reads is same held ends name kind texts = (
-    s,
-    record {
+      → (HasValuesOf (source_in s) trace → IsEnd (source_in s) s.pattern (run (source_in s) trace.params trace.inputs) end)
+      → IsRan told case_file trace_file s (record { subject = subject; trace = trace; end = end })
+  says_ran trace end reads is same held ends = record {
+    subject = is;
+    replayed = record {
       reads = reads;
       trace = trace;
       trace_held = subst (λ t. HoldsTrace t trace_file (source_in s) trace) same held;
       ends = ends (has_values again trace_file (source_in s) trace held);
-    },
-    record {
-      name = ap (λ n. string_bytes n) name ∙ is.case.name;
-      kind = kind ∙ is.case.kind;
-      texts = ap (λ v. map text_tree v.items) texts ∙ is.texts;
-    },
-  )
+    };
+    trace = refl;
+  }
 
   -- it stops at its trace
   pub says_stopped : (stop : TraceStop) → Reads told case_file s → again ≡ told → StopsTrace again trace_file (source_in s) stop
-      → SaysReplay told case_file trace_file (Err (replay_stop.Trace stop))
+      → StopsReplay told case_file trace_file (replay_stop.Trace stop)
   says_stopped stop reads same stops = (s, reads, subst (λ t. StopsTrace t trace_file (source_in s) stop) same stops)
 
--- a stop that is passed on
-pub err_said : (told : Option FileMap) (case_file trace_file : List ℕ) (r : Result Replayed ReplayStop) (stop : ReplayStop)
-    → IsErrAnd r (λ e. e ≡ stop) → SaysReplay told case_file trace_file (Err stop) → SaysReplay told case_file trace_file r
-err_said told case_file trace_file (Ok x) stop is h = absurd is
-err_said told case_file trace_file (Err e) stop is h = subst (λ x. SaysReplay told case_file trace_file (Err x)) (sym is) h
+-- a run is reported so
+pub reported_as : (s : SubjectData) (subject : Subject) (r : Replayed) → IsSubject subject s → r.case ≡ subject.case.name
+    → r.kind ≡ subject.case.pattern.kind → r.sources ≡ subject.sources → IsReportOf s r
+reported_as s subject r is name kind texts = record {
+  name = ap (λ n. string_bytes n) name ∙ is.case.name;
+  kind = kind ∙ is.case.kind;
+  texts = ap (λ v. map text_tree v.items) texts ∙ is.texts;
+}
 
-pub err_counted : (r : Result Replayed ReplayStop) (stop : ReplayStop) (before between after : ℕ) → IsErrAnd r (λ e. e ≡ stop)
-    → between ≡ before → Counts (replay_status (Err stop)) between after → Counts (replay_status r) before after
+pub says_replayed : (told : Option FileMap) (case_file trace_file : List ℕ) (s : SubjectData) (ran : Ran) (r : Replayed)
+    → IsRan told case_file trace_file s ran → r.case ≡ ran.subject.case.name → r.kind ≡ ran.subject.case.pattern.kind
+    → r.sources ≡ ran.subject.sources → r.end ≡ ran.end → SaysReplay told case_file trace_file (Ok r)
+says_replayed told case_file trace_file s ran r is name kind texts end = (
+  s,
+  subst (IsReplayed told case_file trace_file s) (sym end) is.replayed,
+  reported_as s ran.subject r is.subject name kind texts,
+)
+
+-- ---- stops that are passed on
+
+pub err_counted : (r : Result Ran ReplayStop) (stop : ReplayStop) (before between after : ℕ) → IsErrAnd r (λ e. e ≡ stop)
+    → between ≡ before → Counts (stop_status stop) between after
+    → MatchResult r (λ ran. after ≡ before) (λ e. Counts (stop_status e) before after)
 err_counted (Ok x) stop before between after is same counts = absurd is
 err_counted (Err e) stop before between after is same counts =
-    subst (λ x. Counts (replay_status (Err x)) before after) (sym is)
-    (subst (λ n. Counts (replay_status (Err stop)) n after) same counts)
+    subst (λ x. Counts (stop_status x) before after) (sym is)
+    (subst (λ n. Counts (stop_status stop) n after) same counts)
+
+pub err_said : (told : Option FileMap) (case_file trace_file : List ℕ) (r : Result Replayed ReplayStop) (stop : ReplayStop)
+    → IsErrAnd r (λ e. e ≡ stop) → StopsReplay told case_file trace_file stop → SaysReplay told case_file trace_file r
+err_said told case_file trace_file (Ok x) stop is h = absurd is
+err_said told case_file trace_file (Err e) stop is h = subst (StopsReplay told case_file trace_file) (sym is) h
+
+pub err_kept : (r : Result Replayed ReplayStop) (stop : ReplayStop) (before after : ℕ) → IsErrAnd r (λ e. e ≡ stop)
+    → Counts (stop_status stop) before after → Counts (replay_status r) before after
+err_kept (Ok x) stop before after is counts = absurd is
+err_kept (Err e) stop before after is counts = subst (λ x. Counts (stop_status x) before after) (sym is) counts
 
 -- memory ends behind the reads
 pub all_read : (before after : ℕ) → after ≡ before → Counts 9 before after

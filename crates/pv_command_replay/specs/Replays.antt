@@ -8,7 +8,9 @@ use Rattle.pv_command_load.specs.Subjects.{texts_of, SubjectData, source_in}
 use Rattle.pv_command_load.specs.Reads.{Reads, Refuses}
 use Rattle.pv_command_load.specs.Stopped.{stopped_status, stopped_text}
 use Rattle.pv_command_load.specs.Stops.{text_tree, StopsSubject, subject_status, subject_text}
+use Rattle.pv_command_load.specs.Made.{IsSubject}
 use Rattle.pv_command_replay.specs.declared.end.End.{End}
+use Rattle.pv_command_replay.specs.declared.replay.Ran.{Ran}
 use Rattle.pv_command_replay.specs.declared.replay.Replayed.{Replayed}
 use Rattle.pv_command_replay.specs.declared.replay.ReplayStop.{ReplayStop}
 use Rattle.pv_command_replay.specs.declared.replay.ReplayStop.TheVariants as replay_stop
@@ -30,9 +32,15 @@ pub record IsNoTrace (told : Option FileMap) (case_file trace_file : List ℕ) (
   pub reads : Reads told case_file s
   pub no_trace : HoldsNoTrace told trace_file (source_in s) line
 
--- what is reported of it
-abbrev pub report_of : SubjectData → End → List ℕ
-report_of s end = report_text s.given.case.name s.given.case.kind (texts_of s.given) end
+-- what the code ran is this
+pub record IsRan (told : Option FileMap) (case_file trace_file : List ℕ) (s : SubjectData) (r : Ran) : Type 0 where
+  pub subject : IsSubject r.subject s
+  pub replayed : IsReplayed told case_file trace_file s r.end
+  pub trace : replayed.trace ≡ r.trace
+
+-- what a replay reports of it; that hangs on the trace by the end alone
+abbrev pub report_of : SubjectData → Trace → End → List ℕ
+report_of s trace end = report_text s.given.case.name s.given.case.kind (texts_of s.given) end
 
 -- ---- what it comes to
 
@@ -42,28 +50,38 @@ pub record IsReportOf (s : SubjectData) (r : Replayed) : Type 0 where
   pub kind : r.kind ≡ s.given.case.kind
   pub texts : map text_tree r.sources.items ≡ texts_of s.given
 
--- what a replay came to is so: what it stops at is at fault, and all before is as it should be
+-- what it stops at is at fault, and all before is as it should be
+abbrev pub StopsReplay : Option FileMap → List ℕ → List ℕ → ReplayStop → Type 0
+StopsReplay told case_file trace_file (replay_stop.Subject stop) = StopsSubject told case_file stop
+StopsReplay told case_file trace_file (replay_stop.Trace stop) =
+    (s : SubjectData) × Reads told case_file s × StopsTrace told trace_file (source_in s) stop
+StopsReplay told case_file trace_file replay_stop.NoMemory = Unit {0}
+
+abbrev pub stop_status : ReplayStop → ℕ
+stop_status (replay_stop.Subject stop) = subject_status stop
+stop_status (replay_stop.Trace stop) = stopped_status (λ line. 8) (trace_stopped stop)
+stop_status replay_stop.NoMemory = 9
+
+-- what is printed where it stops, none where memory ends
+abbrev pub stop_text : ReplayStop → Option (List ℕ)
+stop_text (replay_stop.Subject stop) = subject_text stop
+stop_text (replay_stop.Trace stop) = stopped_text trace_line (trace_stopped stop)
+stop_text replay_stop.NoMemory = None
+
+-- what a replay came to is so
 abbrev pub SaysReplay : Option FileMap → List ℕ → List ℕ → Result Replayed ReplayStop → Type 0
 SaysReplay told case_file trace_file (Ok r) =
     (s : SubjectData) × IsReplayed told case_file trace_file s r.end × IsReportOf s r
-SaysReplay told case_file trace_file (Err (replay_stop.Subject stop)) = StopsSubject told case_file stop
-SaysReplay told case_file trace_file (Err (replay_stop.Trace stop)) =
-    (s : SubjectData) × Reads told case_file s × StopsTrace told trace_file (source_in s) stop
-SaysReplay told case_file trace_file (Err replay_stop.NoMemory) = Unit {0}
+SaysReplay told case_file trace_file (Err stop) = StopsReplay told case_file trace_file stop
 
 abbrev pub replay_status : Result Replayed ReplayStop → ℕ
 replay_status (Ok r) = end_status r.end
-replay_status (Err (replay_stop.Subject stop)) = subject_status stop
-replay_status (Err (replay_stop.Trace stop)) = stopped_status (λ line. 8) (trace_stopped stop)
-replay_status (Err replay_stop.NoMemory) = 9
+replay_status (Err stop) = stop_status stop
 
--- what is printed, none where memory ends
 abbrev pub replay_text : Result Replayed ReplayStop → Option (List ℕ)
 replay_text (Ok r) =
     Some (report_text (string_bytes r.case) r.kind (map text_tree r.sources.items) r.end)
-replay_text (Err (replay_stop.Subject stop)) = subject_text stop
-replay_text (Err (replay_stop.Trace stop)) = stopped_text trace_line (trace_stopped stop)
-replay_text (Err replay_stop.NoMemory) = None
+replay_text (Err stop) = stop_text stop
 
 -- ---- what the files decide
 
@@ -80,8 +98,9 @@ pub record IsRefusedWith (files : FileMap) (case_file : List ℕ) (status : ℕ)
   pub refuses : Refuses (Some files) case_file refusal
   pub of_status : refusal_status refusal ≡ status
 
--- what the files hold decides a replay's status, and the text that is taken
-pub record ReplaysExactly (files : FileMap) (case_file trace_file : List ℕ) (status : ℕ) (IsTaken : List ℕ → Type 0) : Type 0 where
+-- what the files hold decides the status of a command that replays, and the text that is taken; this it prints of a replay
+pub record ReplaysExactly (print : SubjectData → Trace → End → List ℕ) (files : FileMap) (case_file trace_file : List ℕ) (status : ℕ)
+    (IsTaken : List ℕ → Type 0) : Type 0 where
   -- kept, or reached
   pub holds : (status ≡ 0) ↔ EndsWith files case_file trace_file 0
   -- broken, or not reached
@@ -91,6 +110,7 @@ pub record ReplaysExactly (files : FileMap) (case_file trace_file : List ℕ) (s
   pub source : (status ≡ 3) ↔ IsRefusedWith files case_file 3
   pub case : (status ≡ 4) ↔ IsRefusedWith files case_file 4
   pub trace : (status ≡ 8) ↔ ((s : SubjectData) × (line : ℕ) × IsNoTrace (Some files) case_file trace_file s line)
-  pub report : (s : SubjectData) (end : End) → IsReplayed (Some files) case_file trace_file s end → IsTaken (report_of s end)
+  pub report : (s : SubjectData) (end : End) (replayed : IsReplayed (Some files) case_file trace_file s end)
+      → IsTaken (print s replayed.trace end)
   pub refusal_told : (refusal : Refusal) → Refuses (Some files) case_file refusal → IsTaken (refusal_line refusal)
   pub trace_told : (s : SubjectData) (line : ℕ) → IsNoTrace (Some files) case_file trace_file s line → IsTaken (trace_line line)

@@ -10,5 +10,6 @@ mod scans;
 mod trace;
 
 pub use end::{Cause, End};
-pub use replay::{ReplayStop, Replayed, replay_in};
+pub use replay::{Ran, ReplayStop, Replayed, replay_in, run_in};
+pub use report::end_lines;
 pub use trace::TraceStop;

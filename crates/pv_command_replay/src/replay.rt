@@ -1,7 +1,8 @@
 //! The command `replay CASE TRACE`.
-ghost use Rattle.std.specs.Prelude.{◌≡◌, Ok, Err, Some, IfOk, string_bytes};
+ghost use Rattle.std.specs.Prelude.{◌≡◌, Ok, Some, IfOk, IfErr, MatchResult, string_bytes};
 ghost use Rattle.pv_command_load.specs.Held.{Counts};
-ghost use Rattle.pv_command_replay.specs.Replays.{SaysReplay, replay_status, replay_text};
+ghost use Rattle.pv_command_load.specs.Subjects.{SubjectData};
+ghost use Rattle.pv_command_replay.specs.Replays.{IsRan, StopsReplay, stop_status, stop_text, SaysReplay, replay_status, replay_text};
 ghost use Rattle.pv_command_replay.specs.declared.replay.ReplayStop.TheVariants.{Subject as AtSubject, Trace as AtTrace, NoMemory};
 
 use crate::end::End;
@@ -9,12 +10,21 @@ use crate::report::report;
 use crate::scans::end_of;
 use crate::trace::{TraceStop, trace_in};
 use pv_case::PatternKind;
+use pv_claims::Trace;
 use pv_command_load::{
     HOLDS, HOLDS_NOT, NO_MEMORY, SourceText, Status, Subject, SubjectStop, UNDECIDED, subject_in,
 };
 use pv_edge::Files;
 use std::alloc::{AllocError, Global};
 use thiserror::Error;
+
+/// What was run, and how that ended.
+#[derive(Drop)]
+pub struct Ran {
+    pub subject: Subject,
+    pub trace: Trace,
+    pub end: End,
+}
 
 /// What a replay reports.
 #[derive(Drop)]
@@ -65,7 +75,7 @@ impl From<TraceStop> for ReplayStop {
 
 impl ReplayStop {
     pub fn status(&self) -> Status
-        ensures { result ≡ replay_status (Err self.now) }
+        ensures { result ≡ stop_status self.now }
     {
         match self {
             ReplayStop::Subject(stop) => stop.status(),
@@ -76,7 +86,7 @@ impl ReplayStop {
 
     /// The fault line; an error where memory ends, or ended before.
     pub fn text(&self, alloc: Global) -> Result<String, AllocError>
-        ensures { IfOk result (λ text. replay_text (Err self.now) ≡ Some (string_bytes text)) }
+        ensures { IfOk result (λ text. stop_text self.now ≡ Some (string_bytes text)) }
     {
         match self {
             ReplayStop::Subject(stop) => stop.text(alloc),
@@ -113,25 +123,54 @@ impl Replayed {
     }
 }
 
-/// What is reported of a replay that ends so.
-fn reported(subject: Subject, end: End) -> Replayed
-    ensures case { result.case ≡ subject.case.name }
-    ensures kind { result.kind ≡ subject.case.pattern.kind }
-    ensures sources { result.sources ≡ subject.sources }
-    ensures end { result.end ≡ end }
-{
-    let kind = subject.case.pattern.kind;
-    let case = subject.case;
-    Replayed {
-        case: case.name,
-        kind,
-        sources: subject.sources,
-        end,
+impl Ran {
+    /// What is reported of it.
+    pub fn reported(self) -> Replayed
+        ensures case { result.case ≡ self.subject.case.name }
+        ensures kind { result.kind ≡ self.subject.case.pattern.kind }
+        ensures sources { result.sources ≡ self.subject.sources }
+        ensures end { result.end ≡ self.end }
+    {
+        let end = self.end;
+        let subject = self.subject;
+        let kind = subject.case.pattern.kind;
+        let case = subject.case;
+        Replayed {
+            case: case.name,
+            kind,
+            sources: subject.sources,
+            end,
+        }
     }
 }
 
-/// Replays the trace on the case's project, scan by scan, up to the first that fails or reaches what is asked for. What the case is about is
-/// read and refused first, then the trace.
+/// Runs the trace on the case's project, scan by scan, up to the first scan that fails or reaches what is asked for. What the case is about
+/// is read and refused first, then the trace.
+pub fn run_in<F: Files>(
+    alloc: Global,
+    files: &mut F,
+    case_file: &str,
+    trace_file: &str,
+) -> Result<Ran, ReplayStop>
+    ensures files { F.told files.new ≡ F.told files.old }
+    ensures ran { IfOk result (λ ran. (s : SubjectData) × IsRan (F.told files.old) case_file.now trace_file.now s ran) }
+    ensures stopped { IfErr result (StopsReplay (F.told files.old) case_file.now trace_file.now) }
+    ensures counted { MatchResult result
+        (λ ran. F.read_faults files.new ≡ F.read_faults files.old)
+        (λ stop. Counts (stop_status stop) (F.read_faults files.old) (F.read_faults files.new)) }
+    ensures writes { F.write_faults files.new ≡ F.write_faults files.old }
+{
+    let subject = subject_in(alloc, files, case_file)?;
+    let trace = trace_in(alloc, files, trace_file, subject.table.cells())?;
+    let end = end_of(alloc, &subject, &trace)?;
+    Ok(Ran {
+        subject,
+        trace,
+        end,
+    })
+}
+
+/// Replays the trace on the case's project: what is reported of a run of it ([`run_in`]).
 pub fn replay_in<F: Files>(
     alloc: Global,
     files: &mut F,
@@ -143,8 +182,6 @@ pub fn replay_in<F: Files>(
     ensures counted { Counts (replay_status result) (F.read_faults files.old) (F.read_faults files.new) }
     ensures writes { F.write_faults files.new ≡ F.write_faults files.old }
 {
-    let subject = subject_in(alloc, files, case_file)?;
-    let trace = trace_in(alloc, files, trace_file, subject.table.cells())?;
-    let end = end_of(alloc, &subject, &trace)?;
-    Ok(reported(subject, end))
+    let ran = run_in(alloc, files, case_file, trace_file)?;
+    Ok(ran.reported())
 }

@@ -84,8 +84,8 @@ fn not_reached_lines(
     }
 }
 
-/// The lines of an end.
-fn end_lines(alloc: Global, sources: &[SourceText], end: End) -> Result<String, AllocError>
+/// The lines of an end, with places in these sources; an error where memory ends, or a place lies in none of them.
+pub fn end_lines(alloc: Global, sources: &[SourceText], end: End) -> Result<String, AllocError>
     ensures { IfOk result (λ text. string_bytes text ≡ end_text (map text_tree sources.now) end) }
 {
     match end {

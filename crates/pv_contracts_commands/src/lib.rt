@@ -1,4 +1,4 @@
-//! Contract tests of the commands, `pv_command_replay`, `pv_command_recheck` and `pv_top`.
+//! Contract tests of the commands, `pv_command_replay`, `pv_command_show`, `pv_command_recheck` and `pv_top`.
 //!
 //! Each public call whose clauses are no equation of what it answers stands here once more, with the library's clauses, by the call itself.
 //! An edit of `must-fail` gives a wrong answer in its place: a run that ends with the same status whatever it came to, one for each status but
@@ -7,15 +7,51 @@
 
 ghost use Rattle.pv_command_load.specs.Held.{Counts};
 ghost use Rattle.pv_command_recheck.specs.Rechecks.{SaysRecheck, recheck_status};
-ghost use Rattle.pv_command_replay.specs.Replays.{SaysReplay, replay_status};
+ghost use Rattle.pv_command_load.specs.Subjects.{SubjectData};
+ghost use Rattle.pv_command_replay.specs.Replays.{IsRan, SaysReplay, StopsReplay, replay_status, stop_status};
+ghost use Rattle.pv_command_show.specs.Shows.{SaysShow, show_status};
 ghost use Rattle.pv_top.specs.Calls.{Promises};
-ghost use Rattle.std.specs.Prelude.{map, string_bytes, ◌≡◌};
+ghost use Rattle.std.specs.Prelude.{IfErr, IfOk, MatchResult, map, string_bytes, ◌≡◌};
 
 use pv_command_recheck::{RecheckStop, Rechecked};
-use pv_command_replay::{ReplayStop, Replayed};
+use pv_command_replay::{Ran, ReplayStop, Replayed};
+use pv_command_show::Shown;
 use pv_edge::{Files, Sink, Text};
 use pv_top::Status;
 use std::alloc::Global;
+
+/// [`pv_command_replay::run_in`].
+pub fn run_in<F: Files>(
+    alloc: Global,
+    files: &mut F,
+    case_file: &str,
+    trace_file: &str,
+) -> Result<Ran, ReplayStop>
+    ensures files { F.told files.new ≡ F.told files.old }
+    ensures ran { IfOk result (λ ran. (s : SubjectData) × IsRan (F.told files.old) case_file.now trace_file.now s ran) }
+    ensures stopped { IfErr result (StopsReplay (F.told files.old) case_file.now trace_file.now) }
+    ensures counted { MatchResult result
+        (λ ran. F.read_faults files.new ≡ F.read_faults files.old)
+        (λ stop. Counts (stop_status stop) (F.read_faults files.old) (F.read_faults files.new)) }
+    ensures writes { F.write_faults files.new ≡ F.write_faults files.old }
+{
+    pv_command_replay::run_in(alloc, files, case_file, trace_file)
+}
+
+/// [`pv_command_show::show_in`].
+pub fn show_in<F: Files>(
+    alloc: Global,
+    files: &mut F,
+    case_file: &str,
+    trace_file: &str,
+) -> Result<Shown, ReplayStop>
+    ensures files { F.told files.new ≡ F.told files.old }
+    ensures says { SaysShow (F.told files.old) case_file.now trace_file.now result }
+    ensures counted { Counts (show_status result) (F.read_faults files.old) (F.read_faults files.new) }
+    ensures writes { F.write_faults files.new ≡ F.write_faults files.old }
+{
+    pv_command_show::show_in(alloc, files, case_file, trace_file)
+}
 
 /// [`pv_command_replay::replay_in`].
 pub fn replay_in<F: Files>(

@@ -16,7 +16,7 @@ use Rattle.pv_command_load.specs.Stopped.{Stopped, unread, refused, no_memory, s
 use Rattle.pv_command_load.specs.Stops.{case_stopped, source_stopped, project_stopped, table_stopped, fit_stopped, subject_status}
 use Rattle.pv_command_replay.specs.declared.replay.ReplayStop.{ReplayStop}
 use Rattle.pv_command_replay.specs.declared.replay.Replayed.{Replayed}
-use Rattle.pv_command_replay.specs.Replays.{SaysReplay, replay_status, replay_text, ReplaysExactly}
+use Rattle.pv_command_replay.specs.Replays.{report_of, SaysReplay, replay_status, replay_text, ReplaysExactly}
 use Rattle.pv_command_replay.proofs.ForCallers.{Laws as ReplayLaws, Came, by_result, one_came, replays_exactly, never_five}
 use Rattle.pv_command_recheck.specs.declared.recheck.RecheckStop.{RecheckStop}
 use Rattle.pv_command_recheck.specs.declared.recheck.RecheckStop.TheVariants as recheck_stop
@@ -24,11 +24,14 @@ use Rattle.pv_command_recheck.specs.declared.recheck.Rechecked.{Rechecked}
 use Rattle.pv_command_recheck.specs.Certificates.{CertificateRefusal, unbuilt, too_many_gates, faulty, certificate_status, certificate_stopped}
 use Rattle.pv_command_recheck.specs.Correct.{FilesDecideOneRecheck}
 use Rattle.pv_command_recheck.specs.Rechecks.{HoldsSatisfied, SaysRecheck, recheck_stop_status, recheck_status, recheck_text, RechecksExactly}
+use Rattle.pv_command_show.specs.declared.show.Shown.{Shown}
+use Rattle.pv_command_show.specs.Shows.{show_of, SaysShow, show_status, shown_text}
+use Rattle.pv_command_show.proofs.ForCallers.{by_show, show_never_five}
 use Rattle.pv_top.specs.declared.outcome.Outcome.{Outcome}
-use Rattle.pv_top.specs.declared.outcome.Outcome.TheVariants.{NoCommand, Replay, Recheck}
+use Rattle.pv_top.specs.declared.outcome.Outcome.TheVariants.{NoCommand, Replay, Recheck, Show}
 use Rattle.pv_top.specs.Outcomes.{status_of, text_of}
-use Rattle.pv_top.specs.Calls.{Call, IsReplay, IsRecheck, IsCommand, Says, Delivers, whole, part, silent, IsSettled, IsTakenIn, Promises}
-use Rattle.pv_top.proofs.WordsLemmas.{other_word, second_word, third_word}
+use Rattle.pv_top.specs.Calls.{Call, IsReplay, IsRecheck, IsShow, IsCommand, Says, Delivers, whole, part, silent, IsSettled, IsTakenIn, Promises}
+use Rattle.pv_top.proofs.WordsLemmas.{other_word, no_show, show_apart, second_word, third_word}
 use Rattle.pv_top.proofs.Rechecks.{RecheckSaid, one_said, said_recheck, rechecks_exactly}
 
 -- ---- what is said of other words for the same command
@@ -46,6 +49,13 @@ recheck_of told words x y z w result is also says =
     let P : List ℕ → Type 0 = λ f. SaysRecheck told f y result in
     let Q : List ℕ → Type 0 = λ f. SaysRecheck told z f result in
     subst Q (third_word words (codes "recheck") x y z w is also) (subst P (second_word words (codes "recheck") x y z w is also) says)
+
+show_of_words : (told : Option FileMap) (words : List (List ℕ)) (x y z w : List ℕ) (result : Result Shown ReplayStop) → IsShow words x y
+    → IsShow words z w → SaysShow told x y result → SaysShow told z w result
+show_of_words told words x y z w result is also says =
+    let P : List ℕ → Type 0 = λ f. SaysShow told f y result in
+    let Q : List ℕ → Type 0 = λ f. SaysShow told z f result in
+    subst Q (third_word words (codes "show") x y z w is also) (subst P (second_word words (codes "show") x y z w is also) says)
 
 -- ---- a stop's status is neither that of a requirement that holds nor that of other words
 
@@ -92,12 +102,14 @@ unspelled : (told : Option FileMap) (words : List (List ℕ)) (outcome : Outcome
 unspelled told words NoCommand says e = says
 unspelled told words (Replay result) says e = absurd (never_five result e)
 unspelled told words (Recheck result) says e = absurd (five_recheck result e)
+unspelled told words (Show result) says e = absurd (show_never_five result e)
 
 answered_words : (told : Option FileMap) (words : List (List ℕ)) (outcome : Outcome) → Says told words outcome → (IsCommand words → ⊥)
     → status_of outcome ≡ 5
 answered_words told words NoCommand says other = refl
 answered_words told words (Replay result) says other = absurd (other (says.0, says.1, inl says.2))
-answered_words told words (Recheck result) says other = absurd (other (says.0, says.1, inr says.2))
+answered_words told words (Recheck result) says other = absurd (other (says.0, says.1, inr (inl says.2)))
+answered_words told words (Show result) says other = absurd (other (says.0, says.1, inr (inr says.2)))
 
 -- ---- a recheck with status 0
 
@@ -109,10 +121,11 @@ holds_satisfied told x y (Err stop) says e = absurd ((refuses_recheck stop).0 e)
 
 satisfied_of : (told : Option FileMap) (words : List (List ℕ)) (x y : List ℕ) (outcome : Outcome) → IsRecheck words x y
     → Says told words outcome → status_of outcome ≡ 0 → HoldsSatisfied told x
-satisfied_of told words x y NoCommand is says e = absurd (says (x, y, inr is))
+satisfied_of told words x y NoCommand is says e = absurd (says (x, y, inr (inl is)))
 satisfied_of told words x y (Replay result) is says e = absurd (other_word words says.0 says.1 x y says.2 is)
 satisfied_of told words x y (Recheck result) is says e =
     holds_satisfied told x y result (recheck_of told words says.0 says.1 x y result says.2 is says.3) e
+satisfied_of told words x y (Show result) is says e = absurd (show_apart words x y says.0 says.1 is says.2)
 
 zero_settled : (status : ℕ) → status ≡ 0 → IsSettled status
 zero_settled status e = record {
@@ -162,7 +175,7 @@ module _ (laws : Laws) (files : FileMap) (words : List (List ℕ)) where
       → replay_status a ≢ 9 → replay_status b ≢ 9 → (replay_status a ≡ replay_status b) × (replay_text a ≡ replay_text b)
   one_replay x y z w a b is also says said read also_read roomy also_roomy =
       let moved = replay_of (Some files) words x y z w a is also says in
-      one_came files z w laws.replays (replay_status a) (replay_status b) (replay_text a) (replay_text b)
+      one_came report_of files z w laws.replays (replay_status a) (replay_status b) (replay_text a) (replay_text b)
       (by_result files z w a moved read roomy) (by_result files z w b said also_read also_roomy)
 
   one_recheck : (x y z w : List ℕ) (a b : Result Rechecked RecheckStop) → IsRecheck words x y → IsRecheck words z w
@@ -173,51 +186,91 @@ module _ (laws : Laws) (files : FileMap) (words : List (List ℕ)) where
       one_said files z w (laws.rechecks files z) (recheck_status a) (recheck_status b) (recheck_text a) (recheck_text b)
       (said_recheck files z w a moved read roomy) (said_recheck files z w b said also_read also_roomy)
 
+  one_show : (x y z w : List ℕ) (a b : Result Shown ReplayStop) → IsShow words x y → IsShow words z w
+      → SaysShow (Some files) x y a → SaysShow (Some files) z w b → show_status a ≢ 6 → show_status b ≢ 6
+      → show_status a ≢ 9 → show_status b ≢ 9 → (show_status a ≡ show_status b) × (shown_text a ≡ shown_text b)
+  one_show x y z w a b is also says said read also_read roomy also_roomy =
+      let moved = show_of_words (Some files) words x y z w a is also says in
+      one_came show_of files z w laws.replays (show_status a) (show_status b) (shown_text a) (shown_text b)
+      (by_show files z w a moved read roomy) (by_show files z w b said also_read also_roomy)
+
 pub one_outcome : Laws → (files : FileMap) (words : List (List ℕ)) (a b : Outcome) → Says (Some files) words a → Says (Some files) words b
     → status_of a ≢ 6 → status_of b ≢ 6 → status_of a ≢ 9 → status_of b ≢ 9 → (status_of a ≡ status_of b) × (text_of a ≡ text_of b)
 one_outcome laws files words NoCommand NoCommand says said read also_read roomy also_roomy = (refl, refl)
 one_outcome laws files words NoCommand (Replay result) says said read also_read roomy also_roomy =
     absurd (says (said.0, said.1, inl said.2))
 one_outcome laws files words NoCommand (Recheck result) says said read also_read roomy also_roomy =
-    absurd (says (said.0, said.1, inr said.2))
+    absurd (says (said.0, said.1, inr (inl said.2)))
+one_outcome laws files words NoCommand (Show result) says said read also_read roomy also_roomy =
+    absurd (says (said.0, said.1, inr (inr said.2)))
 one_outcome laws files words (Replay result) NoCommand says said read also_read roomy also_roomy =
     absurd (said (says.0, says.1, inl says.2))
 one_outcome laws files words (Replay a) (Replay b) says said read also_read roomy also_roomy =
     one_replay laws files words says.0 says.1 said.0 said.1 a b says.2 said.2 says.3 said.3 read also_read roomy also_roomy
 one_outcome laws files words (Replay a) (Recheck b) says said read also_read roomy also_roomy =
     absurd (other_word words says.0 says.1 said.0 said.1 says.2 said.2)
+one_outcome laws files words (Replay a) (Show b) says said read also_read roomy also_roomy =
+    absurd (no_show words says.0 says.1 said.0 said.1 says.2 said.2)
 one_outcome laws files words (Recheck result) NoCommand says said read also_read roomy also_roomy =
-    absurd (said (says.0, says.1, inr says.2))
+    absurd (said (says.0, says.1, inr (inl says.2)))
 one_outcome laws files words (Recheck a) (Replay b) says said read also_read roomy also_roomy =
     absurd (other_word words said.0 said.1 says.0 says.1 said.2 says.2)
 one_outcome laws files words (Recheck a) (Recheck b) says said read also_read roomy also_roomy =
     one_recheck laws files words says.0 says.1 said.0 said.1 a b says.2 said.2 says.3 said.3 read also_read roomy also_roomy
+one_outcome laws files words (Recheck a) (Show b) says said read also_read roomy also_roomy =
+    absurd (show_apart words says.0 says.1 said.0 said.1 says.2 said.2)
+one_outcome laws files words (Show result) NoCommand says said read also_read roomy also_roomy =
+    absurd (said (says.0, says.1, inr (inr says.2)))
+one_outcome laws files words (Show a) (Replay b) says said read also_read roomy also_roomy =
+    absurd (no_show words said.0 said.1 says.0 says.1 said.2 says.2)
+one_outcome laws files words (Show a) (Recheck b) says said read also_read roomy also_roomy =
+    absurd (show_apart words said.0 said.1 says.0 says.1 said.2 says.2)
+one_outcome laws files words (Show a) (Show b) says said read also_read roomy also_roomy =
+    one_show laws files words says.0 says.1 said.0 said.1 a b says.2 said.2 says.3 said.3 read also_read roomy also_roomy
 
--- ---- a replay and a recheck, exactly
+-- ---- a replay, a show and a recheck, exactly
 
 replay_exactly : Laws → (files : FileMap) (words : List (List ℕ)) (x y : List ℕ) (outcome : Outcome) (text : List ℕ)
     (IsTaken : List ℕ → Type 0) → IsReplay words x y → Says (Some files) words outcome → status_of outcome ≢ 6
     → status_of outcome ≢ 9 → text_of outcome ≡ Some text
-    → IsTaken text → ReplaysExactly files x y (status_of outcome) IsTaken
+    → IsTaken text → ReplaysExactly report_of files x y (status_of outcome) IsTaken
 replay_exactly laws files words x y NoCommand text IsTaken is says read roomy of taken = absurd (says (x, y, inl is))
 replay_exactly laws files words x y (Replay result) text IsTaken is says read roomy of taken =
-    replays_exactly files x y laws.replays (replay_status result) text IsTaken taken
-    (subst (Came files x y (replay_status result)) of
+    replays_exactly report_of files x y laws.replays (replay_status result) text IsTaken taken
+    (subst (Came report_of files x y (replay_status result)) of
     (by_result files x y result (replay_of (Some files) words says.0 says.1 x y result says.2 is says.3) read roomy))
 replay_exactly laws files words x y (Recheck result) text IsTaken is says read roomy of taken =
     absurd (other_word words x y says.0 says.1 is says.2)
+replay_exactly laws files words x y (Show result) text IsTaken is says read roomy of taken =
+    absurd (no_show words x y says.0 says.1 is says.2)
+
+show_exactly : Laws → (files : FileMap) (words : List (List ℕ)) (x y : List ℕ) (outcome : Outcome) (text : List ℕ)
+    (IsTaken : List ℕ → Type 0) → IsShow words x y → Says (Some files) words outcome → status_of outcome ≢ 6
+    → status_of outcome ≢ 9 → text_of outcome ≡ Some text
+    → IsTaken text → ReplaysExactly show_of files x y (status_of outcome) IsTaken
+show_exactly laws files words x y NoCommand text IsTaken is says read roomy of taken = absurd (says (x, y, inr (inr is)))
+show_exactly laws files words x y (Replay result) text IsTaken is says read roomy of taken =
+    absurd (no_show words says.0 says.1 x y says.2 is)
+show_exactly laws files words x y (Recheck result) text IsTaken is says read roomy of taken =
+    absurd (show_apart words says.0 says.1 x y says.2 is)
+show_exactly laws files words x y (Show result) text IsTaken is says read roomy of taken =
+    replays_exactly show_of files x y laws.replays (show_status result) text IsTaken taken
+    (subst (Came show_of files x y (show_status result)) of
+    (by_show files x y result (show_of_words (Some files) words says.0 says.1 x y result says.2 is says.3) read roomy))
 
 recheck_exactly : Laws → (files : FileMap) (words : List (List ℕ)) (x y : List ℕ) (outcome : Outcome) (text : List ℕ)
     (IsTaken : List ℕ → Type 0) → IsRecheck words x y → Says (Some files) words outcome → status_of outcome ≢ 6
     → status_of outcome ≢ 9 → text_of outcome ≡ Some text
     → IsTaken text → RechecksExactly files x y (status_of outcome) IsTaken
-recheck_exactly laws files words x y NoCommand text IsTaken is says read roomy of taken = absurd (says (x, y, inr is))
+recheck_exactly laws files words x y NoCommand text IsTaken is says read roomy of taken = absurd (says (x, y, inr (inl is)))
 recheck_exactly laws files words x y (Replay result) text IsTaken is says read roomy of taken =
     absurd (other_word words says.0 says.1 x y says.2 is)
 recheck_exactly laws files words x y (Recheck result) text IsTaken is says read roomy of taken =
     rechecks_exactly files x y (laws.rechecks files x) (recheck_status result) text IsTaken taken
     (subst (RecheckSaid files x y (recheck_status result)) of
     (said_recheck files x y result (recheck_of (Some files) words says.0 says.1 x y result says.2 is says.3) read roomy))
+recheck_exactly laws files words x y (Show result) text IsTaken is says read roomy of taken =
+    absurd (show_apart words x y says.0 says.1 is says.2)
 
 -- ---- the promises
 
@@ -262,8 +315,14 @@ promised laws call outcome says counted delivers unwritten written writes = reco
   replay = λ files x y told words is.
       let w = whole_is call outcome says counted delivers is in
       let P : Option FileMap → Type 0 = λ t. Says t call.words outcome in
-      let Q : ℕ → Type 0 = λ s. ReplaysExactly files x y s (IsTakenIn call) in
+      let Q : ℕ → Type 0 = λ s. ReplaysExactly report_of files x y s (IsTakenIn call) in
       subst Q (sym w.code) (replay_exactly laws files call.words x y outcome w.text (IsTakenIn call) words (subst P told says)
+      (read_is call outcome says counted delivers is) (roomy_is call outcome says counted delivers is) w.is w.takes);
+  show = λ files x y told words is.
+      let w = whole_is call outcome says counted delivers is in
+      let P : Option FileMap → Type 0 = λ t. Says t call.words outcome in
+      let Q : ℕ → Type 0 = λ s. ReplaysExactly show_of files x y s (IsTakenIn call) in
+      subst Q (sym w.code) (show_exactly laws files call.words x y outcome w.text (IsTakenIn call) words (subst P told says)
       (read_is call outcome says counted delivers is) (roomy_is call outcome says counted delivers is) w.is w.takes);
   recheck = λ files x y told words is.
       let w = whole_is call outcome says counted delivers is in

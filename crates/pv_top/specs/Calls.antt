@@ -4,12 +4,13 @@ use Rattle.pv_edge.specs.Faults.{HasRisen}
 use Rattle.pv_edge.specs.Files.{FileMap}
 use Rattle.pv_edge.specs.Sink.{Takes, TakesLess}
 use Rattle.pv_command_load.specs.Held.{Counts}
-use Rattle.pv_command_replay.specs.Replays.{SaysReplay, ReplaysExactly}
+use Rattle.pv_command_replay.specs.Replays.{report_of, SaysReplay, ReplaysExactly}
 use Rattle.pv_command_recheck.specs.Rechecks.{HoldsSatisfied, SaysRecheck, RechecksExactly}
+use Rattle.pv_command_show.specs.Shows.{show_of, SaysShow}
 use Rattle.pv_top.specs.declared.words.Command.{Command}
 use Rattle.pv_top.specs.declared.words.Command.TheVariants as command
 use Rattle.pv_top.specs.declared.outcome.Outcome.{Outcome}
-use Rattle.pv_top.specs.declared.outcome.Outcome.TheVariants.{NoCommand, Replay, Recheck}
+use Rattle.pv_top.specs.declared.outcome.Outcome.TheVariants.{NoCommand, Replay, Recheck, Show}
 use Rattle.pv_top.specs.Outcomes.{status_of, text_of}
 
 -- a run of the program, seen from outside: its words and its status, what the files are told to hold, what the sink has taken
@@ -37,14 +38,20 @@ IsReplay words case_file trace_file = words ≡ codes "replay" ∷ case_file ∷
 abbrev pub IsRecheck : List (List ℕ) → List ℕ → List ℕ → Type 0
 IsRecheck words case_file certificate_file = words ≡ codes "recheck" ∷ case_file ∷ certificate_file ∷ []
 
+-- the words of a show
+abbrev pub IsShow : List (List ℕ) → List ℕ → List ℕ → Type 0
+IsShow words case_file trace_file = words ≡ codes "show" ∷ case_file ∷ trace_file ∷ []
+
 -- the words are those of a command
 abbrev pub IsCommand : List (List ℕ) → Type 0
-IsCommand words = (first : List ℕ) × (second : List ℕ) × (IsReplay words first second ⊎ IsRecheck words first second)
+IsCommand words = (first : List ℕ) × (second : List ℕ)
+    × (IsReplay words first second ⊎ (IsRecheck words first second ⊎ IsShow words first second))
 
 -- the words spell the command
 abbrev pub Spells : List (List ℕ) → Command → Type 0
 Spells words (command.Replay case trace) = IsReplay words case.now trace.now
 Spells words (command.Recheck case certificate) = IsRecheck words case.now certificate.now
+Spells words (command.Show case trace) = IsShow words case.now trace.now
 
 -- ---- the outcome, and where its text goes
 
@@ -55,6 +62,8 @@ Says told words (Replay result) =
     (case_file : List ℕ) × (file : List ℕ) × IsReplay words case_file file × SaysReplay told case_file file result
 Says told words (Recheck result) =
     (case_file : List ℕ) × (file : List ℕ) × IsRecheck words case_file file × SaysRecheck told case_file file result
+Says told words (Show result) =
+    (case_file : List ℕ) × (file : List ℕ) × IsShow words case_file file × SaysShow told case_file file result
 
 -- the outcome's text went to the sink: all of it behind what was there, with the outcome's status; or, with status 7 or 9, less
 -- than all of it; or memory ended before a text was offered
@@ -92,7 +101,11 @@ pub record Promises (call : Call) : Type 0 where
   -- where the files tell their bytes, the status comes exactly where they hold what it says, and the text that goes with it is taken
   pub replay : (files : FileMap) (case_file trace_file : List ℕ) → call.told ≡ Some files → IsReplay call.words case_file trace_file
       → IsSettled call.status
-      → ReplaysExactly files case_file trace_file call.status (IsTakenIn call)
+      → ReplaysExactly report_of files case_file trace_file call.status (IsTakenIn call)
+  -- so for a show, whose text has the scans
+  pub show : (files : FileMap) (case_file trace_file : List ℕ) → call.told ≡ Some files → IsShow call.words case_file trace_file
+      → IsSettled call.status
+      → ReplaysExactly show_of files case_file trace_file call.status (IsTakenIn call)
   pub recheck : (files : FileMap) (case_file certificate_file : List ℕ) → call.told ≡ Some files
       → IsRecheck call.words case_file certificate_file → IsSettled call.status
       → RechecksExactly files case_file certificate_file call.status (IsTakenIn call)

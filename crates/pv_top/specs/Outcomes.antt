@@ -2,8 +2,9 @@
 use Rattle.std.specs.Prelude.{ℕ, List, codes, Option, Some}
 use Rattle.pv_command_replay.specs.Replays.{replay_status, replay_text}
 use Rattle.pv_command_recheck.specs.Rechecks.{recheck_status, recheck_text}
+use Rattle.pv_command_show.specs.Shows.{show_status, shown_text}
 use Rattle.pv_top.specs.declared.outcome.Outcome.{Outcome}
-use Rattle.pv_top.specs.declared.outcome.Outcome.TheVariants.{NoCommand, Replay, Recheck}
+use Rattle.pv_top.specs.declared.outcome.Outcome.TheVariants.{NoCommand, Replay, Recheck, Show}
 
 abbrev pub words_line : List ℕ
 words_line = codes "plcv: words\n"
@@ -12,9 +13,11 @@ abbrev pub status_of : Outcome → ℕ
 status_of NoCommand = 5
 status_of (Replay result) = replay_status result
 status_of (Recheck result) = recheck_status result
+status_of (Show result) = show_status result
 
 -- what is printed, none where memory ends
 abbrev pub text_of : Outcome → Option (List ℕ)
 text_of NoCommand = Some words_line
 text_of (Replay result) = replay_text result
 text_of (Recheck result) = recheck_text result
+text_of (Show result) = shown_text result

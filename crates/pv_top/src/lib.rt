@@ -22,6 +22,7 @@ use pv_command_recheck::laws::files_decide_one_recheck;
 use pv_command_recheck::recheck_in;
 use pv_command_replay::laws::{files_decide_one_trace, runs_end_in_one_way};
 use pv_command_replay::replay_in;
+use pv_command_show::show_in;
 use pv_edge::{Files, Sink, SinkFault, Text};
 use std::alloc::Global;
 use words::{Command, read_words};
@@ -77,6 +78,7 @@ fn outcome_of<F: Files>(alloc: Global, words: &[String], files: &mut F) -> Outco
         Some(Command::Recheck { case, certificate }) => {
             Outcome::Recheck(recheck_in(alloc, files, case, certificate))
         }
+        Some(Command::Show { case, trace }) => Outcome::Show(show_in(alloc, files, case, trace)),
     }
 }
 
@@ -89,7 +91,7 @@ fn print<S: Sink>(alloc: Global, out: &mut S, outcome: &Outcome) -> Status
     let Ok(text) = outcome.text(alloc) else {
         return NO_MEMORY;
     };
-    match pv_edge::write_all(out, text.as_bytes()) {
+    match pv_edge::write_all(out, text.as_slice()) {
         Ok(()) => outcome.status(),
         Err(SinkFault::Failed) => WRITE_FAULT,
         Err(SinkFault::NoMemory) => NO_MEMORY,

@@ -9,6 +9,8 @@ pub enum Command<'a> {
     Replay { case: &'a str, trace: &'a str },
     /// `recheck CASE CERTIFICATE`: checks the certificate against the case.
     Recheck { case: &'a str, certificate: &'a str },
+    /// `show CASE TRACE`: replays the trace, and tells what each scan does.
+    Show { case: &'a str, trace: &'a str },
 }
 
 /// The command that the words spell, if they have one of the forms. Nothing stands before or after it: there are no options.
@@ -24,6 +26,10 @@ pub fn read_words(words: &[String]) -> Option<Command<'_>>
         [verb, case, certificate] if verb.as_str() == "recheck" => Some(Command::Recheck {
             case: case.as_str(),
             certificate: certificate.as_str(),
+        }),
+        [verb, case, shown] if verb.as_str() == "show" => Some(Command::Show {
+            case: case.as_str(),
+            trace: shown.as_str(),
         }),
         _ => None,
     }

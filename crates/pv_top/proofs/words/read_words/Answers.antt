@@ -12,3 +12,8 @@ pub returns-in-len3-2-clause-some : goal.returns-in-len3-2-clause-some
 returns-in-len3-2-clause-some c = three (codes "recheck") c.args.words.now c.verb-item-then-words-lt4.result c.case-item-then-words-lt4.result c.certificate-item.result (omega arith) c.verb-item-then-words-lt4.is c.case-item-then-words-lt4.is c.certificate-item.is (sym c.as_str-then-words-lt4.ensures.value ∙ (bytes_eq-Decides c.as_str-then-words-lt4.result.now (codes "recheck")).0 (sym c.if-eq-2.ensures))
     ∙ ap (λ w. codes "recheck" ∷ w ∷ string_bytes c.certificate-item.result ∷ []) (sym c.as_str-in-len3-2-2.ensures.value)
     ∙ ap (λ w. codes "recheck" ∷ c.as_str-in-len3-2-2.result.now ∷ w ∷ []) (sym c.as_str-in-len3-2-3.ensures.value)
+
+pub returns-in-len3-3-clause-some : goal.returns-in-len3-3-clause-some
+returns-in-len3-3-clause-some c = three (codes "show") c.args.words.now c.verb-item-then-words-lt4-2.result c.case-item-then-words-lt4-2.result c.shown-item.result (omega arith) c.verb-item-then-words-lt4-2.is c.case-item-then-words-lt4-2.is c.shown-item.is (sym c.as_str-then-words-lt4-2.ensures.value ∙ (bytes_eq-Decides c.as_str-then-words-lt4-2.result.now (codes "show")).0 (sym c.if-eq-3.ensures))
+    ∙ ap (λ w. codes "show" ∷ w ∷ string_bytes c.shown-item.result ∷ []) (sym c.as_str-in-len3-3.ensures.value)
+    ∙ ap (λ w. codes "show" ∷ c.as_str-in-len3-3.result.now ∷ w ∷ []) (sym c.as_str-in-len3-3-2.ensures.value)

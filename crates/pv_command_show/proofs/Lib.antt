@@ -1,0 +1,5 @@
+pub mod Cells
+pub mod Telling
+pub mod Showing
+pub mod Exactly
+pub mod ForCallers

@@ -1,0 +1,32 @@
+use Rattle.pv_command_replay.specs.declared.replay.ReplayStop.TheVariants.{NoMemory}
+use Rattle.pv_command_replay.proofs.ForCallers.{subject_starts, all_read}
+use Rattle.pv_command_show.proofs.Showing.{ran_values, says_shown, err_said, err_kept}
+use Rattle.pv_command_show.proofs.show.show_in.Goals as goal
+
+pub returns-clause-says : goal.returns-clause-says
+returns-clause-says g c =
+    let found = c.in_ok-ran.ensures.ran in
+    let s = found.0 in
+    says_shown _ c.args.case_file.now c.args.trace_file.now s c.in_ok-ran.ran _ found.1 c.reported.ensures.case c.reported.ensures.kind
+    c.reported.ensures.sources c.reported.ensures.end
+    (c.in_ok-scans.ensures s found.1.subject (subject_starts _ c.args.case_file.now s found.1.replayed.reads)
+    (ran_values _ c.args.case_file.now c.args.trace_file.now s c.in_ok-ran.ran found.1))
+
+pub returns-in_err-ran-clause-says : goal.returns-in_err-ran-clause-says
+returns-in_err-ran-clause-says g c =
+    err_said _ c.args.case_file.now c.args.trace_file.now c.from_residual.result c.in_err-ran.field-0.0
+    c.from_residual.ensures.1 c.in_err-ran.ensures.stopped
+
+pub returns-in_err-ran-clause-counted : goal.returns-in_err-ran-clause-counted
+returns-in_err-ran-clause-counted g c =
+    err_kept c.from_residual.result c.in_err-ran.field-0.0 _ _ c.from_residual.ensures.1 c.in_err-ran.ensures.counted
+
+pub returns-in_err-scans-clause-counted : goal.returns-in_err-scans-clause-counted
+returns-in_err-scans-clause-counted g c =
+    err_kept c.from_residual-in_err-scans.result NoMemory _ _ c.from_residual-in_err-scans.ensures.1
+    (all_read _ _ c.in_ok-ran.ensures.counted)
+
+pub returns-in_err-scans-clause-says : goal.returns-in_err-scans-clause-says
+returns-in_err-scans-clause-says g c =
+    err_said _ c.args.case_file.now c.args.trace_file.now c.from_residual-in_err-scans.result NoMemory
+    c.from_residual-in_err-scans.ensures.1 tt

@@ -1,0 +1,5 @@
+-- what public clauses cite, from the bottom up
+pub mod Texts
+pub mod Shows
+-- what private clauses cite
+pub mod Steps

@@ -1,0 +1,13 @@
+use Rattle.pv_contracts_commands.proofs.show_in.Goals as goal
+
+pub returns-clause-files : goal.returns-clause-files
+returns-clause-files g c = c.show_in.ensures.files
+
+pub returns-clause-says : goal.returns-clause-says
+returns-clause-says g c = c.show_in.ensures.says
+
+pub returns-clause-counted : goal.returns-clause-counted
+returns-clause-counted g c = c.show_in.ensures.counted
+
+pub returns-clause-writes : goal.returns-clause-writes
+returns-clause-writes g c = c.show_in.ensures.writes
