@@ -25,6 +25,13 @@ def measured(command, statuses=(0,), runs=5):
     return best
 
 
+def instructions(command):
+    """The instructions of a run, which no load changes; it needs `valgrind`."""
+    counting = ["valgrind", "--tool=callgrind", "--callgrind-out-file=/dev/null", *map(str, command)]
+    said = subprocess.run(counting, capture_output=True, text=True, check=True).stderr
+    return int(said.split("Collected : ")[1].split()[0])
+
+
 def compare(name, one, two):
     """Prints what the two runs took, the second with twice the input, and the ratios."""
     for label, (took, peak, _) in (one, two):

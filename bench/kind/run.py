@@ -8,7 +8,6 @@ of a decision with one such query, so that it shows that one solver's memory is 
 instructions of both and their ratio, which no load changes."""
 import pathlib
 import shutil
-import subprocess
 import sys
 import tempfile
 
@@ -18,7 +17,7 @@ sys.path.insert(0, str(HERE.parent / "solver"))
 sys.dont_write_bytecode = True
 from build import built  # noqa: E402
 from formulas import random_clauses  # noqa: E402
-from measure import machine, measured  # noqa: E402
+from measure import instructions, machine, measured  # noqa: E402
 
 VARIABLES = 150
 CLAUSES = 1000
@@ -43,11 +42,6 @@ class Decision:
             sys.exit(f"{self.formula.name}: {mode}: {said}")
         return took, peak
 
-    def instructions(self, mode):
-        counting = ["valgrind", "--tool=callgrind", "--callgrind-out-file=/dev/null", *map(str, self.words(mode))]
-        said = subprocess.run(counting, capture_output=True, text=True, check=True).stderr
-        return int(said.split("Collected : ")[1].split()[0])
-
     def compare(self, seed):
         """Prints what both take."""
         reading, _ = self.run("read")
@@ -60,7 +54,7 @@ class Decision:
 
     def count(self, seed):
         """Prints the instructions of both."""
-        reading, alone, both = (self.instructions(mode) for mode in ("read", "alone", "decide"))
+        reading, alone, both = (instructions(self.words(mode)) for mode in ("read", "alone", "decide"))
         print(f"seed {seed}: {(both - reading) / 1e6:.0f} and {(alone - reading) / 1e6:.0f} million instructions, "
               f"{(both - reading) / (alone - reading):.3f} times", flush=True)
 
