@@ -21,7 +21,7 @@ pub record IsMachineWithCalls (blocks : Blocks) (n : ℕ) (p : Parts) (m : Machi
   pub fails : (s i : Values) (out : Outcome) → IsState m s → IsInput m i → EndsAs blocks n p (begin_at p s i) out
       → m.fails s i ≡ fails_with None (length p.vars) (begin_at p s i) out
 
--- of blocks that fit there is one
+-- of blocks that fit there is at most one
 abbrev pub OneMachineWithCalls : Type 0
 OneMachineWithCalls = (blocks : Blocks) (n b : ℕ) (p : Parts) (m other : Machine) → AreFitting blocks → AreSound blocks → 0 < n
     → block_at blocks b ≡ Some p → IsMachineWithCalls blocks n p m → IsMachineWithCalls blocks n p other → IsSame m other

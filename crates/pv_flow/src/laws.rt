@@ -73,7 +73,7 @@ pub fn untouched_variables_stay()
     ensures { UntouchedStay }
 {}
 
-/// Of blocks that fit, an automaton with call edges has one machine.
+/// Of blocks that fit, an automaton with call edges has at most one machine.
 pub fn one_machine_with_calls()
     ensures { OneMachineWithCalls }
 {}
