@@ -6,3 +6,5 @@ pub use Rattle.pv_call_copies.proofs.Edges.{edges_are_counted}
 pub use Rattle.pv_call_copies.proofs.Placing.{behind_append, edges_append, traps_append, overs_append}
 pub use Rattle.pv_call_copies.proofs.Variables.{variables_stay}
 pub use Rattle.pv_call_copies.proofs.Made.{inlined_is_well_made}
+pub use Rattle.pv_call_copies.proofs.Copying.{nests_are_copies, calls_are_copies, copies_are_calls}
+pub use Rattle.pv_call_copies.proofs.Machine.{inlined_has_the_machine}

@@ -220,7 +220,7 @@ turn_none blocks body s i n loop good never = never_turns blocks body i n loop.t
     (λ e edge at same. never e edge at (sym same ∙ (has_number blocks body s i e edge at).is))
 
 -- at a location that isn't an own edge's
-turn_at_none : (blocks : Blocks) (body : Body) → IsSound body.work.parts → (i n l k : ℕ) (loop : Loop) → IsGoodLoop blocks body loop
+pub turn_at_none : (blocks : Blocks) (body : Body) → IsSound body.work.parts → (i n l k : ℕ) (loop : Loop) → IsGoodLoop blocks body loop
     → k < length (drawn_at blocks body l) → n ≡ i + (drawn_before blocks body l + k) → (IsOwn body.work.parts l → ⊥)
     → is_turn (drawn_loop blocks body i loop) n ≡ false
 turn_at_none blocks body s i n l k loop good lt e never =

@@ -86,7 +86,7 @@ below_free blocks fit body i m end s inner e free (suc n) =
 
 -- ---- ends
 
-behind_rises : (next : ℕ) (ds : List Drawn) → next ≤ behind next ds
+pub behind_rises : (next : ℕ) (ds : List Drawn) → next ≤ behind next ds
 behind_rises next [] = omega arith
 behind_rises next (d ∷ ds) = by d.aim (λ m. behind_rises m ds)
   where

@@ -29,7 +29,7 @@ one_way c x w way more none takes =
     onward (c.exit x) (taken w (c.ways x)) way w (λ t. run c more t.to (assigned t.sets w)) none takes
 
 -- the ways of a nest, by what its spot ends and by the call edge there
-ways_are : (blocks : Blocks) (n : ℕ) (k : Work) (x : Spot) (callers : List Waiting) (c : Option Numbered)
+pub ways_are : (blocks : Blocks) (n : ℕ) (k : Work) (x : Spot) (callers : List Waiting) (c : Option Numbered)
     → exit_of k.parts x ≡ None → call_of k.parts x ≡ c
     → (nests_control blocks n).ways (nest k x callers) ≡ ways_on blocks n k x callers c
 ways_are blocks n k x callers c none call =

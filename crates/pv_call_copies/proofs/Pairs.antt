@@ -42,7 +42,7 @@ each_append (x ∷ xs) ys zs one other = (all_append (IsPair x) ys zs one.0 othe
 
 -- ---- numbers in two lists
 
-none_in : (P : ℕ → Type 0) (n : ℕ) (ns : List ℕ) → AllByRecursion P ns → ((m : ℕ) → P m → m ≡ n → ⊥) → list_any (λ m. m == n) ns ≡ false
+pub none_in : (P : ℕ → Type 0) (n : ℕ) (ns : List ℕ) → AllByRecursion P ns → ((m : ℕ) → P m → m ≡ n → ⊥) → list_any (λ m. m == n) ns ≡ false
 none_in P n [] are never = refl
 none_in P n (m ∷ ns) are never =
     ap (λ (b : Bool). b || list_any (λ k. k == n) ns) (ne_eqb m n (λ e. never m are.0 e)) ∙ none_in P n ns are.1 never

@@ -339,14 +339,14 @@ none_from l next (d ∷ ds) are =
     ∷ edges_from l (edges_of (next_by d.aim next) ds)) (edges_from l (edges_of (next_by d.aim next) ds))) are.0
     ∙ none_from l (next_by d.aim next) ds are.1
 
-all_below : (l low high : ℕ) (ds : List Drawn) → high ≤ l → AreFrom low high ds → AllByRecursion (λ (d : Drawn). (d.from == l) ≡ false) ds
+pub all_below : (l low high : ℕ) (ds : List Drawn) → high ≤ l → AreFrom low high ds → AllByRecursion (λ (d : Drawn). (d.from == l) ≡ false) ds
 all_below l low high [] le are = tt
 all_below l low high (d ∷ ds) le are = (ne_eqb d.from l (λ e. apart e le are.0.below), all_below l low high ds le are.1)
   where
     apart : d.from ≡ l → high ≤ l → d.from < high → ⊥
     apart e a b = omega (arith, e, a, b)
 
-all_above : (l low high : ℕ) (ds : List Drawn) → l < low → AreFrom low high ds → AllByRecursion (λ (d : Drawn). (d.from == l) ≡ false) ds
+pub all_above : (l low high : ℕ) (ds : List Drawn) → l < low → AreFrom low high ds → AllByRecursion (λ (d : Drawn). (d.from == l) ≡ false) ds
 all_above l low high [] lt are = tt
 all_above l low high (d ∷ ds) lt are = (ne_eqb d.from l (λ e. apart e lt are.0.from), all_above l low high ds lt are.1)
   where

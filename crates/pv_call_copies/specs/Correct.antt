@@ -3,13 +3,15 @@ use Rattle.std.specs.Prelude.{◌≡◌, ℕ, ◌+◌, ◌<◌, ◌≤◌, List,
 use Rattle.std.specs.List.{AllByRecursion}
 use Rattle.pv_machine.specs.Machines.{Values}
 use Rattle.pv_flow.specs.Terms.{Term, Valuation, value_of}
-use Rattle.pv_flow.specs.Automata.{Set, Edge, Loop, Parts, types_of, edges_from, calls_from, ends_of}
+use Rattle.pv_flow.specs.Automata.{Set, Edge, Loop, Parts, types_of, HasValues, edges_from, calls_from, ends_of}
 use Rattle.pv_flow.specs.Faults.{enters_well, has_variables, IsFaultless}
 use Rattle.pv_flow.specs.WellMade.{IsVariable, IsEdge, OneIsTrue, turns_well, leads_well, is_end, are_different, IsWellMade}
-use Rattle.pv_flow.specs.Runs.{Outcome, assigned, run}
+use Rattle.pv_flow.specs.Runs.{Outcome, assigned, run, control_of, first_spot}
 use Rattle.pv_flow.specs.Calls.{Blocks, block_at, needed, Work, assigned_in, cleared, EndsAs}
 use Rattle.pv_flow.specs.Fitting.{AreFitting, AreSound}
-use Rattle.pv_flow.specs.Machines.{state_ranges, input_ranges, param_ranges, start_of, begin_at, left_of, IsInlined}
+use Rattle.pv_flow.specs.Machines.{state_ranges, input_ranges, param_ranges, start_of, begin_at, left_of, IsInlined, inlined_machine}
+use Rattle.pv_flow.specs.CallMachines.{IsMachineWithCalls}
+use Rattle.pv_flow.specs.Correct.{Ends}
 use Rattle.pv_call_copies.specs.Renaming.{renamed, renamed_sets, resets}
 use Rattle.pv_call_copies.specs.Nests.{nests_control, first_nest}
 use Rattle.pv_call_copies.specs.Inlined.{added, span, Body, Drawn, drawn, inlined_size, inlined}
@@ -34,6 +36,22 @@ ResetsClear = (k : Work) (w : Valuation) → assigned (resets k) w ≡ cleared k
 abbrev pub CallsAreNests : Type 0
 CallsAreNests = (blocks : Blocks) (n : ℕ) (p : Parts) (w : Valuation) (out : Outcome) → EndsAs blocks n p w out
     → (steps : ℕ) × (run (nests_control blocks n) steps (first_nest p) w ≡ Some out)
+
+-- a run of nests is one of the automaton with copies, with as many steps
+abbrev pub NestsAreCopies : Type 0
+NestsAreCopies = (blocks : Blocks) (n b : ℕ) (p : Parts) (steps : ℕ) (w : Valuation) → AreFitting blocks → AreSound blocks
+    → block_at blocks b ≡ Some p
+    → run (nests_control blocks n) steps (first_nest p) w ≡ run (control_of (inlined blocks p) n) steps (first_spot (inlined blocks p)) w
+
+-- so the entry's run with calls is one of it, with the same end and the same valuation
+abbrev pub CallsAreCopies : Type 0
+CallsAreCopies = (blocks : Blocks) (n b : ℕ) (p : Parts) (w : Valuation) (out : Outcome) → AreFitting blocks → AreSound blocks
+    → block_at blocks b ≡ Some p → EndsAs blocks n p w out → (steps : ℕ) × Ends (inlined blocks p) n steps w out
+
+-- and as its run ends, where variables have values of their types, so does the entry's with calls
+abbrev pub CopiesAreCalls : Type 0
+CopiesAreCalls = (blocks : Blocks) (n b : ℕ) (p : Parts) (steps : ℕ) (w : Valuation) (out : Outcome) → AreFitting blocks → AreSound blocks → 0 < n
+    → block_at blocks b ≡ Some p → HasValues p w → Ends (inlined blocks p) n steps w out → EndsAs blocks n p w out
 
 -- ---- parts
 
@@ -117,3 +135,8 @@ pub record KeepsVariables (blocks : Blocks) (p : Parts) : Type 0 where
 -- so the automaton with copies begins with what the entry's begins with, and leaves what that leaves
 abbrev pub VariablesStay : Type 0
 VariablesStay = (blocks : Blocks) (p : Parts) → KeepsVariables blocks p
+
+-- the machine of the automaton with copies is that of the entry with calls
+abbrev pub InlinedHasTheMachine : Type 0
+InlinedHasTheMachine = (blocks : Blocks) (n b : ℕ) (p : Parts) → AreFitting blocks → AreSound blocks → 0 < n
+    → block_at blocks b ≡ Some p → IsMachineWithCalls blocks n p (inlined_machine (inlined blocks p) n)

@@ -1,5 +1,5 @@
 //! Laws of copies of called blocks, each the contract of a function that does nothing. Their statements are those of `specs/Correct`.
-ghost use Rattle.pv_call_copies.specs.Correct.{TermsAreRenamed, SetsAreRenamed, ResetsClear, CallsAreNests, VariablesAreNeeded, InlinedIsWellMade, InlinedHasNoCalls, EdgesAreCounted, CopiesStand, PartsAreMade, LoopsAreEntered, EdgesLead, VariablesStay};
+ghost use Rattle.pv_call_copies.specs.Correct.{TermsAreRenamed, SetsAreRenamed, ResetsClear, CallsAreNests, NestsAreCopies, CallsAreCopies, CopiesAreCalls, VariablesAreNeeded, InlinedIsWellMade, InlinedHasNoCalls, EdgesAreCounted, CopiesStand, PartsAreMade, LoopsAreEntered, EdgesLead, VariablesStay, InlinedHasTheMachine};
 
 /// A renamed term has the value that the term has where each variable is read at its place.
 pub fn terms_are_renamed()
@@ -19,6 +19,21 @@ pub fn resets_clear()
 /// The entry's run with calls is one of nests.
 pub fn calls_are_nests()
     ensures { CallsAreNests }
+{}
+
+/// A run of nests is one of the automaton with copies.
+pub fn nests_are_copies()
+    ensures { NestsAreCopies }
+{}
+
+/// The entry's run with calls is one of the automaton with copies, with the same end and the same valuation.
+pub fn calls_are_copies()
+    ensures { CallsAreCopies }
+{}
+
+/// As a run of the automaton with copies ends, so does the entry's with calls.
+pub fn copies_are_calls()
+    ensures { CopiesAreCalls }
 {}
 
 /// A call adds as many variables as it needs.
@@ -64,4 +79,9 @@ pub fn edges_lead()
 /// What calls add is no part of states, inputs and parameters, and begins with 0.
 pub fn variables_stay()
     ensures { VariablesStay }
+{}
+
+/// The machine of the automaton with copies is that of the entry with calls.
+pub fn inlined_has_the_machine()
+    ensures { InlinedHasTheMachine }
 {}
