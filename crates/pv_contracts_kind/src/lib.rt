@@ -1,4 +1,4 @@
-//! Contract tests of pv_kind: its call once more, with the clauses of the library.
+//! Contract tests of pv_kind and pv_evidence: their calls once more, with the clauses of the libraries.
 #![tactic(auto)]
 
 ghost use Rattle.std.specs.Prelude.{◌≡◌, ℕ, ◌≤◌, true, IfOk};
@@ -7,6 +7,9 @@ ghost use Rattle.pv_kind.specs.declared.told.TheConstants.{LAST_QUERY};
 ghost use Rattle.pv_kind.specs.Refinements.{IsRefinedInFew};
 ghost use Rattle.pv_kind.specs.Decisions.{Decides, IsUnspent, IsProvedBy, IsFailedBy};
 
+mod evidence;
+
+pub use evidence::decide_case;
 use pv_kind::{Decision, Limits, Oracle, OracleFault};
 use std::alloc::Global;
 

@@ -121,7 +121,7 @@ module _ (case : Case) (sound : IsSound case) (e : Encoding) (first last : Stage
 
   -- ---- end by end
 
-  right-of : (end : End) → Decides case.machine e first last limits proofs end → IsRight case (certificate_of case proofs end)
+  pub right-of : (end : End) → Decides case.machine e first last limits proofs end → IsRight case (certificate_of case proofs end)
   right-of (Proved k) d = proved-right case.facts.goal k refl (subst (λ (n : ℕ). k ≤ n) o.depth d.within)
       (proofs-of case e first limits o last (bases k ++ Step k ∷ []) proofs d.are_proofs)
   right-of (Failed n t) d =
