@@ -1,0 +1,6 @@
+pub mod Spots
+pub mod Flows
+pub mod Layout
+pub mod SpotRuns
+pub mod Bodies
+pub mod Correct
