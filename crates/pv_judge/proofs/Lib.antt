@@ -1,3 +1,4 @@
+pub mod Answering
 pub mod Compares
 pub mod Empties
 pub mod Finds

@@ -4,6 +4,7 @@
 //! time, and it is given up before the next one.
 #![tactic(auto)]
 
+mod bytes;
 mod certificate;
 mod expected;
 mod joined;
@@ -14,4 +15,5 @@ mod trace;
 mod values;
 mod words;
 
+pub use bytes::judge_bytes;
 pub use certificate::judge;

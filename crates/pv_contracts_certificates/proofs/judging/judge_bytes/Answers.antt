@@ -1,0 +1,7 @@
+use Rattle.pv_contracts_certificates.proofs.judging.judge_bytes.Goals as goal
+
+pub returns-clause-answer : goal.returns-clause-answer
+returns-clause-answer g c = c.judge_bytes.ensures.answer
+
+pub returns-clause-only : goal.returns-clause-only
+returns-clause-only g c = c.judge_bytes.ensures.only
