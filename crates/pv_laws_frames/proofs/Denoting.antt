@@ -19,7 +19,7 @@ bit-same true false e = absurd (omega (arith, e))
 bit-same false true e = absurd (omega (arith, e))
 bit-same false false e = refl
 
-number-few : (bits : List Bool) → number_of bits < 2 ^ length bits
+pub number-few : (bits : List Bool) → number_of bits < 2 ^ length bits
 number-few [] = omega arith
 number-few (b ∷ bits) =
     let rest = number-few bits in
@@ -46,7 +46,7 @@ number-same (x ∷ xs) (y ∷ ys) long e =
 abbrev pub value_of_bits : Ty → List Bool → ℤ
 value_of_bits ty bits = wrap_of ty (pos (number_of bits))
 
-bits-denote : (ty : Ty) (bits : List Bool) → length bits ≡ width_of ty → AreBitsOf ty bits (value_of_bits ty bits)
+pub bits-denote : (ty : Ty) (bits : List Bool) → length bits ≡ width_of ty → AreBitsOf ty bits (value_of_bits ty bits)
 bits-denote ty bits long = record {
   width = long;
   in_range = wrap-in_range (width_of ty) (is_signed_of ty) (pos (number_of bits)) (wide ty);

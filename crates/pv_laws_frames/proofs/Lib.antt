@@ -1,2 +1,3 @@
 pub mod Denoting
 pub mod MachineRuns
+pub mod ForCallers

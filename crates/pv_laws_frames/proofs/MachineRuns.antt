@@ -22,7 +22,7 @@ use Rattle.pv_laws_frames.proofs.Denoting.{denoted, denote-same}
 
 -- ---- bits of states
 
-are-state : (start : List Start) (bits : List Bool) → AreStart start bits → AreState start bits
+pub are-state : (start : List Start) (bits : List Bool) → AreStart start bits → AreState start bits
 are-state [] [] h = tt
 are-state [] (b ∷ bits) h = h
 are-state (s ∷ start) [] h = h
@@ -34,7 +34,7 @@ are-state (s ∷ start) (b ∷ bits) h = (by s h.0, are-state start bits h.1)
     by Free e = tt
 
 -- behind a scan they are those of a state
-state-behind : (start : List Start) (before end : List Bool) → AreState start before → length end ≡ length start → AreState start (next_of start before end)
+pub state-behind : (start : List Start) (before end : List Bool) → AreState start before → length end ≡ length start → AreState start (next_of start before end)
 state-behind [] before end h long = tt
 state-behind (s ∷ start) [] end h long = h
 state-behind (s ∷ start) (x ∷ before) [] h long = absurd (omega (arith, long))

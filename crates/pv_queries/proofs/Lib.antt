@@ -1,0 +1,5 @@
+mod Reading
+mod Meets
+mod Fitting
+mod Types
+pub mod ForCallers

@@ -1,0 +1,10 @@
+use Rattle.std.proofs.Common.{◌∙◌, ap, length, List}
+use Rattle.pv_word.specs.declared.types.Ty.{Ty}
+use Rattle.pv_queries.proofs.Types.{input-types}
+use Rattle.pv_queries.proofs.machine.CircuitMachineMachine.input_len.Goals as goal
+
+pub returns : goal.returns
+returns g c =
+    let at = c.args.self.now.circuits.now in
+    ap (λ (ts : List Ty). length ts) c.input_types.ensures
+    ∙ input-types (g.C.StepSource.machine at) (g.C.StepSource.form at) (g.C.StepSource.start at) (g.C.StepSource.step at) (g.met.C.StepSource.steps at)

@@ -1,0 +1,4 @@
+pub mod Built
+pub mod Numbers
+pub mod Meeting
+pub mod Lawful
