@@ -38,6 +38,20 @@ def copy_proofs(text, crate):
         shutil.copy(file, copy)
 
 
+def take_modules(text, crate):
+    """Makes a program's copy a library, if a file of its name lies beside a bench's text: the file is its lib.rt, and the modules that it
+    doesn't name are left out."""
+    facade = pathlib.Path(text).parent / f"{crate.name}.txt"
+    if not facade.exists():
+        return
+    (crate / "src" / "main.rt").unlink()
+    for file in (crate / "src").glob("*.rt"):
+        if not re.search(rf"\bmod {file.stem};", facade.read_text()):
+            file.unlink()
+            shutil.rmtree(crate / "proofs" / file.stem, ignore_errors=True)
+    shutil.copy(facade, crate / "src" / "lib.rt")
+
+
 def copied(place, name, text):
     """The folder of the crate of this name whose main.rt is the text, in a repository that is made in this place for it and the
     libraries below."""
@@ -48,6 +62,7 @@ def copied(place, name, text):
     for library in libraries:
         left_out = shutil.ignore_patterns("must-fail", "out")
         shutil.copytree(ROOT / "crates" / library, place / "crates" / library, ignore=left_out)
+        take_modules(text, place / "crates" / library)
     shutil.copy(ROOT / "HANDLES", place)
     own = f"{name}: anyhow {' '.join(used)}"
     (place / "crates.txt").write_text("\n".join([*(lines[library][0] for library in libraries), own]) + "\n")

@@ -1,4 +1,5 @@
-"""Formulas for solvers, as DIMACS text: pigeons in holes, random clauses of three literals, and two adders that are to differ."""
+"""Formulas for solvers, as DIMACS text: pigeons in holes, random clauses of three literals, adders and products that are to differ, steps of
+latches and of counters, and a chain."""
 import random
 
 
@@ -113,38 +114,64 @@ def product(circuit, left, right):
     return total
 
 
-def products(width):
-    """A bit in which the product of two words differs from that of the same in the other order: there is none."""
+def products(width, word=16):
+    """A bit in which the product of two words below 2^width differs from that of the same in the other order: there is none."""
     circuit = Circuit()
-    left = [circuit.input() for _ in range(width)]
-    right = [circuit.input() for _ in range(width)]
+    left = [circuit.input() for _ in range(word)]
+    right = [circuit.input() for _ in range(word)]
     one, two = product(circuit, left, right), product(circuit, right, left)
+    circuit.clauses.extend([-bit] for bit in [*left[width:], *right[width:]])
     circuit.clauses.append([circuit.differ(a, b) for a, b in zip(one, two)])
     return dimacs(circuit.variables, circuit.clauses)
 
 
+def step_query(circuit, before, after):
+    """What k-induction asks of one scan: all that is to hold did before it, and not all does after it."""
+    held, holds = before[0], after[0]
+    for a, b in zip(before[1:], after[1:]):
+        held, holds = circuit.both(held, a), circuit.both(holds, b)
+    circuit.clauses.extend([[held], [-holds]])
+    return dimacs(circuit.variables, circuit.clauses)
+
+
 def latches(count):
-    """A step of so many latches 'start or run, and not stop', of which one is to be on, off, and started: there is a way."""
+    """A scan of so many latches 'start or run, and not stop', all of which run before it, and not all after it: there is a way."""
     circuit = Circuit()
-    ends = []
+    before, after = [], []
     for _ in range(count):
         start, run, stop = circuit.input(), circuit.input(), circuit.input()
-        ends.append(circuit.both(circuit.either(start, run), -stop))
-    circuit.clauses.append(ends)
-    circuit.clauses.extend([-a, -b] for a, b in zip(ends, ends[1:]))
-    return dimacs(circuit.variables, circuit.clauses)
+        before.append(run)
+        after.append(circuit.both(circuit.either(start, run), -stop))
+    return step_query(circuit, before, after)
+
+
+def choice(circuit, select, yes, no):
+    """The one word where the bit is set, else the other."""
+    return [circuit.either(circuit.both(select, a), circuit.both(-select, b)) for a, b in zip(yes, no)]
+
+
+def is_below(circuit, left, right):
+    """Whether one word is less than the other."""
+    below = circuit.both(-left[0], right[0])
+    for a, b in zip(left[1:], right[1:]):
+        below = circuit.either(circuit.both(-a, b), circuit.both(-circuit.differ(a, b), below))
+    return below
 
 
 def counters(count, width=16):
-    """Two steps of so many counters, all of which are to be past their ends after the second but not after the first."""
+    """A scan of so many counters that count up where they are told to and are below their limits, and begin anew where they are told
+    to: all are at most their limits before it, and not all after it. There is none."""
     circuit = Circuit()
+    before, after = [], []
     for _ in range(count):
-        bits, ticks = [circuit.input() for _ in range(width)], [circuit.input() for _ in range(2)]
-        for step, tick in enumerate(ticks):
-            carry, after = tick, []
-            for bit in bits:
-                after.append(circuit.differ(bit, carry))
-                carry = circuit.both(bit, carry)
-            circuit.clauses.append([carry if step == 1 else -carry])
-            bits = after
-    return dimacs(circuit.variables, circuit.clauses)
+        value, limit = [circuit.input() for _ in range(width)], [circuit.input() for _ in range(width)]
+        up, reset = circuit.input(), circuit.input()
+        carry, more = circuit.both(up, is_below(circuit, value, limit)), []
+        counts = carry
+        for bit in value:
+            more.append(circuit.differ(bit, carry))
+            carry = circuit.both(bit, carry)
+        then = [circuit.both(-reset, bit) for bit in choice(circuit, counts, more, value)]
+        before.append(-is_below(circuit, limit, value))
+        after.append(-is_below(circuit, limit, then))
+    return step_query(circuit, before, after)

@@ -1,13 +1,14 @@
 #!/usr/bin/env python3
 """Times the solver beside minisat and cadical on the same formulas, and has the log of each refuted one checked.
 
-Usage: run.py [seeds=N] [KIND=SIZE,..].. with the kinds pigeons, random, adders, products, latches, counters and chain; without a kind
-seeds=5 pigeons=7,8,9 random=150,200 adders=32,64 products=5 latches=10000 counters=100 chain=200000,400000. Builds the programs in a temporary copy of the crates, and needs `rt`, a C compiler, and
-`minisat` and `cadical` (Debian's packages). For each formula it prints the answer, processor times of whole processes (the least of five, of
-fewer where they are long), numbers of conflicts (of the solver: the lines of its log, each of which came of a conflict), and the
-ratios. Where the answer is Unsat, the log is checked by `Checker::check`, by `Checker::check_new`, and by lrat.c. Of the random
-formulas, whose conflicts are a matter of luck where some values make them hold, only the sums over the seeds are printed, apart
-for those that hold and those that don't."""
+Usage: run.py [program=FILE] [seeds=N] [KIND=SIZE,..].. with the kinds pigeons, random, adders, products, latches, counters and chain;
+without a kind seeds=5 pigeons=7,8,9 random=150,200 adders=32,64 products=5 latches=10000 counters=100 chain=200000,400000. Builds the
+program in a temporary copy of the crates, unless it is given one that was built so. Needs `rt`, a C compiler, and `minisat` and `cadical`
+(Debian's packages). For each formula it prints the answer, processor times of whole processes (the least of five, of fewer where they are
+long), numbers of conflicts (of the solver: the lines of its log, each of which came of a conflict), and the ratios. Where the answer is
+Unsat, the log is checked by `Checker::check`, by `Checker::check_new`, and by lrat.c. Of the random formulas, whose conflicts are a
+matter of luck where some values make them hold, only the sums over the seeds are printed, apart for those that hold and those that
+don't."""
 import pathlib
 import re
 import shutil
@@ -65,7 +66,9 @@ def other(name, formula):
     """Seconds, conflicts and whether no values make the formula hold, of another solver."""
     conflicts, refuted = OTHERS[name]
     took, said = timed([name, formula], statuses=(10, 20))
-    return took, int(re.search(conflicts, said, re.M).group(1)), bool(re.search(refuted, said, re.M))
+    # (without a conflict cadical prints no number of them)
+    count = re.search(conflicts, said, re.M)
+    return took, int(count.group(1)) if count else 0, bool(re.search(refuted, said, re.M))
 
 
 def said_by(command):
@@ -141,16 +144,17 @@ SINGLE = {
     "adders": (lambda width: f"two adders of {width} bits", adders),
     "products": (lambda width: f"two products of {width} bits", products),
     "latches": (lambda count: f"a step of {count} latches", latches),
-    "counters": (lambda count: f"two steps of {count} counters", counters),
+    "counters": (lambda count: f"a step of {count} counters", counters),
     "chain": (lambda variables: f"a chain of {variables} variables", chain),
 }
 
 
 def asked(words):
-    """The number of seeds and the sizes of each kind that the words name, of all where they name none."""
-    given = {name: list(map(int, sizes.split(","))) for name, sizes in (word.split("=") for word in words)}
-    seeds = given.pop("seeds", [5])[0]
-    return seeds, given or SIZES
+    """The program that the words name, the number of seeds, and the sizes of each kind that they name, of all where they name none."""
+    given = dict(word.split("=") for word in words)
+    program = given.pop("program", None)
+    seeds = int(given.pop("seeds", 5))
+    return program, seeds, {name: list(map(int, sizes.split(","))) for name, sizes in given.items()} or SIZES
 
 
 def run_all(programs, place, seeds, sizes):
@@ -162,11 +166,11 @@ def run_all(programs, place, seeds, sizes):
 
 
 def main():
-    seeds, sizes = asked(sys.argv[1:])
+    program, seeds, sizes = asked(sys.argv[1:])
     machine()
     with tempfile.TemporaryDirectory() as folder:
         place = pathlib.Path(folder)
-        program = built(place, "solver_bench", HERE / "program.txt")
+        program = pathlib.Path(program).resolve() if program else built(place, "solver_bench", HERE / "program.txt")
         plain = place / "lrat"
         subprocess.run(["cc", "-O2", "-o", plain, HERE / "lrat.c"], check=True)
         run_all((program, plain), place, seeds, sizes)
