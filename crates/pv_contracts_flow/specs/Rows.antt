@@ -4,6 +4,7 @@ use Rattle.pv_word.specs.declared.types.Ty.TheVariants.{Bool}
 use Rattle.pv_flow.specs.declared.term.Node.TheVariants as node
 use Rattle.pv_flow.specs.declared.parts.Parts.{Parts}
 use Rattle.pv_flow.specs.declared.parts.Edge.{Edge}
+use Rattle.pv_flow.specs.declared.parts.CallEdge.{CallEdge}
 use Rattle.pv_flow.specs.declared.parts.Deed.{Deed}
 use Rattle.pv_flow.specs.declared.parts.Set.{Set}
 use Rattle.pv_flow.specs.declared.parts.Loop.{Loop}
@@ -81,6 +82,24 @@ pub record IsOneEdge (p : Parts) : Type 0 where
   pub locations : p.locations ≡ 2
   pub edges : p.edges.items ≡ edge 0 1 ∷ []
   pub calls : p.calls.items ≡ []
+  pub loops : p.loops.items ≡ []
+  pub done : p.done ≡ 1
+  pub traps : p.traps.items ≡ []
+  pub overs : p.overs.items ≡ []
+
+abbrev pub run : CallEdge
+run = record { from = 0; to = 1; block = 0; instance = 0; place = record { file = 0; offset = 0 } }
+
+-- two locations, and a call edge from the one to the other, which runs block 0
+pub record IsOneCall (p : Parts) : Type 0 where
+  pub nodes : p.nodes.items ≡ []
+  pub deeds : p.deeds.items ≡ []
+  pub vars : p.vars.items ≡ []
+  pub bound : p.bound ≡ 0
+  pub shared : p.shared ≡ 0
+  pub locations : p.locations ≡ 2
+  pub edges : p.edges.items ≡ []
+  pub calls : p.calls.items ≡ run ∷ []
   pub loops : p.loops.items ≡ []
   pub done : p.done ≡ 1
   pub traps : p.traps.items ≡ []

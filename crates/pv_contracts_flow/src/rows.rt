@@ -3,8 +3,9 @@ ghost use Rattle.pv_flow.specs.Faults.{IsFaultless};
 ghost use Rattle.pv_flow.specs.View.{parts_of};
 
 use crate::calls::{attached_to, bound_of, build};
+use crate::copies::{inlined_size, one_call};
 use crate::parts::{edge_past, entered_within, fault_of_crossing, loops_cross, one_edge, set_past};
-use pv_flow::{FlowFault, Parts};
+use pv_flow::{Automaton, FlowFault, Parts};
 use std::alloc::{AllocError, Global};
 use std::test::Fail;
 
@@ -58,6 +59,32 @@ fn attached_at_once(alloc: Global) -> Result<bool, FlowFault> {
     Ok(attached_to(automaton, None).is_some())
 }
 
+/// The automaton is the next block's.
+fn push(blocks: &mut Vec<Option<Automaton>>, automaton: Automaton) -> Result<(), AllocError> {
+    blocks.push(Some(automaton))?;
+    Ok(())
+}
+
+#[tactic(auto, using(crate::proofs::RowLaws::one_is_well_made, crate::proofs::RowLaws::one_is_tabled))]
+fn push_edge(alloc: Global, blocks: &mut Vec<Option<Automaton>>) -> Result<(), FlowFault> {
+    let automaton = build(alloc, one_edge(alloc)?)?;
+    Ok(push(blocks, automaton)?)
+}
+
+#[tactic(auto, using(crate::proofs::CallLaws::call_is_well_made, crate::proofs::CallLaws::call_is_tabled))]
+fn push_call(alloc: Global, blocks: &mut Vec<Option<Automaton>>) -> Result<(), FlowFault> {
+    let automaton = build(alloc, one_call(alloc)?)?;
+    Ok(push(blocks, automaton)?)
+}
+
+/// The size of the block of number `entry`: block 0 has one edge, block 1 one call of it.
+fn size_at_once(alloc: Global, entry: u32) -> Result<Option<u64>, FlowFault> {
+    let mut blocks = Vec::new(alloc);
+    push_edge(alloc, &mut blocks)?;
+    push_call(alloc, &mut blocks)?;
+    Ok(inlined_size(blocks.as_slice(), entry).ok())
+}
+
 #[test]
 fn parts_are_refused(rt: HostRuntime) -> Result<(), Fail> {
     let alloc = rt.alloc();
@@ -73,5 +100,14 @@ fn one_edge_is_built(rt: HostRuntime) -> Result<(), Fail> {
     let alloc = rt.alloc();
     assert_eq!(rt; bound_at_once(alloc), Ok(16));
     assert_eq!(rt; attached_at_once(alloc), Ok(false));
+    Ok(())
+}
+
+#[test]
+fn a_call_becomes_two_edges_and_its_block(rt: HostRuntime) -> Result<(), Fail> {
+    let alloc = rt.alloc();
+    assert_eq!(rt; size_at_once(alloc, 0), Ok(Some(1)));
+    assert_eq!(rt; size_at_once(alloc, 1), Ok(Some(3)));
+    assert_eq!(rt; size_at_once(alloc, 2), Ok(Some(0)));
     Ok(())
 }

@@ -1,0 +1,5 @@
+pub mod Small
+pub mod Lying
+pub mod Copied
+pub mod DeedLaws
+pub mod ResetLaws

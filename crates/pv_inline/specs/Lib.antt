@@ -1,0 +1,5 @@
+-- what public clauses cite
+pub mod Blocks
+pub mod Correct
+-- what the code computes
+pub mod Counts

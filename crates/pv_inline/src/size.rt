@@ -1,0 +1,94 @@
+//! How many edges there are once calls are copied, before anything is.
+ghost use Rattle.std.specs.Prelude.{◌≡◌, ◌+◌, ◌<◌, ◌≤◌, map, length, MatchOption, IfOk, IfErr, None, Some};
+ghost use Rattle.pv_flow.specs.AutomatonView.{automaton_of};
+ghost use Rattle.pv_flow.specs.Calls.{block_at};
+ghost use Rattle.pv_flow.specs.View.{call_edge_of};
+ghost use Rattle.pv_inline.specs.Blocks.{blocks_of};
+ghost use Rattle.pv_inline.specs.Counts.{capped, size_after, calls_after};
+ghost use Rattle.pv_inline.specs.Correct.{IsWithin, IsOver, IsSizeOf, IsTooLarge};
+
+use crate::fault::{BEYOND, MAX_EDGES, TooLarge};
+use pv_flow::{Automaton, CallEdge};
+
+/// The number, as far as is counted.
+fn capped(n: u64) -> u64
+    ensures { result ≡ capped n }
+{
+    n.min(BEYOND)
+}
+
+/// The sum of two numbers of edges.
+fn sum(a: u64, b: u64) -> u64
+    ensures { result ≡ capped (a + b) }
+{
+    capped(a.saturating_add(b))
+}
+
+/// The block of this number, if it has code.
+pub(crate) fn block_at(blocks: &[Option<Automaton>], block: u32) -> Option<&Automaton>
+    ensures { MatchOption result (block_at (blocks_of blocks.now) block ≡ None)
+        (λ a. block_at (blocks_of blocks.now) block ≡ Some (automaton_of a.now)) }
+{
+    match blocks.get(block as usize) {
+        Some(Some(automaton)) => Some(automaton),
+        _ => None,
+    }
+}
+
+/// The total with the block's edges, its calls copied down so many levels. Each call adds two edges at least, so where the count stops no
+/// more blocks were looked at than there may be edges.
+#[cycle(sizing)]
+fn size_after(blocks: &[Option<Automaton>], levels: usize, block: u32, total: u64) -> u64
+    ensures { result ≡ size_after (blocks_of blocks.now) levels block total }
+{
+    if total >= BEYOND {
+        return BEYOND;
+    }
+    if levels == 0 {
+        return total;
+    }
+    match block_at(blocks, block) {
+        Some(automaton) => {
+            let parts = automaton.parts();
+            let own = parts.edges.as_slice();
+            let calls = parts.calls.as_slice();
+            calls_after(blocks, levels - 1, calls, sum(total, own.len() as u64))
+        }
+        None => total,
+    }
+}
+
+/// The total with what the call edges become.
+#[cycle(sizing)]
+fn calls_after(blocks: &[Option<Automaton>], levels: usize, calls: &[CallEdge], total: u64) -> u64
+    ensures { result ≡ calls_after (blocks_of blocks.now) levels (map call_edge_of calls.now) total }
+{
+    let mut all = total;
+    for call in calls {
+        let both = sum(all, 2);
+        all = size_after(blocks, levels, call.block, both);
+    }
+    capped(all)
+}
+
+/// The number of edges, if there may be so many.
+fn within_limit(size: u64) -> Result<u64, TooLarge>
+    ensures size { IfOk result (IsWithin size) }
+    ensures large { IfErr result (IsOver size) }
+{
+    if size > MAX_EDGES {
+        Err(TooLarge::Edges)
+    } else {
+        Ok(size)
+    }
+}
+
+/// How many edges the block of number `entry` has once each of its calls is a copy of the called block: each call edge becomes two edges
+/// and those of its block. 0 where there is no such block; `TooLarge::Edges` where there are more than [`MAX_EDGES`].
+pub fn inlined_size(blocks: &[Option<Automaton>], entry: u32) -> Result<u64, TooLarge>
+    ensures size { IfOk result (IsSizeOf (blocks_of blocks.now) entry) }
+    ensures large { IfErr result (IsTooLarge (blocks_of blocks.now) entry) }
+{
+    let size = size_after(blocks, blocks.len(), entry, 0);
+    within_limit(size)
+}
