@@ -1,13 +1,16 @@
 //! The calls of automata.
-ghost use Rattle.std.specs.Prelude.{◌≡◌, true, length, IfOk, IfErr, IfSome};
+ghost use Rattle.std.specs.Prelude.{◌≡◌, ◌≤◌, true, length, None, IfOk, IfErr, IfSome, OnOk};
+ghost use Rattle.pv_machine.specs.Same.{IsSame};
 ghost use Rattle.pv_flow.specs.Faults.{IsFaultless, IsFaultOf};
 ghost use Rattle.pv_flow.specs.WellMade.{IsWellMade};
-ghost use Rattle.pv_flow.specs.Machines.{IsInlined, IsAcyclic, IsAttached};
+ghost use Rattle.pv_flow.specs.Machines.{IsInlined, IsAcyclic, IsAttached, inlined_machine, acyclic_machine};
 ghost use Rattle.pv_flow.specs.View.{parts_of, terms_of};
 ghost use Rattle.pv_flow.specs.Tables.{AreTabled, is_tabled};
 ghost use Rattle.pv_flow.specs.AutomatonView.{automaton_of, code_of, attached_of, attached_to, terms_in};
-ghost use Rattle.pv_flow.specs.MachineView.{acyclic_parts, inlined_parts, bound_of};
-ghost use Rattle.pv_unroll.specs.Correct.{IsSizeOf, IsTooLarge};
+ghost use Rattle.pv_flow.specs.MachineView.{acyclic_parts, attached_in, inlined_parts, bound_of};
+ghost use Rattle.pv_copies.specs.Unrolled.{unrolled, unrolled_size};
+ghost use Rattle.pv_unroll.specs.declared.fault.TheConstants.{MAX_EDGES};
+ghost use Rattle.pv_unroll.specs.Correct.{CanUnroll, IsSizeOf, IsTooLarge, IsForward};
 
 use pv_flow::{Acyclic, Attached, Automaton, FlowFault, Inlined, Parts, acyclic, inlined};
 use pv_unroll::TooLarge;
@@ -64,4 +67,25 @@ pub fn unrolled_size(alloc: Global, from: &Inlined) -> Result<u64, TooLarge>
     ensures large { IfErr result (IsTooLarge (inlined_parts from.now) (bound_of from.now)) }
 {
     pv_unroll::unrolled_size(alloc, from)
+}
+
+/// [`pv_unroll::copy_loops`].
+pub fn copy_loops(alloc: Global, parts: Parts, bound: u32) -> Result<Parts, TooLarge>
+    ensures copies { CanUnroll parts bound → IfOk result (λ made. parts_of made ≡ unrolled (parts_of parts) bound) }
+    ensures forward { CanUnroll parts bound → IfOk result IsForward }
+    ensures fits { CanUnroll parts bound → OnOk result (unrolled_size (parts_of parts) bound ≤ MAX_EDGES) }
+    ensures large { CanUnroll parts bound → IfErr result (IsTooLarge (parts_of parts) bound) }
+{
+    pv_unroll::copy_loops(alloc, parts, bound)
+}
+
+/// [`pv_unroll::unroll`].
+pub fn unroll(alloc: Global, from: Inlined) -> Result<Acyclic, TooLarge>
+    ensures copies { IfOk result (λ m. acyclic_parts m ≡ unrolled (inlined_parts from) (bound_of from)) }
+    ensures bare { IfOk result (λ m. attached_in m ≡ None) }
+    ensures same { IfOk result (λ m. IsSame (acyclic_machine (acyclic_parts m) (attached_in m)) (inlined_machine (inlined_parts from) (bound_of from))) }
+    ensures fits { OnOk result (unrolled_size (inlined_parts from) (bound_of from) ≤ MAX_EDGES) }
+    ensures large { IfErr result (IsTooLarge (inlined_parts from) (bound_of from)) }
+{
+    pv_unroll::unroll(alloc, from)
 }

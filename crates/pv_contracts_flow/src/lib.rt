@@ -7,7 +7,7 @@ mod parts;
 #[cfg(test)]
 mod rows;
 
-pub use calls::{attach, attached_to, bound_of, build, unrolled_size};
+pub use calls::{attach, attached_to, bound_of, build, copy_loops, unroll, unrolled_size};
 pub use copies::{inlined_size, one_call};
 pub use parts::{
     bare, deed_of, edge_past, entered_within, fault_of_crossing, loops_cross, one_edge, set_past,

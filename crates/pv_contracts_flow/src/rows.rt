@@ -2,10 +2,10 @@
 ghost use Rattle.pv_flow.specs.Faults.{IsFaultless};
 ghost use Rattle.pv_flow.specs.View.{parts_of};
 
-use crate::calls::{attached_to, bound_of, build};
+use crate::calls::{attached_to, bound_of, build, unroll};
 use crate::copies::{inlined_size, one_call};
 use crate::parts::{edge_past, entered_within, fault_of_crossing, loops_cross, one_edge, set_past};
-use pv_flow::{Automaton, FlowFault, Parts};
+use pv_flow::{Automaton, FlowFault, Inlined, Parts, inlined};
 use std::alloc::{AllocError, Global};
 use std::test::Fail;
 
@@ -85,6 +85,25 @@ fn size_at_once(alloc: Global, entry: u32) -> Result<Option<u64>, FlowFault> {
     Ok(inlined_size(blocks.as_slice(), entry).ok())
 }
 
+/// How many edges an automaton has that is unrolled.
+fn edges_unrolled(alloc: Global, from: Inlined) -> usize {
+    match unroll(alloc, from) {
+        Ok(machine) => {
+            let count = machine.automaton().parts().edges.len();
+            drop(machine);
+            count
+        }
+        Err(_) => 0,
+    }
+}
+
+/// How many edges an automaton of one edge has, unrolled.
+#[tactic(auto, using(crate::proofs::RowLaws::one_is_well_made, crate::proofs::RowLaws::one_is_tabled, crate::proofs::RowLaws::one_is_inlined))]
+fn unrolled_at_once(alloc: Global) -> Result<usize, FlowFault> {
+    let automaton = build(alloc, one_edge(alloc)?)?;
+    Ok(edges_unrolled(alloc, inlined(automaton, 16)))
+}
+
 #[test]
 fn parts_are_refused(rt: HostRuntime) -> Result<(), Fail> {
     let alloc = rt.alloc();
@@ -100,6 +119,7 @@ fn one_edge_is_built(rt: HostRuntime) -> Result<(), Fail> {
     let alloc = rt.alloc();
     assert_eq!(rt; bound_at_once(alloc), Ok(16));
     assert_eq!(rt; attached_at_once(alloc), Ok(false));
+    assert_eq!(rt; unrolled_at_once(alloc), Ok(1));
     Ok(())
 }
 

@@ -1,29 +1,36 @@
--- What is unrolled meets the conditions, and what is answered by its size.
-use Rattle.std.proofs.Common.{◌≡◌, ℕ, ◌<◌, ◌≤◌, min, Result, Ok, Err, IfOk, IfErr, refl, subst, ◌∙◌, arith}
+-- What is unrolled meets the conditions, and what is answered by its sizes.
+use Rattle.std.proofs.Common.{◌≡◌, ℕ, ◌<◌, ◌≤◌, min, Option, None, Result, Ok, Err, IfOk, IfErr, sym, subst, ◌∙◌, arith}
+use Rattle.pv_machine.specs.Same.{IsSame}
 use Rattle.pv_flow.specs.declared.parts.Parts.{Parts as CodeParts}
 use Rattle.pv_flow.specs.declared.inlined_machine.Inlined.{Inlined}
+use Rattle.pv_flow.specs.declared.acyclic_machine.Acyclic.{Acyclic}
 use Rattle.pv_flow.specs.Automata.{Parts}
-use Rattle.pv_flow.specs.MachineView.{inlined_code, bound_of}
+use Rattle.pv_flow.specs.Machines.{Attached, inlined_machine, acyclic_machine}
+use Rattle.pv_flow.specs.MachineView.{inlined_parts, inlined_code, bound_of, acyclic_parts, attached_in}
 use Rattle.pv_flow.specs.View.{parts_of}
 use Rattle.pv_flow.proofs.ForCallers.{inlined_keeps}
-use Rattle.pv_copies.specs.Unrolled.{unrolled_size}
+use Rattle.pv_copies.specs.Unrolled.{text_size, unrolled, unrolled_size}
+use Rattle.pv_copies.proofs.ForCallers.{same_machine}
 use Rattle.pv_unroll.specs.declared.numbers.TheConstants.{MOST}
 use Rattle.pv_unroll.specs.declared.fault.TheConstants.{MAX_EDGES}
 use Rattle.pv_unroll.specs.declared.fault.TooLarge.{TooLarge}
 use Rattle.pv_unroll.specs.declared.fault.TooLarge.TheVariants.{Edges, NoMemory}
 use Rattle.pv_unroll.specs.Counts.{capped}
-use Rattle.pv_unroll.specs.Tables.{edge_sizing}
-use Rattle.pv_unroll.specs.Correct.{CanUnroll, IsWithin, IsOver, IsSizeOf, IsTooLarge}
-use Rattle.pv_unroll.proofs.Weights.{edges_are_sized}
+use Rattle.pv_unroll.specs.Tables.{edge_sizing, laid_in, IsReplaced}
+use Rattle.pv_unroll.specs.Correct.{CanUnroll, IsSmall, IsFew, IsWithin, IsOver, IsSizeOf, IsTooLarge, IsForward}
+use Rattle.pv_unroll.proofs.Weights.{edges_are_sized, copies_are_sized}
+use Rattle.pv_unroll.proofs.Replacing.{most_is, edges_most, replaced_are_unrolled, replaced_are_forward}
+use Rattle.pv_unroll.proofs.Walks.{copies_are_laid}
 
 pub can_unroll : (m : Inlined) → CanUnroll (inlined_code m) (bound_of m)
-can_unroll m = let keeps = inlined_keeps m in record { faultless = keeps.0; well_made = keeps.1; inlined = keeps.2 }
+can_unroll m = let keeps = inlined_keeps m in record {
+  faultless = keeps.0;
+  well_made = keeps.1;
+  inlined = keeps.2;
+  tabled = keeps.3;
+}
 
-most_is : MOST ≡ 18446744073709551615
-most_is = refl
-
-edges_most : MAX_EDGES ≡ 200000
-edges_most = refl
+-- ---- sizes
 
 pub counted_is : (p : CodeParts) (n count : ℕ) → CanUnroll p n → p.locations ≤ 4294967295 → count ≡ (edge_sizing p n).here
     → count ≡ capped (unrolled_size (parts_of p) n)
@@ -50,3 +57,48 @@ sizes_are_told p n counted (Err fault) e is = tt
 pub faults_are_told : (p : Parts) (n counted : ℕ) (r : Result ℕ TooLarge) → counted ≡ capped (unrolled_size p n) → IfErr r (IsOver counted) → IfErr r (IsTooLarge p n)
 faults_are_told p n counted (Ok size) e is = tt
 faults_are_told p n counted (Err fault) e is = over_is p n counted fault e is
+
+-- ---- what is laid
+
+uncapped : (n bound most : ℕ) → bound < most → min n most ≤ bound → n ≤ bound
+uncapped n bound most lt le = omega (arith, lt, le)
+
+pub small_of : (p : CodeParts) (n : ℕ) → CanUnroll p n → p.locations ≤ 4294967295 → n ≤ 4294967295 → IsFew p n → IsSmall p n
+small_of p n can narrow bound few = record {
+  edges = uncapped (unrolled_size (parts_of p) n) MAX_EDGES MOST (omega (arith, most_is, edges_most))
+      (subst (λ (m : ℕ). m ≤ MAX_EDGES) (edges_are_sized p n can narrow) few.edges);
+  text = uncapped (text_size (parts_of p) n) 4000000000 MOST (omega (arith, most_is))
+      (subst (λ (m : ℕ). m ≤ 4000000000) (copies_are_sized p n can narrow) few.copies);
+  locations = narrow;
+  bound = bound;
+}
+
+pub copies_of : (p : CodeParts) (n : ℕ) (q : CodeParts) → p.locations ≤ 4294967295 → n ≤ 4294967295 → IsFew p n → IsReplaced p (laid_in p n) q
+    → CanUnroll p n → parts_of q ≡ unrolled (parts_of p) n
+copies_of p n q narrow bound few is can = replaced_are_unrolled copies_are_laid p n q can (small_of p n can narrow bound few) is
+
+pub forward_of : (p : CodeParts) (n : ℕ) (q : CodeParts) → p.locations ≤ 4294967295 → n ≤ 4294967295 → IsFew p n → IsReplaced p (laid_in p n) q
+    → CanUnroll p n → IsForward q
+forward_of p n q narrow bound few is can = replaced_are_forward copies_are_laid p n q can (small_of p n can narrow bound few) is
+
+pub fits_of : (p : CodeParts) (n : ℕ) → p.locations ≤ 4294967295 → IsFew p n → CanUnroll p n → unrolled_size (parts_of p) n ≤ MAX_EDGES
+fits_of p n narrow few can = uncapped (unrolled_size (parts_of p) n) MAX_EDGES MOST (omega (arith, most_is, edges_most))
+    (subst (λ (m : ℕ). m ≤ MAX_EDGES) (edges_are_sized p n can narrow) few.edges)
+
+pub large_of : (p : CodeParts) (n : ℕ) (fault : TooLarge) → p.locations ≤ 4294967295 → IsOver (edge_sizing p n).here fault → CanUnroll p n
+    → IsTooLarge (parts_of p) n fault
+large_of p n fault narrow over can = over_is (parts_of p) n (edge_sizing p n).here fault (edges_are_sized p n can narrow) over
+
+-- memory alone may be wanting
+pub memory_is : (p : Parts) (n : ℕ) (fault : TooLarge) → fault ≡ NoMemory → IsTooLarge p n fault
+memory_is p n fault e = subst (λ (f : TooLarge). IsTooLarge p n f) (sym e) tt
+
+-- ---- the machine
+
+pub same_of : (m : Inlined) (a : Acyclic) → acyclic_parts a ≡ unrolled (inlined_parts m) (bound_of m) → attached_in a ≡ None
+    → IsSame (acyclic_machine (acyclic_parts a) (attached_in a)) (inlined_machine (inlined_parts m) (bound_of m))
+same_of m a parts bare =
+    let keeps = inlined_keeps m in
+    subst (λ (p : Parts). IsSame (acyclic_machine p (attached_in a)) (inlined_machine (inlined_parts m) (bound_of m))) (sym parts)
+    (subst (λ (o : Option Attached). IsSame (acyclic_machine (unrolled (inlined_parts m) (bound_of m)) o) (inlined_machine (inlined_parts m) (bound_of m)))
+    (sym bare) (same_machine (inlined_parts m) (bound_of m) keeps.0 keeps.1 keeps.2))

@@ -1,7 +1,16 @@
+pub mod Answering
 pub mod Caps
+pub mod ChainLaws
 pub mod Conditions
 pub mod Firsts
+pub mod Lays
+pub mod Leads
 pub mod Lists
 pub mod Nest
+pub mod Replacing
+pub mod Rests
 pub mod Sized
+pub mod Stepping
+pub mod Turns
+pub mod Walks
 pub mod Weights

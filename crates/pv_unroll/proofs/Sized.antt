@@ -194,7 +194,7 @@ begins w o n b all weights around (loop ∷ loops) l here s ground low is =
         further other le = omega (arith, lt, le)
 
 -- of the code's loop: it stops, or another loop begins
-drop_at : (n : ℕ) (xs : List CodeLoop) (loop : CodeLoop) → n < length xs → slice_index_or xs n loop ≡ loop
+pub drop_at : (n : ℕ) (xs : List CodeLoop) (loop : CodeLoop) → n < length xs → slice_index_or xs n loop ≡ loop
     → drop n (map loop_of xs) ≡ loop_of loop ∷ drop (suc n) (map loop_of xs)
 drop_at n [] loop lt at = absurd (omega (arith, lt))
 drop_at zero (x ∷ xs) loop lt at = ap (λ (l : CodeLoop). loop_of l ∷ map loop_of xs) at

@@ -1,4 +1,4 @@
-//! Why an automaton has too many edges to be unrolled.
+//! Why an automaton isn't unrolled.
 
 use std::alloc::AllocError;
 use thiserror::Error;
@@ -6,7 +6,7 @@ use thiserror::Error;
 /// The greatest number of edges that an unrolled automaton may have.
 pub const MAX_EDGES: u64 = 200_000;
 
-/// Why an automaton is too large to be unrolled.
+/// Why an automaton isn't unrolled.
 #[derive(Clone, Copy, Debug, PartialEq, Eq, Error)]
 pub enum TooLarge {
     /// It would have so many edges, more than [`MAX_EDGES`]. Counting stops at the greatest number of 64 bits.

@@ -1,14 +1,23 @@
-//! How many edges an automaton with loops has once its loops are unrolled, each turn a copy.
+//! Loops become copies: an automaton with loops becomes one whose edges lead forward.
 //!
-//! One pass over the locations in their order, once through each loop: where a loop ends it is known what a turn takes. Nothing
-//! recurses.
+//! A first pass in the order of the text, once through each loop, says what a turn takes and where first copies stand. Then the
+//! text is laid from its beginning to its end: where a copy stands is where the first of its kind does, and what the turns before
+//! it take. Nothing recurses, and laying takes no memory but what it lays and two numbers for each loop around.
 #![tactic(auto)]
 
-mod counts;
+mod chains;
+mod counting;
+mod endings;
 mod fault;
+pub mod laws;
+mod lay;
+mod lead;
 mod numbers;
 mod sizing;
+mod turning;
 mod unrolling;
+mod walk;
 
+pub use counting::unrolled_size;
 pub use fault::{MAX_EDGES, TooLarge};
-pub use unrolling::unrolled_size;
+pub use unrolling::{copy_loops, unroll};

@@ -33,6 +33,13 @@ pub(crate) fn minus(a: u64, b: u64) -> u64
     a.saturating_sub(b)
 }
 
+/// The number in 32 bits.
+pub(crate) fn narrow(n: u64) -> u32
+    ensures { result ≡ min n 4294967295 }
+{
+    n.min(4_294_967_295) as u32
+}
+
 /// The number at an index, and 0 past the end.
 pub(crate) fn number_at(numbers: &[u64], index: usize) -> u64
     ensures { result ≡ slice_index_or numbers.now index 0 }

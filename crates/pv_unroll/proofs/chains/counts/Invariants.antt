@@ -1,6 +1,6 @@
 use Rattle.std.proofs.Common.{◌≡◌, drop, replicate}
-use Rattle.pv_unroll.specs.Counts.{counted}
-use Rattle.pv_unroll.proofs.counts.counts.Given as goal
+use Rattle.pv_unroll.specs.Chains.{counted}
+use Rattle.pv_unroll.proofs.chains.counts.Given as goal
 
 abbrev pub invariant-loop-edge : goal.invariant-loop-edge
 invariant-loop-edge l = counted l.found.items (drop l.edge-index l.edges) ≡ counted (replicate l.locations 0) l.edges

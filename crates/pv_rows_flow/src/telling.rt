@@ -1,0 +1,67 @@
+//! What is told of copies.
+
+use pv_flow::{Edge, OverEnd, Parts, TrapEnd};
+use pv_rows_form::Told;
+use pv_unroll::TooLarge;
+
+fn tell_edges(edges: &[Edge], told: &mut Told) {
+    for edge in edges {
+        told.text(" ");
+        told.number(edge.from as i128);
+        told.text(">");
+        told.number(edge.to as i128);
+        told.text("/");
+        told.number(edge.deed as i128);
+    }
+}
+
+fn tell_traps(traps: &[TrapEnd], told: &mut Told) {
+    for trap in traps {
+        told.text(" ");
+        told.number(trap.location as i128);
+        told.text("@");
+        told.number(trap.place.offset as i128);
+    }
+}
+
+fn tell_overs(overs: &[OverEnd], told: &mut Told) {
+    for over in overs {
+        told.text(" ");
+        told.number(over.location as i128);
+        told.text("@");
+        told.number(over.place.offset as i128);
+    }
+}
+
+/// Its ends with the places that they are of, and its edges with their deeds.
+fn tell_lists(parts: &Parts, told: &mut Told) {
+    told.text("; done ");
+    told.number(parts.done as i128);
+    told.text("; edges");
+    tell_edges(parts.edges.as_slice(), told);
+    told.text("; traps");
+    tell_traps(parts.traps.as_slice(), told);
+    told.text("; overs");
+    tell_overs(parts.overs.as_slice(), told);
+}
+
+/// How many edges and locations they have, and what they are.
+pub fn tell_parts(parts: &Parts, whole: bool, told: &mut Told) {
+    told.number(parts.edges.as_slice().len() as i128);
+    told.text(" edges, ");
+    told.number(parts.locations as i128);
+    told.text(" locations");
+    if whole {
+        tell_lists(parts, told);
+    }
+}
+
+pub fn tell_fault(fault: TooLarge, told: &mut Told) {
+    match fault {
+        TooLarge::Edges(size) => {
+            told.text("too many edges: ");
+            told.number(size as i128);
+        }
+        TooLarge::NoMemory => told.lose(),
+    }
+}
