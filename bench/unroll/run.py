@@ -2,8 +2,7 @@
 """Times the copies of loops with n and 2n edges: of 60 loops within one another, of one loop of 256 turns, and of 1,000 loops side by side
 of 10 turns each. The parts that are copied are made by the program too.
 
-Usage: run.py [n] (100,000). Builds bench/unroll/program.txt over pv_unroll in a temporary copy, and needs `rt`. rows.py has the same
-loops read by a program that the gate builds."""
+Usage: run.py [n] (100,000). Builds bench/unroll/program.txt over pv_unroll in a temporary copy, and needs `rt`."""
 import pathlib
 import sys
 
