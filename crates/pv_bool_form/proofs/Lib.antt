@@ -4,6 +4,7 @@ pub mod WordCells
 pub mod FirstScans
 pub mod NoBytes
 pub mod FirstLaws
+pub mod Machines
 pub mod Places
 pub mod Made
 pub mod ForCallers

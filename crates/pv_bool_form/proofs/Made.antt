@@ -13,17 +13,18 @@ use Rattle.pv_tree.specs.declared.expr.Root.TheVariants.{Local, Named, Area}
 use Rattle.pv_tree.specs.Tree.{ExprTree, lit, read, unary, binary, std, paren, OperandTree, operand, assign, assign_call, if_, case_, for_, while_, repeat_, exit_, continue_, return_, call_, empty_, StmtTrees, no_stmts, stmts, BodyTree, scl, stl, starts, BlockTree}
 use Rattle.pv_tree.specs.Scopes.{ProjectTree, is_of_instance}
 use Rattle.pv_bool.specs.declared.program.Bit.{Bit}
-use Rattle.pv_bool.specs.Tree.{TermTree, load, negation, AssignmentTree, ProgramTree, IsProgram}
+use Rattle.pv_bool.specs.Tree.{TermTree, load, negation, disjunction, AssignmentTree, ProgramTree, IsProgram}
 use Rattle.pv_mean.specs.Layout.{Laid, laid_among}
 use Rattle.pv_mean.specs.Sources.{Source}
 use Rattle.pv_mean.specs.Activations.{root_begins, spot_of}
 use Rattle.pv_mean.specs.Scans.{entry_activation}
-use Rattle.pv_bool_form.specs.FirstForm.{IsFirstVar, IsFirstRoot, IsFirstOperand, IsFirstExpr, AreFirstStmts, IsFirstBody, IsFirstForm}
-use Rattle.pv_bool_form.specs.Programs.{first_source, number_at, number_of, binary_term, term_by, assignments_by, assignments_of, bit_of_cell, program_of}
+use Rattle.pv_pattern.specs.Patterns.{Pattern, invariant, forbidden, implication, within, between, reach}
+use Rattle.pv_bool_form.specs.FirstForm.{IsFirstVar, IsFirstRoot, IsFirstOperand, IsFirstExpr, IsFirstPattern, AreFirstStmts, IsFirstBody, IsFirstForm}
+use Rattle.pv_bool_form.specs.Programs.{first_source, number_at, number_of, binary_term, term_by, assignments_by, assignments_of, bit_of_cell, pattern_term, pattern_program}
 use Rattle.pv_bool_form.specs.Numbering.{place_of_key, place_of_root, place_among, bit_of_var}
 use Rattle.pv_bool_form.proofs.Cells.{first_vars, first_cell, by_section}
 use Rattle.pv_bool_form.proofs.WordCells.{cell_from, word_number}
-use Rattle.pv_bool_form.proofs.FirstLaws.{Words, cells_are, names_are_bits}
+use Rattle.pv_bool_form.proofs.FirstLaws.{Words, cells_are, patterns_name_bits}
 
 -- ---- numbers of words are those of variables
 
@@ -110,6 +111,17 @@ body_numbered source (scl ss) form is = stmts_numbered source ss form is
 body_numbered source (stl instructions) form is = absurd is
 body_numbered source (starts values) form is = absurd is
 
+pattern_numbered : (source : Source) (p : Pattern) → IsFirstForm source.entry → IsFirstPattern source.entry.vars p
+    → pattern_term (number_of source) p ≡ pattern_term (place_among source.entry.vars) p
+pattern_numbered source (invariant a) form is = term_numbered source a form is
+pattern_numbered source (forbidden a) form is = ap (λ t. negation t) (term_numbered source a form is)
+pattern_numbered source (implication a b) form is =
+    ap (λ t. disjunction (negation t) (term_by (number_of source) b)) (term_numbered source a form is.0)
+    ∙ ap (λ t. disjunction (negation (term_by (place_among source.entry.vars) a)) t) (term_numbered source b form is.1)
+pattern_numbered source (within a b) form is = absurd is
+pattern_numbered source (between a b c) form is = absurd is
+pattern_numbered source (reach a) form is = ap (λ t. negation t) (term_numbered source a form is)
+
 -- ---- bits
 
 bit_seen : (v : VarTree) → bit_of_cell (first_cell v) ≡ bit_of_var v
@@ -125,12 +137,12 @@ bits_of_vars (v ∷ vars) = ap (λ bs. bit_of_var (var_tree v) ∷ bs) (bits_of_
 
 -- ---- programs
 
--- what is made of a block's variables, its body and the requirement
-pub record IsMadeOf (block : BlockTree) (vs : List VarTree) (a : ExprTree) (bits : List Bit) (body : List AssignmentTree) (holds : TermTree) : Type 0 where
+-- what is made of a block's variables, its body and the pattern
+pub record IsMadeOf (block : BlockTree) (vs : List VarTree) (p : Pattern) (bits : List Bit) (body : List AssignmentTree) (holds : TermTree) : Type 0 where
   pub vars : vs ≡ block.vars
   pub bits_are : bits ≡ map bit_of_var block.vars
   pub body_is : body ≡ assignments_of (place_among vs) block.body
-  pub holds_is : holds ≡ term_by (place_among vs) a
+  pub holds_is : holds ≡ pattern_term (place_among vs) p
 
 pub made_of : (vars items : List Var) (bits : List Bit) → bits ≡ map (λ v. bit_of_var (var_tree v)) vars → vars ≡ items → bits ≡ map bit_of_var (var_trees items)
 made_of vars items bits are same = are ∙ bits_of_vars vars ∙ ap (λ vs. map bit_of_var (var_trees vs)) same
@@ -138,20 +150,20 @@ made_of vars items bits are same = are ∙ bits_of_vars vars ∙ ap (λ vs. map 
 abbrev program_with : List Bit → List AssignmentTree → TermTree → ProgramTree
 program_with bits body holds = record { bits = bits; body = body; holds = holds }
 
-pub made_is : (block : BlockTree) (vs : List VarTree) (a : ExprTree) (bits : List Bit) (body : List AssignmentTree) (holds : TermTree)
-    → IsMadeOf block vs a bits body holds → IsFirstForm block → IsFirstExpr block.vars a → (patterns : List OperandTree) (bound : ℕ) → Words block patterns
-    → program_with bits body holds ≡ program_of (first_source block patterns bound) a
-made_is block vs a bits body holds is form first patterns bound are =
+pub made_is : (block : BlockTree) (vs : List VarTree) (p : Pattern) (bits : List Bit) (body : List AssignmentTree) (holds : TermTree)
+    → IsMadeOf block vs p bits body holds → IsFirstForm block → IsFirstPattern block.vars p → (patterns : List OperandTree) (bound : ℕ) → Words block patterns
+    → program_with bits body holds ≡ pattern_program (first_source block patterns bound) p
+made_is block vs p bits body holds is form first patterns bound are =
     let source = first_source block patterns bound in
     ap (λ bs. program_with bs body holds) (is.bits_are ∙ sym (bits_seen block.vars) ∙ ap (λ cs. map bit_of_cell cs) (sym (cells_are block patterns bound form are)))
     ∙ ap (λ b. program_with (map bit_of_cell source.cells) b holds)
     (is.body_is ∙ ap (λ ws. assignments_of (place_among ws) block.body) is.vars ∙ sym (body_numbered source block.body form form.body))
     ∙ ap (λ t. program_with (map bit_of_cell source.cells) (assignments_of (number_of source) block.body) t)
-    (is.holds_is ∙ ap (λ ws. term_by (place_among ws) a) is.vars ∙ sym (term_numbered source a form first))
+    (is.holds_is ∙ ap (λ ws. pattern_term (place_among ws) p) is.vars ∙ sym (pattern_numbered source p form first))
 
-pub made_is_program : (block : BlockTree) (vs : List VarTree) (a : ExprTree) (bits : List Bit) (body : List AssignmentTree) (holds : TermTree)
-    → IsMadeOf block vs a bits body holds → IsFirstForm block → IsFirstExpr block.vars a → IsProgram (program_with bits body holds)
-made_is_program block vs a bits body holds is form first =
-    let P : ProgramTree → Type 0 = λ p. IsProgram p in
-    subst P (sym (made_is block vs a bits body holds is form first [] 0 (All-nil (IsFirstOperand block.vars))))
-    (names_are_bits block [] 0 a form (All-nil (IsFirstOperand block.vars)) first)
+pub made_is_program : (block : BlockTree) (vs : List VarTree) (p : Pattern) (bits : List Bit) (body : List AssignmentTree) (holds : TermTree)
+    → IsMadeOf block vs p bits body holds → IsFirstForm block → IsFirstPattern block.vars p → IsProgram (program_with bits body holds)
+made_is_program block vs p bits body holds is form first =
+    let P : ProgramTree → Type 0 = λ x. IsProgram x in
+    subst P (sym (made_is block vs p bits body holds is form first [] 0 (All-nil (IsFirstOperand block.vars))))
+    (patterns_name_bits block [] 0 p form (All-nil (IsFirstOperand block.vars)) first)

@@ -13,6 +13,7 @@ use Rattle.pv_tree.specs.declared.expr.BinaryOp.TheVariants.{And, Or}
 use Rattle.pv_tree.specs.declared.block.BlockKind.TheVariants.{Fb}
 use Rattle.pv_tree.specs.Tree.{ExprTree, lit, read, unary, binary, std, paren, OperandTree, operand, no_steps, StmtTree, assign, assign_call, if_, case_, for_, while_, repeat_, exit_, continue_, return_, call_, empty_, StmtTrees, no_stmts, stmts, BodyTree, scl, stl, starts, BlockTree}
 use Rattle.pv_tree.specs.Scopes.{first_var}
+use Rattle.pv_pattern.specs.Patterns.{Pattern, invariant, forbidden, implication, within, between, reach}
 
 -- VAR_INPUT, VAR_OUTPUT and VAR
 abbrev pub IsFirstSection : Section → Type 0
@@ -47,6 +48,15 @@ IsFirstExpr vars (binary op place left right) =
     ((op ≡ And) ⊎ (op ≡ Or)) × IsFirstExpr vars left × IsFirstExpr vars right
 IsFirstExpr vars (std function place args) = ⊥
 IsFirstExpr vars (paren place inner) = IsFirstExpr vars inner
+
+-- a pattern that is asked of a scan's end alone, each of whose expressions is one of these
+abbrev pub IsFirstPattern : List VarTree → Pattern → Type 0
+IsFirstPattern vars (invariant a) = IsFirstExpr vars a
+IsFirstPattern vars (forbidden a) = IsFirstExpr vars a
+IsFirstPattern vars (implication a b) = IsFirstExpr vars a × IsFirstExpr vars b
+IsFirstPattern vars (within a b) = ⊥
+IsFirstPattern vars (between a b c) = ⊥
+IsFirstPattern vars (reach a) = IsFirstExpr vars a
 
 -- an assignment of such an expression to a word
 abbrev pub IsFirstStmt : List VarTree → StmtTree → Type 0

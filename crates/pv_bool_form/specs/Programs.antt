@@ -17,6 +17,7 @@ use Rattle.pv_mean.specs.Sources.{Source, source_of}
 use Rattle.pv_mean.specs.Spots.{Spot, visible, brief, bit, bytes, fixed, nowhere}
 use Rattle.pv_mean.specs.Activations.{root_begins, spot_of}
 use Rattle.pv_mean.specs.Scans.{entry_activation}
+use Rattle.pv_pattern.specs.Patterns.{Pattern, invariant, forbidden, implication, within, between, reach}
 
 -- ---- sources
 
@@ -102,4 +103,24 @@ program_of source a = record {
   bits = map bit_of_cell source.cells;
   body = assignments_of (number_of source) source.entry.body;
   holds = term_by (number_of source) a;
+}
+
+-- ---- programs of patterns
+
+-- the term that is to hold at each end. Of a goal it is that the goal isn't reached, so that what doesn't hold there is what fails
+abbrev pub pattern_term : (OperandTree → ℕ) → Pattern → TermTree
+pattern_term number (invariant a) = term_by number a
+pattern_term number (forbidden a) = negation (term_by number a)
+pattern_term number (implication a b) =
+    disjunction (negation (term_by number a)) (term_by number b)
+pattern_term number (within a b) = constant false
+pattern_term number (between a b c) = constant false
+pattern_term number (reach a) = negation (term_by number a)
+
+-- the program of the source with this pattern; with an invariant it is that with the invariant's expression
+abbrev pub pattern_program : Source → Pattern → ProgramTree
+pattern_program source p = record {
+  bits = map bit_of_cell source.cells;
+  body = assignments_of (number_of source) source.entry.body;
+  holds = pattern_term (number_of source) p;
 }

@@ -4,8 +4,10 @@ ghost use Rattle.pv_types.specs.Tree.{plain};
 ghost use Rattle.pv_types.specs.View.{type_tree, var_tree, var_trees};
 ghost use Rattle.pv_tree.specs.Tree.{no_steps};
 ghost use Rattle.pv_tree.specs.View.{operand_tree, step_tree, steps_of, expr_tree, stmt_tree, stmt_trees, body_tree, block_tree};
-ghost use Rattle.pv_bool_form.specs.FirstForm.{IsFirstSection, IsFirstVar, IsFirstOperand, IsTruth, IsFirstExpr, IsFirstStmt, AreFirstStmts, IsFirstBody, IsFirstForm, IsFirstBlock};
+ghost use Rattle.pv_bool_form.specs.FirstForm.{IsFirstSection, IsFirstVar, IsFirstOperand, IsTruth, IsFirstExpr, IsFirstPattern, IsFirstStmt, AreFirstStmts, IsFirstBody, IsFirstForm, IsFirstBlock};
+ghost use Rattle.pv_bool_form.specs.Requirements.{pattern_tree};
 
+use crate::requirement::Requirement;
 use crate::words::Words;
 use pv_tree::{BinaryOp, Block, BlockKind, Body, Expr, Operand, Step, Stmt, UnaryOp};
 use pv_types::{DeclType, Interface, MAX_LEAVES, Section, Var};
@@ -140,6 +142,20 @@ pub(crate) fn is_first_expr(words: &Words, e: &Expr) -> bool
         } => { is_and_or_or(*op) && is_first_expr(words, left) && is_first_expr(words, right) }
         Expr::Std { .. } => false,
         Expr::Paren(_, inner) => is_first_expr(words, inner),
+    }
+}
+
+/// Whether it is a requirement of a scan's end, with expressions of the first form over these words.
+pub(crate) fn is_first_pattern(words: &Words, required: Requirement<'_>) -> bool
+    ensures { IsTrue result ↔ IsFirstPattern (var_trees words.now.vars.now) (pattern_tree required.entry) }
+{
+    match required {
+        Requirement::Invariant(a) => is_first_expr(words, a),
+        Requirement::Forbidden(a) => is_first_expr(words, a),
+        Requirement::Implication(a, b) => is_first_expr(words, a) && is_first_expr(words, b),
+        Requirement::Within(_, _) => false,
+        Requirement::Between(_, _, _) => false,
+        Requirement::Reach(a) => is_first_expr(words, a),
     }
 }
 

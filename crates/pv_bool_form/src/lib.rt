@@ -7,7 +7,9 @@
 mod first;
 mod form;
 pub mod laws;
+mod requirement;
 mod words;
 
-pub use first::first_form;
+pub use first::{first_form, first_pattern};
 pub use form::{is_first_block, is_first_requirement};
+pub use requirement::Requirement;

@@ -1,13 +1,14 @@
 use Rattle.std.proofs.Common.{map}
 use Rattle.pv_types.specs.View.{var_trees}
-use Rattle.pv_tree.specs.View.{block_tree, expr_tree}
+use Rattle.pv_tree.specs.View.{block_tree}
 use Rattle.pv_bool.specs.Tree.{term_tree, assignment_tree}
+use Rattle.pv_bool_form.specs.Requirements.{pattern_tree}
 use Rattle.pv_bool_form.proofs.Made.{made_of, made_is, made_is_program}
 use Rattle.pv_bool_form.proofs.first.make_program.Goals as goal
 
 pub invariant_of-result : goal.invariant_of-result
 invariant_of-result c = record {
-  own = made_is_program (block_tree c.args.block.now) (var_trees c.args.words.now.vars.now) (expr_tree c.args.a.now)
+  own = made_is_program (block_tree c.args.block.now) (var_trees c.args.words.now.vars.now) (pattern_tree c.args.required)
       c.in_ok-bits.bits.items (map assignment_tree c.in_ok-body.body.items) (term_tree c.in_ok-holds.holds)
       (record {
         vars = c.requires.words;
@@ -19,7 +20,7 @@ invariant_of-result c = record {
 
 pub returns : goal.returns
 returns c = λ patterns bound are.
-    made_is (block_tree c.args.block.now) (var_trees c.args.words.now.vars.now) (expr_tree c.args.a.now)
+    made_is (block_tree c.args.block.now) (var_trees c.args.words.now.vars.now) (pattern_tree c.args.required)
     c.in_ok-bits.bits.items (map assignment_tree c.in_ok-body.body.items) (term_tree c.in_ok-holds.holds)
     (record {
       vars = c.requires.words;
