@@ -14,6 +14,7 @@ use std::alloc::{AllocError, Global};
 /// A program with the types of its values, each of which is a BOOL.
 #[derive(Drop)]
 pub struct ProgramSteps<'a> {
+    /// The program.
     pub program: &'a Program,
     state: Vec<Ty>,
     input: Vec<Ty>,

@@ -15,6 +15,7 @@ use pv_valid::Judged;
 /// A certificate, and how the last scan of its trace ends.
 #[derive(Drop)]
 pub struct Evidence {
+    /// The certificate.
     pub certificate: Certificate,
     /// None where the certificate has no trace.
     pub ending: Option<Ending>,

@@ -15,7 +15,8 @@ use std::alloc::Global;
 /// takes.
 ///
 /// The grammar of the whole comes before all contents; among these the first line at fault is named. A circuit of more gates than the
-/// limit is answered where its proof's chain is told, so after faults in the lines before its log and before those of the log.
+/// limit is answered where its proof's chain is told, so after faults in the lines before its log and before those of the log. Who asks
+/// something between grammar and contents, or prints the trace, calls `read` of `pv_cert` and then [`judge`](crate::judge).
 pub fn judge_bytes<J: Judged>(alloc: Global, case: &mut J, bytes: &[u8]) -> Result<Verdict, Fault>
     // What is accepted is valid with this verdict, and each refusal is as its case says.
     ensures answer { Answers (J.case case.old) bytes.now result }
