@@ -15,7 +15,8 @@ pub fn judge<J: Judged>(
     certificate: &Certificate,
 ) -> Result<Verdict, Fault>
     requires form { HasForm (trace_form certificate.now.claim) certificate.now.trace }
-    ensures { Judges (J.case case.old) certificate.now result }
+    ensures judges { Judges (J.case case.old) certificate.now result }
+    ensures kept { J.case case.new ≡ J.case case.old }
 {
     pv_judge::judge(alloc, case, certificate)
 }
@@ -27,6 +28,7 @@ pub fn judge_bytes<J: Judged>(alloc: Global, case: &mut J, bytes: &[u8]) -> Resu
         → (other ≡ Err Fault.NoMemory → ⊥)
         → Answers (J.case case.old) bytes.now other
         → IsUnlessNoMemory result other }
+    ensures kept { J.case case.new ≡ J.case case.old }
 {
     pv_judge::judge_bytes(alloc, case, bytes)
 }

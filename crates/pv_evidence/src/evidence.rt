@@ -66,6 +66,7 @@ pub(crate) fn evidence_of<J: Judged>(case: &mut J, decision: Decision) -> Eviden
     requires replays { EndReplays (J.case case.old) decision.end }
     ensures certificate { result.certificate ≡ certificate_of (J.case case.old) decision.proofs decision.end }
     ensures ending { result.ending ≡ ending_in (J.case case.old) result.certificate.trace }
+    ensures kept { J.case case.new ≡ J.case case.old }
 {
     let Decision { end, proofs } = decision;
     match end {

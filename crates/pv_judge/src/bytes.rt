@@ -25,6 +25,7 @@ pub fn judge_bytes<J: Judged>(alloc: Global, case: &mut J, bytes: &[u8]) -> Resu
         → (other ≡ Err Fault.NoMemory → ⊥)
         → Answers (J.case case.old) bytes.now other
         → IsUnlessNoMemory result other }
+    ensures kept { J.case case.new ≡ J.case case.old }
 {
     certificates_have_one_answer();
     judge_read(alloc, case, bytes)
@@ -32,7 +33,8 @@ pub fn judge_bytes<J: Judged>(alloc: Global, case: &mut J, bytes: &[u8]) -> Resu
 
 /// The same, of which the answer alone is said.
 fn judge_read<J: Judged>(alloc: Global, case: &mut J, bytes: &[u8]) -> Result<Verdict, Fault>
-    ensures { Answers (J.case case.old) bytes.now result }
+    ensures answer { Answers (J.case case.old) bytes.now result }
+    ensures kept { J.case case.new ≡ J.case case.old }
 {
     certificates_have_one_answer();
     match read(alloc, bytes) {

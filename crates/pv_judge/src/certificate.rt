@@ -49,7 +49,8 @@ fn judge_all<J: Judged>(
 ) -> Result<(), Fault>
     requires belongs { belongs (J.case case.old).facts claim ≡ true }
     requires line { first < 2 ^ 60 }
-    ensures { Finds (all_proofs_fault (J.case case.old) claim next.now first proofs.now) result }
+    ensures finds { Finds (all_proofs_fault (J.case case.old) claim next.now first proofs.now) result }
+    ensures kept { J.case case.new ≡ J.case case.old }
 {
     let limit = case.facts().words;
     match claim {
@@ -77,7 +78,8 @@ pub fn judge<J: Judged>(
     certificate: &Certificate,
 ) -> Result<Verdict, Fault>
     requires form { HasForm (trace_form certificate.now.claim) certificate.now.trace }
-    ensures { Judges (J.case case.old) certificate.now result }
+    ensures judges { Judges (J.case case.old) certificate.now result }
+    ensures kept { J.case case.new ≡ J.case case.old }
 {
     let claim = certificate.claim;
     if !belongs(case.facts(), claim) {

@@ -119,7 +119,8 @@ pub(crate) fn judge_proofs<J: Judged>(
     requires asked { AllByRecursion IsAsked (queries_of expected) }
     requires few { length (queries_of expected) ≤ LAST_QUERY + 1 }
     requires line { first < 2 ^ 60 }
-    ensures { Finds (proofs_fault (J.case case.old) (queries_of expected) first proofs.now) result }
+    ensures finds { Finds (proofs_fault (J.case case.old) (queries_of expected) first proofs.now) result }
+    ensures kept { J.case case.new ≡ J.case case.old }
 {
     let mut at = first;
     for (n, proof) in proofs.iter().enumerate() {
@@ -174,7 +175,8 @@ pub(crate) fn judge_spent<J: Judged>(
     proofs: &[Proof],
 ) -> Result<(), Fault>
     requires line { first < 2 ^ 60 }
-    ensures { Finds (spent_fault (J.case case.old) (log_fault task.entry) 1 first proofs.now) result }
+    ensures finds { Finds (spent_fault (J.case case.old) (log_fault task.entry) 1 first proofs.now) result }
+    ensures kept { J.case case.new ≡ J.case case.old }
 {
     let mut at = first;
     let mut n = 0u32;

@@ -20,7 +20,7 @@ evidence_of-requires g c =
     let last = g.C.Oracle.stage c.decide.new.oracle in
     let enc : g.C.Oracle.Fixed → Encoding = g.C.Oracle.encoding in
     let mach : g.C.Oracle.Fixed → Machine = λ x. g.C.Source.Machine.machine (g.C.Oracle.source x) in
-    let same = c.requires.one c.decide.new.oracle c.args.case.now
+    let same = c.requires.one c.decide.new.oracle
     (c.in_ok-decision.ensures.fixed_kept ∙ c.in_ok-variables.ensures.fixed_kept) in
     let o = to-oracle case (enc fix) first c.args.limits.now c.requires.alike
     (fits-of case (enc fix) first c.args.limits.now c.requires.alike c.in_ok-variables.ensures.fits) in
@@ -45,7 +45,7 @@ returns-clause-evidence g c =
     let end = c.in_ok-decision.decision.end in
     let cert = c.evidence_of.result.certificate in
     let told = c.evidence_of.result.ending in
-    let same = c.requires.one c.decide.new.oracle c.args.case.now
+    let same = c.requires.one c.decide.new.oracle
     (c.in_ok-decision.ensures.fixed_kept ∙ c.in_ok-variables.ensures.fixed_kept) in
     let o = to-oracle case (enc fix) first limits c.requires.alike
     (fits-of case (enc fix) first limits c.requires.alike c.in_ok-variables.ensures.fits) in
@@ -60,3 +60,7 @@ returns-clause-evidence g c =
     let finds = subst (λ (m : Machine). (n : ℕ) → IsUnspent end → n ≤ limits.depth → MeetsBase m n → IsFailedBy n end) one
     c.in_ok-decision.ensures.finds in
     is-evidence case (enc fix) first last limits o proofs (g.met.C.Judged.sound c.args.case.now) end d cert told is ends proves finds
+
+pub returns-clause-kept : goal.returns-clause-kept
+returns-clause-kept g c =
+    c.evidence_of.ensures.kept ∙ c.requires.one c.decide.new.oracle (c.in_ok-decision.ensures.fixed_kept ∙ c.in_ok-variables.ensures.fixed_kept)

@@ -9,8 +9,8 @@ use Rattle.pv_judge.specs.Steps.{Finds, queries_of}
 use Rattle.pv_judge.proofs.Finds.{finds-at, finds-first, behind-none, expected-asked, one-more, one-step, one-missing, none-left}
 use Rattle.pv_judge.proofs.proofs.judge_proofs.Goals as goal
 
-pub returns-in_default : goal.returns-in_default
-returns-in_default g c =
+pub returns-in_default-clause-finds : goal.returns-in_default-clause-finds
+returns-in_default-clause-finds g c =
     let case = g.J.Judged.case c.args.case.now in
     let qs = queries_of c.args.expected in
     let ps = c.args.proofs.now in
@@ -23,8 +23,8 @@ judge_proof-requires-clause-asked g c = λ e.
     expected-asked (queries_of c.args.expected) c.loop-n.n c.in-Some.query c.index-proofs-n.result.query c.requires.asked
     (sym c.query.ensures ∙ c.in-Some.is) (sym c.is_query-is_expected.ensures ∙ e)
 
-pub returns-in-Err : goal.returns-in-Err
-returns-in-Err g c =
+pub returns-in-Err-clause-finds : goal.returns-in-Err-clause-finds
+returns-in-Err-clause-finds g c =
     let case = g.J.Judged.case c.args.case.now in
     let qs = queries_of c.args.expected in
     let ps = c.args.proofs.now in
@@ -66,8 +66,8 @@ loop-n-preserved g c =
           ∙ (sym (one-step case qs ps n at p q (omega arith) c.index-proofs-n.is some) ∙ c.loop-n.invariant.left));
     }
 
-pub returns-in-Some-query : goal.returns-in-Some-query
-returns-in-Some-query g c =
+pub returns-in-Some-query-clause-finds : goal.returns-in-Some-query-clause-finds
+returns-in-Some-query-clause-finds g c =
     let case = g.J.Judged.case c.args.case.now in
     let qs = queries_of c.args.expected in
     let ps = c.args.proofs.now in
@@ -77,8 +77,8 @@ returns-in-Some-query g c =
     finds-at (proofs_fault case qs c.args.first ps) c.fault_at-in-Some-query.result c.loop-n.at kind.WrongQuery c.fault_at-in-Some-query.ensures
     (sym c.loop-n.invariant.left ∙ one-missing case qs ps n c.loop-n.at c.in-Some-query.field-0 (omega (arith, is)) some)
 
-pub returns-in-None : goal.returns-in-None
-returns-in-None g c =
+pub returns-in-None-clause-finds : goal.returns-in-None-clause-finds
+returns-in-None-clause-finds g c =
     let case = g.J.Judged.case c.args.case.now in
     let qs = queries_of c.args.expected in
     let ps = c.args.proofs.now in
