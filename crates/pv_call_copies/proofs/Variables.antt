@@ -9,7 +9,7 @@ use Rattle.pv_place.specs.Ranges.{Range, range_of}
 use Rattle.pv_flow.specs.Terms.{Valuation}
 use Rattle.pv_flow.specs.Automata.{Variable, CallEdge, Parts}
 use Rattle.pv_flow.specs.Calls.{Blocks, block_at}
-use Rattle.pv_flow.specs.Machines.{param_range, state_ranges, input_ranges, param_ranges, first, others, start_of, begin_of, valuation_of, begin_at, left_of}
+use Rattle.pv_flow.specs.Machines.{param_range, state_ranges, input_ranges, free_range, param_ranges, first, others, start_param, start_of, begin_of, valuation_of, begin_at, left_of}
 use Rattle.pv_call_copies.specs.Levels.{down}
 use Rattle.pv_call_copies.specs.Inlined.{own_variable, added_by_calls, added_in, added, inlined}
 use Rattle.pv_call_copies.specs.Correct.{KeepsVariables}
@@ -87,7 +87,7 @@ param_own (v ∷ more) are = ap (λ (u : Variable). param_ranges (u ∷ more)) a
 param_step : (v : Variable) (vars more : List Variable) (r : Role) → param_ranges (vars ++ more) ≡ param_ranges vars
     → param_ranges (as_role v r ∷ (vars ++ more)) ≡ param_ranges (as_role v r ∷ vars)
 param_step v vars more Input e = e
-param_step v vars more Param e = ap (λ (ranges : List Range). param_range v.ty v.only ∷ ranges) e
+param_step v vars more Param e = ap (λ (ranges : List Range). free_range v.ty v.only ranges) e
 param_step v vars more Kept e = e
 param_step v vars more Brief e = e
 
@@ -102,10 +102,15 @@ start_own (v ∷ more) are params = ap (λ (u : Variable). start_of (u ∷ more)
 abbrev SameStarts : List Variable → List Variable → Type 0
 SameStarts vars more = (params : List ℤ) → start_of (vars ++ more) params ≡ start_of vars params
 
+param_starts : (only : Option ℤ) (vars more : List Variable) → SameStarts vars more → (params : List ℤ)
+    → start_param only (λ ps. start_of (vars ++ more) ps) params ≡ start_param only (λ ps. start_of vars ps) params
+param_starts None vars more same params = ap (λ (state : List ℤ). first params ∷ state) (same (others params))
+param_starts (Some v) vars more same params = ap (λ (state : List ℤ). v ∷ state) (same params)
+
 start_step : (v : Variable) (vars more : List Variable) (r : Role) → SameStarts vars more → (params : List ℤ)
     → start_of (as_role v r ∷ (vars ++ more)) params ≡ start_of (as_role v r ∷ vars) params
 start_step v vars more Input same params = same params
-start_step v vars more Param same params = ap (λ (state : List ℤ). first params ∷ state) (same (others params))
+start_step v vars more Param same params = param_starts v.only vars more same params
 start_step v vars more Kept same params = ap (λ (state : List ℤ). v.start ∷ state) (same params)
 start_step v vars more Brief same params = same params
 

@@ -7,10 +7,10 @@ ghost use Rattle.pv_flow.specs.Machines.{IsInlined, IsAcyclic, IsAttached, inlin
 ghost use Rattle.pv_flow.specs.View.{parts_of, terms_of};
 ghost use Rattle.pv_flow.specs.Tables.{AreTabled, is_tabled};
 ghost use Rattle.pv_flow.specs.AutomatonView.{automaton_of, code_of, attached_of, attached_to, terms_in};
-ghost use Rattle.pv_flow.specs.MachineView.{acyclic_parts, attached_in, inlined_parts, bound_of};
+ghost use Rattle.pv_flow.specs.MachineView.{acyclic_parts, acyclic_code, attached_in, inlined_parts, inlined_code, bound_of};
 ghost use Rattle.pv_copies.specs.Unrolled.{unrolled, unrolled_size};
 ghost use Rattle.pv_unroll.specs.declared.fault.TheConstants.{MAX_EDGES};
-ghost use Rattle.pv_unroll.specs.Correct.{CanUnroll, IsSizeOf, IsTooLarge, IsForward};
+ghost use Rattle.pv_unroll.specs.Correct.{CanUnroll, IsSizeOf, IsTooLarge, IsForward, KeepsTables};
 
 use pv_flow::{Acyclic, Attached, Automaton, FlowFault, Inlined, Parts, acyclic, inlined};
 use pv_unroll::TooLarge;
@@ -73,6 +73,7 @@ pub fn unrolled_size(alloc: Global, from: &Inlined) -> Result<u64, TooLarge>
 pub fn copy_loops(alloc: Global, parts: Parts, bound: u32) -> Result<Parts, TooLarge>
     ensures copies { CanUnroll parts bound → IfOk result (λ made. parts_of made ≡ unrolled (parts_of parts) bound) }
     ensures forward { CanUnroll parts bound → IfOk result IsForward }
+    ensures tables { IfOk result (KeepsTables parts) }
     ensures fits { CanUnroll parts bound → OnOk result (unrolled_size (parts_of parts) bound ≤ MAX_EDGES) }
     ensures large { CanUnroll parts bound → IfErr result (IsTooLarge (parts_of parts) bound) }
 {
@@ -82,6 +83,7 @@ pub fn copy_loops(alloc: Global, parts: Parts, bound: u32) -> Result<Parts, TooL
 /// [`pv_unroll::unroll`].
 pub fn unroll(alloc: Global, from: Inlined) -> Result<Acyclic, TooLarge>
     ensures copies { IfOk result (λ m. acyclic_parts m ≡ unrolled (inlined_parts from) (bound_of from)) }
+    ensures tables { IfOk result (λ m. KeepsTables (inlined_code from) (acyclic_code m)) }
     ensures bare { IfOk result (λ m. attached_in m ≡ None) }
     ensures same { IfOk result (λ m. IsSame (acyclic_machine (acyclic_parts m) (attached_in m)) (inlined_machine (inlined_parts from) (bound_of from))) }
     ensures fits { OnOk result (unrolled_size (inlined_parts from) (bound_of from) ≤ MAX_EDGES) }

@@ -17,7 +17,7 @@ use Rattle.pv_flow.specs.Automata.{Variable, Parts, type_at, types_of, HasValues
 use Rattle.pv_flow.specs.Faults.{has_variables, IsFaultless}
 use Rattle.pv_flow.specs.WellMade.{IsVariable, IsEdge, IsWellMade}
 use Rattle.pv_flow.specs.Runs.{put, Outcome, done_with, trapped, gone_over, run, control_of, first_spot, copies}
-use Rattle.pv_flow.specs.Machines.{param_range, state_ranges, input_ranges, param_ranges, start_of, begin_of, valuation_of, begin_at, left_of, Looking, Guarding, Attached, looked, is_allowed, guarded, marked, outcome_or_over, scan_from, step_of, machine_of, inlined_machine, acyclic_machine, IsBit, IsLooking, IsGuarding, IsAttached}
+use Rattle.pv_flow.specs.Machines.{param_range, state_ranges, input_ranges, free_range, param_ranges, start_param, start_of, begin_of, valuation_of, begin_at, left_of, Looking, Guarding, Attached, looked, is_allowed, guarded, marked, outcome_or_over, scan_from, step_of, machine_of, inlined_machine, acyclic_machine, IsBit, IsLooking, IsGuarding, IsAttached}
 use Rattle.pv_flow.proofs.Typing.{bit_fits, fits_in, typed_value}
 use Rattle.pv_flow.proofs.TypedRuns.{put_typed, IsTypedEnd, automaton_typed}
 
@@ -43,10 +43,17 @@ param_fits ty (Some v) x ok h = record {
 abbrev Starts : List Variable → Type 0
 Starts vars = (params : List ℤ) → AreWithin (param_ranges vars) params → AreWithin (state_ranges vars) (start_of vars params)
 
+-- a parameter: where it is bound it takes none of the values
+param_starts : (ty : Ty) (vars : List Variable) (only : Option ℤ) → Starts vars → (params : List ℤ)
+    → AreWithin (free_range ty only (param_ranges vars)) params
+    → AreWithin (param_range ty only ∷ state_ranges vars) (start_param only (λ more. start_of vars more) params)
+param_starts ty vars None rest [] h = absurd h
+param_starts ty vars None rest (x ∷ more) h = (h.0, rest more h.1)
+param_starts ty vars (Some v) rest params h = (record { from = omega (arith, ints); to = omega (arith, ints) }, rest params h)
+
 start_step : (v : Variable) (vars : List Variable) (r : Role) → IsVariable v → Starts vars → Starts (as_role v r ∷ vars)
 start_step v vars Input ok rest params h = rest params h
-start_step v vars Param ok rest [] h = absurd h
-start_step v vars Param ok rest (x ∷ more) h = (h.0, rest more h.1)
+start_step v vars Param ok rest params h = param_starts v.ty vars v.only rest params h
 start_step v vars Kept ok rest params h = (within_type v.ty v.start ok.start, rest params h)
 start_step v vars Brief ok rest params h = rest params h
 

@@ -1,19 +1,20 @@
 -- Small automata that run: a loop with an entry turn, a trap, a call, and patterns that are attached. Their values are worked out by
 -- hand.
-use Rattle.std.proofs.Common.{◌≡◌, pos, true, false, [], ◌∷◌, Some, None, refl}
+use Rattle.std.proofs.Common.{◌≡◌, ℤ, pos, true, false, List, [], ◌∷◌, Option, Some, None, refl}
 use Rattle.pv_word.specs.declared.types.Ty.TheVariants.{Bool, Int}
 use Rattle.pv_word.specs.Wrap.{wrap_at}
 use Rattle.pv_word.specs.Bits.{pattern_at}
-use Rattle.pv_place.specs.declared.role.Role.TheVariants.{Brief}
+use Rattle.pv_place.specs.declared.role.Role.TheVariants.{Param, Brief}
 use Rattle.pv_place.specs.declared.trap.TrapKind.TheVariants.{DivideByZero}
+use Rattle.pv_place.specs.Ranges.{range_of, range_at}
 use Rattle.pv_machine.specs.Machines as m
 use Rattle.pv_flow.specs.declared.op.UnaryOp.TheVariants.{Not}
 use Rattle.pv_flow.specs.declared.op.BinaryOp.TheVariants.{And, Divide, Less, Equal}
 use Rattle.pv_flow.specs.Terms.{Term, constant, variable, unary, binary, Valuation}
-use Rattle.pv_flow.specs.Automata.{CallEdge, Parts}
+use Rattle.pv_flow.specs.Automata.{Variable, CallEdge, Parts}
 use Rattle.pv_flow.specs.Runs.{done_with, trapped, gone_over, copies}
 use Rattle.pv_flow.specs.Calls.{Blocks, Work, entry_work, numbered, callee_work, assigned_in, cleared, ends, goes, calls, EndsAs}
-use Rattle.pv_flow.specs.Machines.{Attached, acyclic_machine}
+use Rattle.pv_flow.specs.Machines.{state_ranges, param_ranges, start_of, Attached, acyclic_machine}
 use Rattle.pv_flow.proofs.Examples.{here, var, int_var, edge, set, range, automaton, left_in, runs, yes_term, one_more, counted}
 
 abbrev negated : Term → Term
@@ -193,3 +194,22 @@ never_after = refl
 blocked_after : guarded.step (pos 3 ∷ pos 0 ∷ pos 0 ∷ []) [] ≡ m.done (pos 4 ∷ pos 1 ∷ pos 0 ∷ [])
 unfolding wrap_at pattern_at
 blocked_after = refl
+
+-- ---- parameters
+
+abbrev parameter : Option ℤ → Variable
+parameter only = record { ty = Int; role = Param; start = pos 0; only = only }
+
+-- one that is bound to 7, a free one and a kept variable
+abbrev configured : List Variable
+configured = parameter (Some (pos 7)) ∷ parameter None ∷ int_var ∷ []
+
+-- a run starts with a value for the free one alone
+one_is_free : param_ranges configured ≡ range_of Int ∷ []
+one_is_free = refl
+
+both_are_kept : state_ranges configured ≡ range_at (pos 7) ∷ range_of Int ∷ range_of Int ∷ []
+both_are_kept = refl
+
+bound_begins : start_of configured (pos 3 ∷ []) ≡ pos 7 ∷ pos 3 ∷ pos 0 ∷ []
+bound_begins = refl

@@ -20,5 +20,9 @@ bound_of m = m.bound
 abbrev pub acyclic_parts : Acyclic → Parts
 acyclic_parts m = automaton_of m.automaton
 
+-- as the code has them
+abbrev pub acyclic_code : Acyclic → CodeParts
+acyclic_code m = m.automaton.parts
+
 abbrev pub attached_in : Acyclic → Option Attached
 attached_in m = attached_to m.automaton m.attached

@@ -14,7 +14,7 @@ use Rattle.pv_flow.specs.Runs.{Outcome, done_with, trapped, gone_over, put, run,
 
 -- ---- states and inputs
 
--- of a parameter, which may have one value alone
+-- of a parameter, which the case may bind to one value
 abbrev pub param_range : Ty → Option ℤ → Range
 param_range ty None = range_of ty
 param_range ty (Some v) = range_at v
@@ -37,11 +37,16 @@ input_ranges (v ∷ vars) = elim v.role [
   | Brief ↦ input_ranges vars
 ]
 
+-- a bound parameter is none of those that a run starts with
+abbrev pub free_range : Ty → Option ℤ → List Range → List Range
+free_range ty None more = range_of ty ∷ more
+free_range ty (Some v) more = more
+
 abbrev pub param_ranges : List Variable → List Range
 param_ranges [] = []
 param_ranges (v ∷ vars) = elim v.role [
   | Input ↦ param_ranges vars
-  | Param ↦ param_range v.ty v.only ∷ param_ranges vars
+  | Param ↦ free_range v.ty v.only (param_ranges vars)
   | Kept ↦ param_ranges vars
   | Brief ↦ param_ranges vars
 ]
@@ -55,12 +60,17 @@ abbrev pub others : List ℤ → List ℤ
 others [] = []
 others (v ∷ vs) = vs
 
+-- a parameter begins with the next of these, and a bound one with its value, which takes none of them
+abbrev pub start_param : Option ℤ → (List ℤ → List ℤ) → List ℤ → List ℤ
+start_param None rest params = first params ∷ rest (others params)
+start_param (Some v) rest params = v ∷ rest params
+
 -- the state in which a run with these parameters starts
 abbrev pub start_of : List Variable → List ℤ → List ℤ
 start_of [] params = []
 start_of (v ∷ vars) params = elim v.role [
   | Input ↦ start_of vars params
-  | Param ↦ first params ∷ start_of vars (others params)
+  | Param ↦ start_param v.only (λ more. start_of vars more) params
   | Kept ↦ v.start ∷ start_of vars params
   | Brief ↦ start_of vars params
 ]

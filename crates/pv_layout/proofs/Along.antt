@@ -7,7 +7,7 @@ use Rattle.pv_flow.specs.Automata.{Edge, CallEdge}
 use Rattle.pv_layout.specs.Spots.{Check, Spot, Act, Branch, Enter, checks_of, true_term, both, negated, none_of, check_edges, way_edges, edges_at}
 use Rattle.pv_layout.specs.Layout.{checks_in, edges_of, calls_of, no_marks, way_marks, marks_of}
 use Rattle.pv_layout.proofs.Each.{EachFrom}
-use Rattle.pv_layout.proofs.Leads.{EachWay}
+use Rattle.pv_layout.specs.Sound.{EachWay}
 
 abbrev pub Along : (ℕ → ℕ → Option ℕ → Type 0) → List Edge → List (Option ℕ) → Type 0
 Along Q [] [] = Unit {0}

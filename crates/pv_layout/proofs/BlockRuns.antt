@@ -16,7 +16,8 @@ use Rattle.pv_layout.specs.Spots.{Act, Branch, way}
 use Rattle.pv_layout.specs.Flows.{Leaving, by_exit, by_continue, by_return, Flow, act, enter, leave, then_, if_, choice, while_, for_, repeat_}
 use Rattle.pv_layout.specs.Layout.{width, loops_in, Exits, exit_by, before, in_loop, to_done, spots_of, loops_of, text_of, marks_of}
 use Rattle.pv_layout.specs.Bodies.{Body, Bodies, laid, laid_or, blocks_of, body_at, call_edge, setting_of, called_within, run_body}
-use Rattle.pv_layout.specs.Correct.{LeadsWithin, LeadWithin, IsCall, AreCalls}
+use Rattle.pv_layout.specs.Sound.{LeadsWithin, LeadWithin}
+use Rattle.pv_layout.specs.Correct.{IsCall, AreCalls}
 use Rattle.pv_layout.proofs.Lists.{for_some, some_at, all_append}
 use Rattle.pv_layout.proofs.Laying.{length_spots}
 use Rattle.pv_layout.proofs.Marks.{same_entered}
@@ -78,7 +79,7 @@ each_at P [] i all = tt
 each_at P (x ∷ xs) zero all = all.0
 each_at P (x ∷ xs) (suc i) all = each_at P xs i all.1
 
-text_leads : (f : Flow) → LeadWithin (text_of f)
+pub text_leads : (f : Flow) → LeadWithin (text_of f)
 text_leads f l = each_at (LeadsWithin (length (spots_of f 0 0 (to_done (width f))))) (spots_of f 0 0 (to_done (width f))) l
     (subst (λ (d : ℕ). AllByRecursion (LeadsWithin d) (spots_of f 0 0 (to_done (width f)))) (sym (length_spots f 0 0 (to_done (width f))))
     (spots_lead (width f) f 0 0 (to_done (width f)) (omega arith)
@@ -113,10 +114,10 @@ RunsOf bodies n levels b = (body : Body) → body_at bodies b ≡ Some body → 
 
 call_is : (bodies : Bodies) (n levels : ℕ) (k : Work) (m : ℕ) (call : CallEdge) → RunsOf bodies n levels call.block
     → FitsIn (blocks_of bodies) k.parts call
-    → IsCall bodies k (setting_of k (called_within bodies n (suc levels) k) n) m call
+    → IsCall (blocks_of bodies) k (setting_of k (called_within bodies n (suc levels) k) n) m call
 call_is bodies n levels k m call runs fits = by (body_at bodies call.block) refl
   where
-    by : (o : Option Body) → body_at bodies call.block ≡ o → IsCall bodies k (setting_of k (called_within bodies n (suc levels) k) n) m call
+    by : (o : Option Body) → body_at bodies call.block ≡ o → IsCall (blocks_of bodies) k (setting_of k (called_within bodies n (suc levels) k) n) m call
     by None none = absurd (subst (λ (o : Option Parts). MatchOption o ⊥ (λ callee. IsFit k.parts call callee))
         (block_is bodies call.block ∙ ap laid_or none) fits)
     by (Some body) some = record {
@@ -137,12 +138,12 @@ call_is bodies n levels k m call runs fits = by (body_at bodies call.block) refl
         callee w = callee_work (blocks_of bodies) k (numbered m call) (laid body)
 
 body_comes : (bodies : Bodies) (n levels : ℕ) (body : Body) (k : Work) (w : Valuation) → 0 < n → k.parts ≡ laid body
-    → AreCalls bodies k (setting_of k (called_within bodies n levels k) n)
+    → AreCalls (blocks_of bodies) k (setting_of k (called_within bodies n levels k) n)
     → ComesTo (blocks_of bodies) n k (running (first_spot (laid body)) w) (run_body bodies n levels k body w)
 body_comes bodies n levels body k w some parts are =
     subst (λ (cs : Counts). ComesTo (blocks_of bodies) n k (running (at 0 cs) w) (run_body bodies n levels k body w))
     (sym (same_entered (marks_of (spots_of body.code 0 0 (to_done (width body.code)))) (loops_of body.code 0) 0))
-    (parts_run bodies k (setting_of k (called_within bodies n levels k) n) body.head (text_of body.code) parts refl (text_leads body.code)
+    (parts_run (blocks_of bodies) k (setting_of k (called_within bodies n levels k) n) body.head (text_of body.code) parts refl (text_leads body.code)
     0 (entered (loops_of body.code 0) 0) w (run_body bodies n levels k body w) (omega arith) are
     (whole_reaches (setting_of k (called_within bodies n levels k) n) body.code w some))
 
@@ -156,7 +157,7 @@ all_run bodies n some fit b = deep (RunsOf bodies n) (blocks_of bodies) fit none
     step : (levels b : ℕ) (p : Parts) → block_at (blocks_of bodies) b ≡ Some p
         → ((c : ℕ) → runs_block (blocks_of bodies) b c ≡ true → RunsOf bodies n levels c) → RunsOf bodies n (suc levels) b
     step levels b p e below body there k parts w = body_comes bodies n (suc levels) body k w some parts
-        (λ m. for_some (IsCall bodies k (setting_of k (called_within bodies n (suc levels) k) n) m) (slice_get k.parts.calls m)
+        (λ m. for_some (IsCall (blocks_of bodies) k (setting_of k (called_within bodies n (suc levels) k) n) m) (slice_get k.parts.calls m)
         (λ call here. call_is bodies n levels k m call
         (below call.block (ap (λ (o : Option Parts). runs_in o call.block) stands ∙ any_call k.parts.calls m call here))
         (some_at (FitsIn (blocks_of bodies) k.parts) (slice_get k.parts.calls m) call here

@@ -1,6 +1,6 @@
 -- Ways against loops: along each way of a flow each of its loops is entered well, and the way starts a turn of the loop whose number it
 -- has, and of no other.
-use Rattle.std.proofs.Common.{◌≡◌, ℕ, suc, ◌+◌, ◌<◌, ◌≤◌, ◌⊎◌, inl, inr, List, [], ◌∷◌, ◌++◌, length, Bool as Truth, true, false, not, ◌&&◌, ◌||◌, ◌==◌, cond, Option, Some, None, refl, ap, ◌∙◌, arith}
+use Rattle.std.proofs.Common.{◌≡◌, ℕ, suc, ◌+◌, ◌<◌, ◌≤◌, ◌⊎◌, inl, inr, List, [], ◌∷◌, ◌++◌, length, Bool as Truth, true, false, not, ◌&&◌, ◌||◌, ◌==◌, Option, Some, None, refl, ap, ◌∙◌, arith}
 use Rattle.std.proofs.lemmas.Bool.{cases_lt, ne_eqb, eq-eqb, or_left, or_right, and_right, and_from}
 use Rattle.pv_place.specs.declared.place.Place.{Place}
 use Rattle.pv_flow.specs.Terms.{Term}
@@ -9,32 +9,13 @@ use Rattle.pv_flow.specs.Faults.{enters_well}
 use Rattle.pv_layout.specs.Spots.{Check, Spot, Act, Branch, Enter, way}
 use Rattle.pv_layout.specs.Flows.{Flow}
 use Rattle.pv_layout.specs.Layout.{width, loops_in, Exits, spots_of, bare, is_marked}
+use Rattle.pv_layout.specs.Sound.{turn_fits, FitsLoop, CallFits, SpotFits}
 use Rattle.pv_layout.specs.Correct.{IsOutside, AreOutside}
 use Rattle.pv_layout.proofs.Turns.{holds_none, holds_from}
 use Rattle.pv_layout.proofs.Each.{EachFrom, each_append, each_map, each_with}
-use Rattle.pv_layout.proofs.Leads.{EachWay, way_map, IsMarkIn, IsWayIn, IsSpotIn, LeadTo, spots_in, IsLoopIn}
+use Rattle.pv_layout.proofs.Leads.{way_map, IsMarkIn, IsWayIn, IsSpotIn, LeadTo, spots_in, IsLoopIn}
 
 -- ---- one way and one loop
-
--- as turns_well of pv_flow says it, by whether the way starts a turn of the loop
-abbrev pub turn_fits : Loop → ℕ → ℕ → Truth → Truth
-turn_fits loop l to turn = cond turn
-    (cond loop.entry_turn (holds loop l && (to == loop.first)) ((l == loop.first) && holds loop to))
-    (loop.entry_turn || not ((l == loop.first) && holds loop to))
-
-pub record FitsLoop (k : ℕ) (loop : Loop) (l to : ℕ) (mark : Option ℕ) : Type 0 where
-  pub enters : enters_well loop l to ≡ true
-  pub turns : turn_fits loop l to (is_marked k mark) ≡ true
-
--- a call begins at the first location of no loop that begins a turn there
-abbrev pub CallFits : Loop → ℕ → Spot → Type 0
-CallFits loop l (Act checks on) = Unit {0}
-CallFits loop l (Branch checks c one other) = Unit {0}
-CallFits loop l (Enter block instance place to) = (loop.entry_turn || not (l == loop.first)) ≡ true
-
-pub record SpotFits (k : ℕ) (loop : Loop) (l : ℕ) (spot : Spot) : Type 0 where
-  pub ways : EachWay (FitsLoop k loop l) spot
-  pub call : CallFits loop l spot
 
 or_true : (a : Truth) → (a || true) ≡ true
 or_true true = refl

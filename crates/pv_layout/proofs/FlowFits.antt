@@ -11,7 +11,8 @@ use Rattle.pv_layout.proofs.Laying.{some_width, length_spots, length_loops}
 use Rattle.pv_layout.proofs.FlowParts.{narrow_out, narrow_exits, before_exits, loop_exits}
 use Rattle.pv_layout.proofs.Each.{EachFrom, each_append}
 use Rattle.pv_layout.proofs.Leads.{IsSpotIn, LeadTo, spots_in, loops_in_flow}
-use Rattle.pv_layout.proofs.Fits.{SpotFits, AimsPast, apart_all, inside_all, test_fits, until_fits, AllFit, fits_append, fits_cons, exits_past, inside_flow, two_ways}
+use Rattle.pv_layout.specs.Sound.{SpotFits}
+use Rattle.pv_layout.proofs.Fits.{AimsPast, apart_all, inside_all, test_fits, until_fits, AllFit, fits_append, fits_cons, exits_past, inside_flow, two_ways}
 
 -- two parts, one after the other
 two_fit : (f g : Flow) (a i : ℕ) (one other : Exits) → LeadTo (AimsPast (a + width f) (a + width f + width g)) one

@@ -3,15 +3,10 @@ use Rattle.std.proofs.Common.{ℕ, suc, ◌+◌, ◌<◌, ◌≤◌, [], ◌∷�
 use Rattle.pv_layout.specs.Spots.{Spot, Act, Branch, Enter, way}
 use Rattle.pv_layout.specs.Flows.{Leaving, by_exit, by_continue, by_return, Flow, act, enter, leave, then_, if_, choice, while_, for_, repeat_}
 use Rattle.pv_layout.specs.Layout.{width, loops_in, Exits, exit_by, before, in_loop, spots_of, loops_of}
+use Rattle.pv_layout.specs.Sound.{EachWay}
 use Rattle.pv_flow.specs.Automata.{Loop}
 use Rattle.pv_layout.proofs.Laying.{some_width, length_spots, length_loops}
 use Rattle.pv_layout.proofs.Each.{EachFrom, each_append, each_map}
-
--- each way of the spot, by where it leads and the loop of which it starts a turn
-abbrev pub EachWay : (ℕ → Option ℕ → Type 0) → Spot → Type 0
-EachWay P (Act checks on) = P on.to on.turn
-EachWay P (Branch checks c one other) = P one.to one.turn × P other.to other.turn
-EachWay P (Enter block instance place to) = P to None
 
 pub way_map : (P Q : ℕ → Option ℕ → Type 0) (spot : Spot) → ((to : ℕ) (mark : Option ℕ) → P to mark → Q to mark) → EachWay P spot
     → EachWay Q spot

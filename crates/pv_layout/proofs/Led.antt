@@ -1,28 +1,17 @@
 -- Which way a flow's ways lead: forward, or back to the first location of a loop that holds where they begin, as a turn of it where
 -- entering it starts one.
-use Rattle.std.proofs.Common.{◌≡◌, ℕ, suc, ◌+◌, ◌<◌, ◌≤◌, ◌⊎◌, inl, inr, List, [], ◌∷◌, slice_get, true, false, Option, Some, None, refl, arith}
+use Rattle.std.proofs.Common.{◌≡◌, ℕ, suc, ◌+◌, ◌<◌, ◌≤◌, inl, inr, List, [], ◌∷◌, slice_get, true, false, Some, None, refl, arith}
 use Rattle.pv_place.specs.declared.place.Place.{Place}
-use Rattle.pv_flow.specs.Automata.{Loop, holds}
+use Rattle.pv_flow.specs.Automata.{Loop}
 use Rattle.pv_layout.specs.Spots.{Spot, Act, Branch, way}
 use Rattle.pv_layout.specs.Flows.{Leaving, by_exit, by_continue, by_return, Flow, act, enter, leave, then_, if_, choice, while_, for_, repeat_}
 use Rattle.pv_layout.specs.Layout.{width, loops_in, Exits, exit_by, before, in_loop, spots_of, loops_of, bare}
+use Rattle.pv_layout.specs.Sound.{EachWay, IsLed}
 use Rattle.pv_layout.specs.Correct.{IsLaid}
 use Rattle.pv_layout.proofs.Lists.{laid_front, laid_back}
 use Rattle.pv_layout.proofs.Turns.{holds_from}
 use Rattle.pv_layout.proofs.Laying.{length_spots, length_loops}
 use Rattle.pv_layout.proofs.Each.{EachFrom, each_append}
-use Rattle.pv_layout.proofs.Leads.{EachWay}
-
-pub record LeadsBack (loops : List Loop) (mark : Option ℕ) (l to : ℕ) : Type 0 where
-  pub number : ℕ
-  pub loop : Loop
-  pub stands : slice_get loops number ≡ Some loop
-  pub first : to ≡ loop.first
-  pub held : holds loop l ≡ true
-  pub turn : (loop.entry_turn ≡ false) ⊎ (mark ≡ Some number)
-
-abbrev pub IsLed : List Loop → ℕ → ℕ → Option ℕ → Type 0
-IsLed loops l to mark = (l < to) ⊎ LeadsBack loops mark l to
 
 abbrev pub AreLed : List Loop → ℕ → List Spot → Type 0
 AreLed loops a spots = EachFrom (λ l spot. EachWay (IsLed loops l) spot) a spots

@@ -1,30 +1,34 @@
 -- The automaton of a text whose spots and loops keep what a flow's do has no fault and is well made; and so is that of a typed flow.
-use Rattle.std.proofs.Common.{◌≡◌, ℕ, suc, ◌+◌, ◌<◌, ◌≤◌, ◌⊎◌, inl, inr, List, [], ◌∷◌, ◌++◌, map, length, slice_get, Bool as Truth, true, false, not, ◌&&◌, ◌||◌, ◌==◌, nat_lt, nat_le, IfSome, Option, Some, None, All, refl, sym, subst, ap, ◌∙◌, arith}
+use Rattle.std.proofs.Common.{◌≡◌, ℕ, zero, suc, ◌+◌, ◌<◌, ◌≤◌, ◌⊎◌, inl, inr, List, [], ◌∷◌, ◌++◌, map, length, slice_get, Bool as Truth, true, false, not, ◌&&◌, ◌||◌, ◌==◌, nat_lt, nat_le, IfSome, Option, Some, None, All, refl, sym, subst, ap, ◌∙◌, arith}
 use Rattle.std.specs.List.{list_any, list_all}
 use Rattle.std.proofs.lemmas.Bool.{false≢true, lt-ltb, le-leb, and_from, cases_lt}
-use Rattle.std.proofs.lemmas.List.Elements.{All-from_recursion}
+use Rattle.std.proofs.lemmas.List.Elements.{All-from_recursion, recursion_from_All}
+use Rattle.std.proofs.lemmas.Option.{none-some, same_Some}
 use Rattle.pv_flow.specs.Terms.{Types}
 use Rattle.pv_flow.specs.Automata.{Edge, CallEdge, Loop, TrapEnd, type_at, edges_from, calls_from, holds}
 use Rattle.pv_flow.specs.Faults.{has_ends, edge_below, cross, enters_well, is_entered_well, is_loop, IsFaultless}
 use Rattle.pv_flow.specs.WellMade.{IsVariable, IsEdge, true_guards, OneIsTrue, leads_well, turns_well, IsLoop, AreApart, IsWellMade}
 use Rattle.pv_layout.specs.Spots.{Spot, edges_at}
-use Rattle.pv_layout.specs.Layout.{width, loops_in, to_done, spots_of, loops_of, Text, text_of, checks_in, traps_of, marks_of, Head, parts_of}
+use Rattle.pv_layout.specs.Layout.{width, to_done, spots_of, loops_of, Text, text_of, checks_in, traps_of, marks_of, Head, parts_of}
 use Rattle.pv_layout.specs.Flows.{Flow}
+use Rattle.pv_layout.specs.Sound.{EachWay, IsLed, SpotFits, LiesWithin, IsPair, IsTypedSpot, IsSoundText}
 use Rattle.pv_layout.specs.Bodies.{IsTypedFlow, Body, laid, IsTypedBody}
 use Rattle.pv_layout.proofs.Lists.{for_some, all_map}
 use Rattle.pv_layout.proofs.Turns.{holds_none}
-use Rattle.pv_layout.proofs.Laying.{some_width, length_spots, length_loops}
+use Rattle.pv_layout.proofs.Laying.{some_width, length_spots}
 use Rattle.pv_layout.proofs.Ends.{traps_numbered}
-use Rattle.pv_layout.proofs.Leads.{part_wider, IsLoopIn, part_loops, spots_in, loops_in_flow}
 use Rattle.pv_layout.proofs.FlowFits.{flow_fits}
-use Rattle.pv_layout.proofs.Led.{flow_led}
-use Rattle.pv_layout.proofs.LoopPairs.{loop_pairs}
+use Rattle.pv_layout.proofs.Each.{EachFrom}
+use Rattle.pv_layout.proofs.Fits.{AllFit}
+use Rattle.pv_layout.proofs.Led.{AreLed, flow_led}
+use Rattle.pv_layout.proofs.LoopPairs.{IsSpan, Pairs, loop_spans, loop_pairs}
 use Rattle.pv_layout.proofs.Located.{edges_past, HasEdges, edges_located, call_list, calls_past, calls_located, guards_of, call_alone, some_edge}
 use Rattle.pv_layout.proofs.TypedParts.{IsTypedEdge, edges_typed, spots_typed}
 use Rattle.pv_layout.proofs.Consecutive.{AreInRow, row_has, row_from, row_differs, row_all, row_lacks, traps_in_row, traps_below, traps_total, row_length}
 use Rattle.pv_layout.proofs.PartRuns.{past_all}
+use Rattle.pv_layout.proofs.BlockRuns.{text_leads}
 use Rattle.pv_layout.proofs.Whole.{laid_all}
-use Rattle.pv_layout.proofs.LegalEdges.{IsSoundText, at_index, IsSoundCall, edge_at, calls_sound, edge_leads, call_leads}
+use Rattle.pv_layout.proofs.LegalEdges.{at_index, all_at, some_all, IsSoundCall, edge_at, calls_sound, edge_leads, call_leads}
 use Rattle.pv_layout.proofs.LegalLoops.{the_edges, the_calls, turned, turned_loop, all_by, all_true, each_turned, edge_turns, edges_enter, calls_enter, calls_begin, turns_there, apart_turned, none_cross}
 
 abbrev the_traps : Text → List TrapEnd
@@ -127,15 +131,15 @@ others_some text l lt is = here_or_past text l (0 < counted text l)
 outside : (n : ℕ) (types : Types) (text : Text) → IsSoundText n types text → (k : ℕ) (loop : Loop) → slice_get text.loops k ≡ Some loop
     → list_all (λ end. not (holds loop end)) (ends text) ≡ true
 outside n types text sound k loop here = row_all (λ end. not (holds loop end)) (length text.spots) (ends text) (ends_in_row text)
-    (λ end low high. ap not (holds_none 0 (length text.spots) end loop (is.low, is.high) (inr low)))
+    (λ end low high. ap not (holds_none 0 (length text.spots) end loop (omega arith, is.high) (inr low)))
   where
-    is : IsLoopIn 0 (length text.spots) 0 (length text.loops) k loop
-    is = at_index (IsLoopIn 0 (length text.spots) 0 (length text.loops)) text.loops k loop sound.loops here
+    is : LiesWithin (length text.spots) loop
+    is = some_all (LiesWithin (length text.spots)) text.loops k loop sound.loops here
 
 loop_made : (n : ℕ) (types : Types) (head : Head) (text : Text) → IsSoundText n types text → (k : ℕ) (loop : Loop)
     → slice_get text.loops k ≡ Some loop → IsLoop (parts_of head text) (turned_loop text k loop)
 loop_made n types head text sound k loop here = record {
-  range = (at_index (IsLoopIn 0 (length text.spots) 0 (length text.loops)) text.loops k loop sound.loops here).range;
+  range = (some_all (LiesWithin (length text.spots)) text.loops k loop sound.loops here).range;
   turns = λ e. for_some (λ (edge : Edge). turns_well (turned_loop text k loop) e edge ≡ true) (slice_get (the_edges text) e)
       (λ edge there. edge_turns n types text sound k loop here e edge there);
   calls = All-from_recursion (λ (call : CallEdge). (loop.entry_turn || not (call.from == loop.first)) ≡ true) (the_calls text)
@@ -164,7 +168,7 @@ loop_faultless n types head text sound k loop here = and_from
 
 -- ---- the whole
 
-pub faultless : (head : Head) (text : Text) → IsSoundText (length head.vars) (type_at head.vars) text → IsFaultless (parts_of head text)
+faultless : (head : Head) (text : Text) → IsSoundText (length head.vars) (type_at head.vars) text → IsFaultless (parts_of head text)
 faultless head text sound = record {
   locations = and_from
       ((list_all edge_within (the_edges text) && list_all call_within (the_calls text)) && list_all loop_within (turned text))
@@ -181,7 +185,8 @@ faultless head text sound = record {
       (ends_there text);
   variables = and_from (list_all (edge_below n) (the_edges text)) (list_all (λ (call : CallEdge). nat_le call.instance n) (the_calls text))
       (all_true (edge_below n) (the_edges text) (all_map (IsTypedEdge n types) (λ (edge : Edge). edge_below n edge ≡ true) (the_edges text)
-      (λ edge is. is.below) (edges_typed n types (length text.spots) 0 0 text.spots sound.typed)))
+      (λ edge is. is.below) (edges_typed n types (length text.spots) 0 0 text.spots
+      (recursion_from_All (IsTypedSpot n types) text.spots sound.typed))))
       (all_true (λ (call : CallEdge). nat_le call.instance n) (the_calls text)
       (all_map (λ (call : CallEdge). IsSoundCall n text call.from call.to call.instance)
       (λ (call : CallEdge). nat_le call.instance n ≡ true)
@@ -212,18 +217,19 @@ faultless head text sound = record {
 
     loop_lies : (k : ℕ) (loop : Loop) → slice_get text.loops k ≡ Some loop → loop_within (turned_loop text k loop) ≡ true
     loop_lies k loop here =
-        let is = at_index (IsLoopIn 0 (length text.spots) 0 (length text.loops)) text.loops k loop sound.loops here in
+        let is = some_all (LiesWithin (length text.spots)) text.loops k loop sound.loops here in
         let range = is.range in
         let high = is.high in
         within loop.first loop.last (omega (arith, range, high)) (omega (arith, high))
 
-pub well_made : (head : Head) (text : Text) → All IsVariable head.vars → head.bound + head.shared ≤ length head.vars
+well_made : (head : Head) (text : Text) → All IsVariable head.vars → head.bound + head.shared ≤ length head.vars
     → IsSoundText (length head.vars) (type_at head.vars) text → IsWellMade (parts_of head text)
 well_made head text vars counts sound = record {
   vars = vars;
   counts = counts;
   edges = All-from_recursion (IsEdge types) (the_edges text) (all_map (IsTypedEdge n types) (IsEdge types) (the_edges text)
-      (λ edge is. is.typed) (edges_typed n types (length text.spots) 0 0 text.spots sound.typed));
+      (λ edge is. is.typed) (edges_typed n types (length text.spots) 0 0 text.spots
+      (recursion_from_All (IsTypedSpot n types) text.spots sound.typed)));
   guards = one_guard head text;
   calls = calls_alone text;
   ends = ends_empty text;
@@ -253,30 +259,30 @@ well_made head text vars counts sound = record {
 
 -- ---- a flow
 
-flow_sound : (n : ℕ) (types : Types) (f : Flow) → IsTypedFlow n types f → IsSoundText n types (text_of f)
+pairs_at : (xs : List Loop) → Pairs xs → (i j : ℕ) → i < j → (x y : Loop) → slice_get xs i ≡ Some x → slice_get xs j ≡ Some y → IsPair x y
+pairs_at [] are i j lt x y here there = absurd (none-some x here)
+pairs_at (z ∷ xs) are zero zero lt x y here there = absurd (omega (arith, lt))
+pairs_at (z ∷ xs) are zero (suc j) lt x y here there =
+    subst (λ (l : Loop). IsPair l y) (same_Some z x here) (all_at (IsPair z) xs j y are.0 there)
+pairs_at (z ∷ xs) are (suc i) zero lt x y here there = absurd (omega (arith, lt))
+pairs_at (z ∷ xs) are (suc i) (suc j) lt x y here there = pairs_at xs are.1 i j (omega (arith, lt)) x y here there
+
+pub flow_sound : (n : ℕ) (types : Types) (f : Flow) → IsTypedFlow n types f → IsSoundText n types (text_of f)
 flow_sound n types f typed = record {
   some = let low = some_width f in omega (arith, low, long);
-  spots = part_wider (λ x. x ≤ length spots) f 0 0 (to_done (width f)) 0 (length spots) 0 (length (loops_of f 0))
-      (omega arith) (omega (arith, long)) (omega arith) (omega (arith, many))
-      (spots_in (λ x. x ≤ length spots) f 0 0 (to_done (width f)) (λ x low high. omega (arith, high, long))
-      (record { next = within; on_exit = within; on_continue = within; on_return = within }));
-  loops = part_loops f 0 0 0 (length spots) 0 (length (loops_of f 0)) (omega arith) (omega (arith, long)) (omega arith)
-      (omega (arith, many))
-      (loops_in_flow f 0 0);
-  fits = flow_fits f 0 0 (to_done (width f)) (record {
-    next = inr (omega arith);
-    on_exit = inr (omega arith);
-    on_continue = inr (omega arith);
-    on_return = inr (omega arith);
-  });
-  led = flow_led (loops_of f 0) f 0 0 (to_done (width f)) (laid_all (loops_of f 0)) (record {
-    next = λ l low high. inl (omega (arith, high));
-    on_exit = λ l low high. inl (omega (arith, high));
-    on_continue = λ l low high. inl (omega (arith, high));
-    on_return = λ l low high. inl (omega (arith, high));
-  });
-  pairs = loop_pairs f 0;
-  typed = spots_typed n types f 0 0 (to_done (width f)) typed;
+  leads = text_leads f;
+  led = λ l. for_some (EachWay (IsLed loops l)) (slice_get spots l)
+      (λ spot here. at_index (λ m other. EachWay (IsLed loops m) other) spots l spot led here);
+  fits = λ k l. for_some (λ (loop : Loop). IfSome (slice_get spots l) (SpotFits k loop l)) (slice_get loops k)
+      (λ loop here. for_some (SpotFits k loop l) (slice_get spots l)
+      (λ spot there. at_index (SpotFits k loop) spots l spot
+      (at_index (λ m other. EachFrom (SpotFits m other) 0 spots) loops k loop fits here) there));
+  loops = All-from_recursion (LiesWithin (length spots)) loops (all_map (IsSpan 0 (0 + width f)) (LiesWithin (length spots)) loops
+      (λ loop is. record { range = is.range; high = let high = is.high in omega (arith, high, long) }) (loop_spans f 0));
+  pairs = λ i j lt. for_some (λ (one : Loop). IfSome (slice_get loops j) (IsPair one)) (slice_get loops i)
+      (λ one here. for_some (IsPair one) (slice_get loops j)
+      (λ other there. pairs_at loops (loop_pairs f 0) i j lt one other here there));
+  typed = All-from_recursion (IsTypedSpot n types) spots (spots_typed n types f 0 0 (to_done (width f)) typed);
 }
   where
     spots : List Spot
@@ -285,14 +291,29 @@ flow_sound n types f typed = record {
     long : length spots ≡ width f
     long = length_spots f 0 0 (to_done (width f))
 
-    many : length (loops_of f 0) ≡ loops_in f
-    many = length_loops f 0
+    loops : List Loop
+    loops = loops_of f 0
 
-    within : width f ≤ length spots
-    within = omega (arith, long)
+    led : AreLed loops 0 spots
+    led = flow_led loops f 0 0 (to_done (width f)) (laid_all loops) (record {
+      next = λ l low high. inl (omega (arith, high));
+      on_exit = λ l low high. inl (omega (arith, high));
+      on_continue = λ l low high. inl (omega (arith, high));
+      on_return = λ l low high. inl (omega (arith, high));
+    })
+
+    fits : AllFit 0 loops 0 spots
+    fits = flow_fits f 0 0 (to_done (width f)) (record {
+      next = inr (omega arith);
+      on_exit = inr (omega arith);
+      on_continue = inr (omega arith);
+      on_return = inr (omega arith);
+    })
+
+pub texts_are_legal : (head : Head) (text : Text) → All IsVariable head.vars → head.bound + head.shared ≤ length head.vars
+    → IsSoundText (length head.vars) (type_at head.vars) text → IsFaultless (parts_of head text) × IsWellMade (parts_of head text)
+texts_are_legal head text vars counts sound = (faultless head text sound, well_made head text vars counts sound)
 
 pub layouts_are_legal : (body : Body) → IsTypedBody body → IsFaultless (laid body) × IsWellMade (laid body)
-layouts_are_legal body is = (faultless body.head (text_of body.code) sound, well_made body.head (text_of body.code) is.vars is.counts sound)
-  where
-    sound : IsSoundText (length body.head.vars) (type_at body.head.vars) (text_of body.code)
-    sound = flow_sound (length body.head.vars) (type_at body.head.vars) body.code is.code
+layouts_are_legal body is = texts_are_legal body.head (text_of body.code) is.vars is.counts
+    (flow_sound (length body.head.vars) (type_at body.head.vars) body.code is.code)

@@ -1,32 +1,23 @@
 -- What is known of each edge and call edge of a text whose spots and loops keep what a flow's do: where it leads, and how it meets loops.
-use Rattle.std.proofs.Common.{◌≡◌, ℕ, zero, suc, ◌+◌, ◌<◌, ◌≤◌, ◌⊎◌, inl, inr, List, [], ◌∷◌, length, slice_get, Bool as Truth, true, false, not, ◌&&◌, ◌||◌, ◌==◌, nat_lt, Option, Some, None, subst, ap, ◌∙◌, arith}
+use Rattle.std.proofs.Common.{◌≡◌, ℕ, zero, suc, ◌+◌, ◌<◌, ◌≤◌, ◌⊎◌, inl, inr, List, [], ◌∷◌, length, slice_get, Bool as Truth, true, false, not, ◌&&◌, ◌||◌, ◌==◌, nat_lt, IfSome, Option, Some, None, All, subst, ap, ◌∙◌, arith}
 use Rattle.std.specs.List.{AllByRecursion, list_any}
 use Rattle.std.proofs.lemmas.Bool.{eq-eqb, lt-ltb, and_from, or_left, or_right}
+use Rattle.std.proofs.lemmas.List.Elements.{recursion_from_All}
 use Rattle.std.proofs.lemmas.Option.{none-some, same_Some}
 use Rattle.pv_flow.specs.Terms.{Types}
 use Rattle.pv_flow.specs.Automata.{Edge, CallEdge, Loop, holds}
 use Rattle.pv_flow.specs.WellMade.{leads_back, leads_well, turns_by}
 use Rattle.pv_layout.specs.Spots.{Spot, Act, Branch, Enter}
 use Rattle.pv_layout.specs.Layout.{Text, checks_in, edges_of, calls_of, marks_of, is_marked, turns_of, with_turns, turned_loops}
+use Rattle.pv_layout.specs.Sound.{EachWay, LeadsWithin, LeadsBack, IsLed, FitsLoop, SpotFits, LiesWithin, IsTypedSpot, IsSoundText}
 use Rattle.pv_layout.proofs.Marks.{turn_is_marked, turned_at}
+use Rattle.pv_layout.proofs.Lists.{some_at}
+use Rattle.pv_layout.proofs.PartRuns.{is_below}
 use Rattle.pv_layout.proofs.Each.{EachFrom, each_index, each_by}
-use Rattle.pv_layout.proofs.Leads.{EachWay, IsSpotIn, IsLoopIn}
-use Rattle.pv_layout.proofs.Fits.{FitsLoop, SpotFits, AllFit, past_fits}
-use Rattle.pv_layout.proofs.Led.{LeadsBack, IsLed, AreLed}
-use Rattle.pv_layout.proofs.LoopPairs.{Pairs}
-use Rattle.pv_layout.proofs.TypedParts.{IsTypedSpot}
+use Rattle.pv_layout.proofs.Fits.{past_fits}
 use Rattle.pv_layout.proofs.Along.{Along, IsMarkedAt, along_index, along_spots, IfCall, calls_all}
 
 -- ---- a text
-
-pub record IsSoundText (n : ℕ) (types : Types) (text : Text) : Type 0 where
-  pub some : 0 < length text.spots
-  pub spots : EachFrom (IsSpotIn (λ x. x ≤ length text.spots) 0 (length text.spots) 0 (length text.loops)) 0 text.spots
-  pub loops : EachFrom (IsLoopIn 0 (length text.spots) 0 (length text.loops)) 0 text.loops
-  pub fits : AllFit 0 text.loops 0 text.spots
-  pub led : AreLed text.loops 0 text.spots
-  pub pairs : Pairs text.loops
-  pub typed : AllByRecursion (IsTypedSpot n types) text.spots
 
 pub at_index : {X : Type 0} (P : ℕ → X → Type 0) (xs : List X) (i : ℕ) (x : X) → EachFrom P 0 xs → slice_get xs i ≡ Some x → P i x
 at_index {X} P xs i x h here = subst (λ (k : ℕ). P k x) (omega arith) (each_index P 0 xs i x h here)
@@ -53,25 +44,30 @@ pub record IsSoundCall (n : ℕ) (text : Text) (l to instance : ℕ) : Type 0 wh
 abbrev SpotFitsAll : Text → ℕ → Spot → Type 0
 SpotFitsAll text l spot = (k : ℕ) (loop : Loop) → slice_get text.loops k ≡ Some loop → SpotFits (0 + k) loop l spot
 
+-- at a text's element
+pub some_all : {X : Type 0} (P : X → Type 0) (xs : List X) (i : ℕ) (x : X) → All P xs → slice_get xs i ≡ Some x → P x
+some_all P xs i x all here = all_at P xs i x (recursion_from_All P xs all) here
+
 spot_fits : (n : ℕ) (types : Types) (text : Text) → IsSoundText n types text → (i : ℕ) (spot : Spot) → slice_get text.spots i ≡ Some spot
     → SpotFitsAll text i spot
-spot_fits n types text sound i spot here k loop there = at_index (SpotFits (0 + k) loop) text.spots i spot
-    (each_index (λ m other. EachFrom (SpotFits m other) 0 text.spots) 0 text.loops k loop sound.fits there) here
+spot_fits n types text sound i spot here k loop there = subst (λ (m : ℕ). SpotFits m loop i spot) (omega arith)
+    (some_at (SpotFits k loop i) (slice_get text.spots i) spot here
+    (some_at (λ (other : Loop). IfSome (slice_get text.spots i) (SpotFits k other i)) (slice_get text.loops k) loop there (sound.fits k i)))
 
 sound_edge : (text : Text) (l to : ℕ) (mark : Option ℕ) → l < length text.spots → to ≤ length text.spots → IsLed text.loops l to mark
     → ((k : ℕ) (loop : Loop) → slice_get text.loops k ≡ Some loop → FitsLoop (0 + k) loop l to mark) → IsSoundEdge text l to mark
 sound_edge text l to mark lt le led fits = record { from = lt; aims = omega (arith, le); led = led; fits = fits }
 
-sound_ways : (text : Text) (l : ℕ) (spot : Spot) → IsSpotIn (λ x. x ≤ length text.spots) 0 (length text.spots) 0 (length text.loops) l spot
+sound_ways : (text : Text) (l : ℕ) (spot : Spot) → l < length text.spots → LeadsWithin (length text.spots) spot
     → EachWay (IsLed text.loops l) spot → SpotFitsAll text l spot → EachWay (IsSoundEdge text l) spot
-sound_ways text l (Act checks on) is led fits =
-    sound_edge text l on.to on.turn is.high (is.ways).leads led (λ k loop here. (fits k loop here).ways)
-sound_ways text l (Branch checks c one other) is led fits = (
-  sound_edge text l one.to one.turn is.high ((is.ways).0).leads led.0 (λ k loop here. ((fits k loop here).ways).0),
-  sound_edge text l other.to other.turn is.high ((is.ways).1).leads led.1 (λ k loop here. ((fits k loop here).ways).1),
+sound_ways text l (Act checks on) lt leads led fits =
+    sound_edge text l on.to on.turn lt leads led (λ k loop here. (fits k loop here).ways)
+sound_ways text l (Branch checks c one other) lt leads led fits = (
+  sound_edge text l one.to one.turn lt leads.0 led.0 (λ k loop here. ((fits k loop here).ways).0),
+  sound_edge text l other.to other.turn lt leads.1 led.1 (λ k loop here. ((fits k loop here).ways).1),
 )
-sound_ways text l (Enter block instance place to) is led fits =
-    sound_edge text l to None is.high (is.ways).leads led (λ k loop here. (fits k loop here).ways)
+sound_ways text l (Enter block instance place to) lt leads led fits =
+    sound_edge text l to None lt leads led (λ k loop here. (fits k loop here).ways)
 
 -- to a check's trap
 trap_edge_sound : (n : ℕ) (types : Types) (text : Text) → IsSoundText n types text → (l s : ℕ) → l < length text.spots
@@ -80,19 +76,18 @@ trap_edge_sound n types text sound l s lt below = record {
   from = lt;
   aims = omega (arith, below);
   led = inl (omega (arith, lt));
-  fits = λ k loop here. past (0 + k) loop
-      (at_index (IsLoopIn 0 (length text.spots) 0 (length text.loops)) text.loops k loop sound.loops here);
+  fits = λ k loop here. past (0 + k) loop (some_all (LiesWithin (length text.spots)) text.loops k loop sound.loops here);
 }
   where
-    past : (k : ℕ) (loop : Loop) {m : ℕ} → IsLoopIn 0 (length text.spots) 0 (length text.loops) m loop
-        → FitsLoop k loop l (length text.spots + suc s) None
+    past : (k : ℕ) (loop : Loop) → LiesWithin (length text.spots) loop → FitsLoop k loop l (length text.spots + suc s) None
     past k loop is = past_fits k loop l (length text.spots + suc s) (let high = is.high in omega (arith, high))
 
 pub sound_at : (n : ℕ) (types : Types) (text : Text) → IsSoundText n types text → (i : ℕ) (spot : Spot) → slice_get text.spots i ≡ Some spot
     → EachWay (IsSoundEdge text i) spot
 sound_at n types text sound i spot here = sound_ways text i spot
-    (at_index (IsSpotIn (λ x. x ≤ length text.spots) 0 (length text.spots) 0 (length text.loops)) text.spots i spot sound.spots here)
-    (at_index (λ l other. EachWay (IsLed text.loops l) other) text.spots i spot sound.led here) (spot_fits n types text sound i spot here)
+    (is_below text.spots i spot here)
+    (some_at (LeadsWithin (length text.spots)) (slice_get text.spots i) spot here (sound.leads i))
+    (some_at (EachWay (IsLed text.loops i)) (slice_get text.spots i) spot here (sound.led i)) (spot_fits n types text sound i spot here)
 
 -- all edges with their marks
 pub edges_along : (n : ℕ) (types : Types) (text : Text) → IsSoundText n types text
@@ -123,7 +118,7 @@ calls_sound n types text sound = calls_all (IsSoundCall n text) 0 text.spots
     (each_by (IfCall (IsSoundCall n text)) 0 text.spots (λ i spot here.
     subst (λ (m : ℕ). IfCall (IsSoundCall n text) m spot) (omega arith)
     (call_at n types text i spot (sound_at n types text sound i spot here) (spot_fits n types text sound i spot here)
-    (all_at (IsTypedSpot n types) text.spots i spot sound.typed here))))
+    (some_all (IsTypedSpot n types) text.spots i spot sound.typed here))))
 
 -- ---- which way it leads
 

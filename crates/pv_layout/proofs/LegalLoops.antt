@@ -1,5 +1,5 @@
 -- Loops with their turns: what their edges and calls keep to, that no two share a turn, and that none cross.
-use Rattle.std.proofs.Common.{◌≡◌, ℕ, zero, suc, ◌+◌, ◌<◌, ◌≤◌, ◌⊎◌, inl, inr, List, [], ◌∷◌, length, slice_get, Bool as Truth, true, false, not, ◌||◌, ◌==◌, nat_lt, cond, Option, Some, None, refl, sym, subst, ap, ◌∙◌, arith}
+use Rattle.std.proofs.Common.{◌≡◌, ℕ, zero, suc, ◌+◌, ◌<◌, ◌≤◌, ◌⊎◌, inl, inr, List, [], ◌∷◌, length, slice_get, Bool as Truth, true, false, not, ◌||◌, ◌==◌, nat_lt, cond, IfSome, Option, Some, None, refl, sym, subst, ap, ◌∙◌, arith}
 use Rattle.std.specs.List.{AllByRecursion, list_any, list_all}
 use Rattle.std.proofs.lemmas.Bool.{false≢true, eqb-true, ne_eqb, lt-ltb, and_from, or_from, cases_lt}
 use Rattle.std.proofs.lemmas.Option.{none-some, same_Some}
@@ -8,14 +8,14 @@ use Rattle.pv_flow.specs.Automata.{Edge, CallEdge, Loop, is_turn}
 use Rattle.pv_flow.specs.Faults.{cross, enters_well}
 use Rattle.pv_flow.specs.WellMade.{turns_well, share_no_turn, AreApart}
 use Rattle.pv_layout.specs.Layout.{Text, edges_of, calls_of, marks_of, is_marked, turns_of, with_turns, turned_loops}
+use Rattle.pv_layout.specs.Sound.{turn_fits, IsPair, IsSoundText}
 use Rattle.pv_layout.specs.Correct.{IsLaid}
-use Rattle.pv_layout.proofs.Lists.{all_map}
+use Rattle.pv_layout.proofs.Lists.{some_at, all_map}
 use Rattle.pv_layout.proofs.Edges.{laid_ahead}
 use Rattle.pv_layout.proofs.Marks.{turn_is_marked}
-use Rattle.pv_layout.proofs.Fits.{turn_fits}
-use Rattle.pv_layout.proofs.LoopPairs.{IsPair, Pairs, held_clear, inside_held}
+use Rattle.pv_layout.proofs.LoopPairs.{held_clear, inside_held}
 use Rattle.pv_layout.proofs.Along.{Along}
-use Rattle.pv_layout.proofs.LegalEdges.{IsSoundText, all_at, IsSoundEdge, IsSoundCall, edge_at, calls_sound, edges_along}
+use Rattle.pv_layout.proofs.LegalEdges.{IsSoundEdge, IsSoundCall, edge_at, calls_sound, edges_along}
 
 abbrev pub the_edges : Text → List Edge
 the_edges text = edges_of (length text.spots) 0 0 text.spots
@@ -164,18 +164,15 @@ no_shared_turn text i j one other lt = ap not
 
 -- ---- pairs
 
-pairs_at : (xs : List Loop) → Pairs xs → (i j : ℕ) → i < j → (x y : Loop) → slice_get xs i ≡ Some x → slice_get xs j ≡ Some y → IsPair x y
-pairs_at [] are i j lt x y here there = absurd (none-some x here)
-pairs_at (z ∷ xs) are zero zero lt x y here there = absurd (omega (arith, lt))
-pairs_at (z ∷ xs) are zero (suc j) lt x y here there =
-    subst (λ (l : Loop). IsPair l y) (same_Some z x here) (all_at (IsPair z) xs j y are.0 there)
-pairs_at (z ∷ xs) are (suc i) zero lt x y here there = absurd (omega (arith, lt))
-pairs_at (z ∷ xs) are (suc i) (suc j) lt x y here there = pairs_at xs are.1 i j (omega (arith, lt)) x y here there
+pair_at : (n : ℕ) (types : Types) (text : Text) → IsSoundText n types text → (i j : ℕ) → i < j → (x y : Loop)
+    → slice_get text.loops i ≡ Some x → slice_get text.loops j ≡ Some y → IsPair x y
+pair_at n types text sound i j lt x y here there = some_at (IsPair x) (slice_get text.loops j) y there
+    (some_at (λ (one : Loop). IfSome (slice_get text.loops j) (IsPair one)) (slice_get text.loops i) x here (sound.pairs i j lt))
 
 are_apart : (n : ℕ) (types : Types) (text : Text) → IsSoundText n types text → (i j : ℕ) (one other : Loop) → i < j
     → slice_get text.loops i ≡ Some one → slice_get text.loops j ≡ Some other → AreApart (turned_loop text i one) (turned_loop text j other)
 are_apart n types text sound i j one other lt here there =
-    let pair = pairs_at text.loops sound.pairs i j lt one other here there in
+    let pair = pair_at n types text sound i j lt one other here there in
     record { turns = no_shared_turn text i j one other lt; firsts = pair.firsts; back = pair.back; order = pair.order }
 
 pub none_cross : (n : ℕ) (types : Types) (text : Text) → IsSoundText n types text → (i : ℕ) (one : Loop) → slice_get text.loops i ≡ Some one
@@ -183,8 +180,8 @@ pub none_cross : (n : ℕ) (types : Types) (text : Text) → IsSoundText n types
 none_cross n types text sound i one here j other there = by (cases_lt i j) (cases_lt j i)
   where
     by : (i < j) ⊎ (j ≤ i) → (j < i) ⊎ (i ≤ j) → cross one other ≡ false
-    by (inl lt) far = (pairs_at text.loops sound.pairs i j lt one other here there).clear
-    by (inr le) (inl lt) = (pairs_at text.loops sound.pairs j i lt other one there here).clear_back
+    by (inl lt) far = (pair_at n types text sound i j lt one other here there).clear
+    by (inr le) (inl lt) = (pair_at n types text sound j i lt other one there here).clear_back
     by (inr le) (inr ge) =
         let same : i ≡ j = omega (arith, le, ge) in
         subst (λ (l : Loop). cross one l ≡ false)

@@ -8,6 +8,7 @@ use Rattle.pv_flow.specs.Faults.{cross}
 use Rattle.pv_flow.specs.WellMade.{begins_alone, stands_before}
 use Rattle.pv_layout.specs.Flows.{Flow, act, enter, leave, then_, if_, choice, while_, for_, repeat_}
 use Rattle.pv_layout.specs.Layout.{width, loops_of, bare}
+use Rattle.pv_layout.specs.Sound.{IsPair}
 use Rattle.pv_layout.proofs.Lists.{all_append, all_map}
 
 -- in the locations from a on, below b
@@ -15,13 +16,6 @@ pub record IsSpan (a b : ℕ) (loop : Loop) : Type 0 where
   pub low : a ≤ loop.first
   pub range : loop.first ≤ loop.last
   pub high : loop.last < b
-
-pub record IsPair (x y : Loop) : Type 0 where
-  pub firsts : begins_alone x y ≡ true
-  pub back : begins_alone y x ≡ true
-  pub order : stands_before x y ≡ true
-  pub clear : cross x y ≡ false
-  pub clear_back : cross y x ≡ false
 
 abbrev pub Pairs : List Loop → Type 0
 Pairs [] = Unit {0}

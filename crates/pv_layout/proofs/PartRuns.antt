@@ -5,13 +5,13 @@ use Rattle.std.proofs.lemmas.Option.{none-some}
 use Rattle.pv_flow.specs.Terms.{Term, Valuation}
 use Rattle.pv_flow.specs.Automata.{Edge, CallEdge, Loop, Parts}
 use Rattle.pv_flow.specs.Runs.{End, done_with, trapped, gone_over, Outcome, Spot as State, at, past, Counts, Way as Taken, taken, way_of, ways_by, ended, moved}
-use Rattle.pv_flow.specs.Calls.{Work, Stage, running, finished, returned, numbered, call_from, call_of, ComesTo, stays, ends, goes, calls}
+use Rattle.pv_flow.specs.Calls.{Blocks, Work, Stage, running, finished, returned, numbered, call_from, call_of, ComesTo, stays, ends, goes, calls}
 use Rattle.pv_layout.specs.Spots.{Check, Way, Spot, Act, Branch, Enter, checks_of, is_on, failing, true_term, both, negated, none_of, check_edges, way_edge, way_edges, edges_at}
 use Rattle.pv_layout.specs.Flows.{Setting, assigned_by}
 use Rattle.pv_layout.specs.Layout.{Text, Head, parts_of, edges_of, calls_of, turned_loops, marks_of, no_marks, way_marks, traps_of, traps_at}
 use Rattle.pv_layout.specs.SpotRuns.{calls_before, one_more, turn_to, led_by, along, unless, back_to, step_of, stepped, Reaches, arrived, further}
-use Rattle.pv_layout.specs.Bodies.{Bodies, blocks_of}
-use Rattle.pv_layout.specs.Correct.{IsLaid, LeadsWithin, LeadWithin, IsCall, AreCalls}
+use Rattle.pv_layout.specs.Sound.{LeadsWithin, LeadWithin}
+use Rattle.pv_layout.specs.Correct.{IsLaid, IsCall, AreCalls}
 use Rattle.pv_layout.proofs.Lists.{some_at}
 use Rattle.pv_layout.proofs.Guards.{IsBit, true_is, on_negated, beside}
 use Rattle.pv_layout.proofs.Marks.{same_moved, led_stage, led_marked}
@@ -21,38 +21,38 @@ use Rattle.pv_layout.proofs.Ends.{at_done, no_end, at_trap, check_trap, laid_ind
 -- ---- stages
 
 -- what a stage comes to
-abbrev pub Goal : Bodies → ℕ → Work → Outcome → Stage → Type 0
-Goal bodies n k out (running x w) = ComesTo (blocks_of bodies) n k (running x w) out
-Goal bodies n k out (finished end) = end ≡ out
+abbrev pub Goal : Blocks → ℕ → Work → Outcome → Stage → Type 0
+Goal blocks n k out (running x w) = ComesTo blocks n k (running x w) out
+Goal blocks n k out (finished end) = end ≡ out
 
 -- the same of locations up to a limit
-abbrev pub Comes : Bodies → ℕ → Work → Outcome → ℕ → Stage → Type 0
-Comes bodies n k out limit (running (at l counts) w) = l ≤ limit → ComesTo (blocks_of bodies) n k (running (at l counts) w) out
-Comes bodies n k out limit (running (past place) w) = gone_over place ≡ out
-Comes bodies n k out limit (finished end) = end ≡ out
+abbrev pub Comes : Blocks → ℕ → Work → Outcome → ℕ → Stage → Type 0
+Comes blocks n k out limit (running (at l counts) w) = l ≤ limit → ComesTo blocks n k (running (at l counts) w) out
+Comes blocks n k out limit (running (past place) w) = gone_over place ≡ out
+Comes blocks n k out limit (finished end) = end ≡ out
 
-goal_led : (bodies : Bodies) (n : ℕ) (k : Work) (out : Outcome) (x : State) (w : Valuation) (stage : Stage) → led_stage x w ≡ stage
-    → Goal bodies n k out stage → ComesTo (blocks_of bodies) n k (running x w) out
-goal_led bodies n k out (at l counts) w stage e h = subst (λ (s : Stage). Goal bodies n k out s) (sym e) h
-goal_led bodies n k out (past place) w stage e h =
-    ends (ap (λ (o : Outcome). Some o) (subst (λ (s : Stage). Goal bodies n k out s) (sym e) h))
+goal_led : (blocks : Blocks) (n : ℕ) (k : Work) (out : Outcome) (x : State) (w : Valuation) (stage : Stage) → led_stage x w ≡ stage
+    → Goal blocks n k out stage → ComesTo blocks n k (running x w) out
+goal_led blocks n k out (at l counts) w stage e h = subst (λ (s : Stage). Goal blocks n k out s) (sym e) h
+goal_led blocks n k out (past place) w stage e h =
+    ends (ap (λ (o : Outcome). Some o) (subst (λ (s : Stage). Goal blocks n k out s) (sym e) h))
 
 -- along a way to a location within the limit
-goal_along : (bodies : Bodies) (n : ℕ) (k : Work) (out : Outcome) (limit : ℕ) (loops : List Loop) (l to : ℕ) (counts : Counts)
+goal_along : (blocks : Blocks) (n : ℕ) (k : Work) (out : Outcome) (limit : ℕ) (loops : List Loop) (l to : ℕ) (counts : Counts)
     (v : Valuation)
-    (turn : Option ℕ) → to ≤ limit → Comes bodies n k out limit (led_by n loops l to counts v turn)
-    → Goal bodies n k out (led_by n loops l to counts v turn)
-goal_along bodies n k out limit loops l to counts v None le h = h le
-goal_along bodies n k out limit loops l to counts v (Some i) le h = by (slice_get loops i) h
+    (turn : Option ℕ) → to ≤ limit → Comes blocks n k out limit (led_by n loops l to counts v turn)
+    → Goal blocks n k out (led_by n loops l to counts v turn)
+goal_along blocks n k out limit loops l to counts v None le h = h le
+goal_along blocks n k out limit loops l to counts v (Some i) le h = by (slice_get loops i) h
   where
-    over : (loop : Loop) (b : Bool) (stage : Stage) → (Comes bodies n k out limit stage → Goal bodies n k out stage)
-        → Comes bodies n k out limit (elim b [ true ↦ finished (gone_over loop.place) | false ↦ stage ])
-        → Goal bodies n k out (elim b [ true ↦ finished (gone_over loop.place) | false ↦ stage ])
+    over : (loop : Loop) (b : Bool) (stage : Stage) → (Comes blocks n k out limit stage → Goal blocks n k out stage)
+        → Comes blocks n k out limit (elim b [ true ↦ finished (gone_over loop.place) | false ↦ stage ])
+        → Goal blocks n k out (elim b [ true ↦ finished (gone_over loop.place) | false ↦ stage ])
     over loop true stage go h = h
     over loop false stage go h = go h
 
-    by : (o : Option Loop) → Comes bodies n k out limit (turn_to n i to counts (moved loops l to counts) v o)
-        → Goal bodies n k out (turn_to n i to counts (moved loops l to counts) v o)
+    by : (o : Option Loop) → Comes blocks n k out limit (turn_to n i to counts (moved loops l to counts) v o)
+        → Goal blocks n k out (turn_to n i to counts (moved loops l to counts) v o)
     by None h = h le
     by (Some loop) h = over loop (nat_le n (counts i)) (running (at to (one_more i (moved loops l to counts))) v) (λ g. g le) h
 
@@ -81,7 +81,7 @@ abbrev the_loops : Text → List Loop
 the_loops text = turned_loops (marks_of text.spots) 0 text.loops
 
 -- by the way that is taken
-step_goes : (bodies : Bodies) (n : ℕ) (head : Head) (text : Text) (place : ℕ → ℕ) (free : ℕ) (out : Outcome) (l : ℕ) (counts : Counts)
+step_goes : (blocks : Blocks) (n : ℕ) (head : Head) (text : Text) (place : ℕ → ℕ) (free : ℕ) (out : Outcome) (l : ℕ) (counts : Counts)
     (w : Valuation)
     (e : ℕ) (edge : Edge) (mark : Option ℕ) (stage : Stage) → l < length text.spots
     → call_of (parts_of head text) (at l counts) ≡ None
@@ -90,11 +90,11 @@ step_goes : (bodies : Bodies) (n : ℕ) (head : Head) (text : Text) (place : ℕ
     → slice_get (marks_of text.spots) e ≡ Some mark
     → led_by n text.loops l edge.to counts
     (assigned_by (record { place = place; called = λ j b i v. done_with v; bound = n }) edge.sets w) mark ≡ stage
-    → Goal bodies n (laid_work head text place free) out stage
-    → ComesTo (blocks_of bodies) n (laid_work head text place free) (running (at l counts) w) out
-step_goes bodies n head text place free out l counts w e edge mark stage lt no_call takes marked same h =
+    → Goal blocks n (laid_work head text place free) out stage
+    → ComesTo blocks n (laid_work head text place free) (running (at l counts) w) out
+step_goes blocks n head text place free out l counts w e edge mark stage lt no_call takes marked same h =
     goes (way_of (the_loops text) n l counts e edge) (no_end head text l lt) no_call takes
-    (goal_led bodies n (laid_work head text place free) out (way_of (the_loops text) n l counts e edge).to
+    (goal_led blocks n (laid_work head text place free) out (way_of (the_loops text) n l counts e edge).to
     (assigned_by (record { place = place; called = λ j b i v. done_with v; bound = n }) edge.sets w) stage
     (led_marked (marks_of text.spots) text.loops n e l edge.to counts
     (assigned_by (record { place = place; called = λ j b i v. done_with v; bound = n }) edge.sets w) mark marked ∙ same) h)
@@ -133,13 +133,13 @@ spot_there text n counts l spot stands = at_spot text n counts l spot
     (edges_there (the_loops text) n counts (length text.spots) text.spots 0 0 0 l spot stands))
 
 -- a check fails
-fail_comes : (bodies : Bodies) (n : ℕ) (head : Head) (text : Text) (place : ℕ → ℕ) (free : ℕ) (out : Outcome) (l : ℕ) (counts : Counts)
+fail_comes : (blocks : Blocks) (n : ℕ) (head : Head) (text : Text) (place : ℕ → ℕ) (free : ℕ) (out : Outcome) (l : ℕ) (counts : Counts)
     (w : Valuation)
     (spot : Spot) (check : Check) → l < length text.spots → call_of (parts_of head text) (at l counts) ≡ None → AtSpot text n counts l spot
     → failing (λ x. w (place x)) (checks_of spot) ≡ Some check → trapped check.kind check.place ≡ out
-    → ComesTo (blocks_of bodies) n (laid_work head text place free) (running (at l counts) w) out
-fail_comes bodies n head text place free out l counts w spot check lt no_call there fails same =
-    step_goes bodies n head text place free out l counts w (there.edge + f.number)
+    → ComesTo blocks n (laid_work head text place free) (running (at l counts) w) out
+fail_comes blocks n head text place free out l counts w spot check lt no_call there fails same =
+    step_goes blocks n head text place free out l counts w (there.edge + f.number)
     (trap_edge (length text.spots) l (there.trap + f.number) f.guard) None
     (running (at (length text.spots + suc (there.trap + f.number))
     (moved text.loops l (length text.spots + suc (there.trap + f.number)) counts)) w)
@@ -162,7 +162,7 @@ fail_comes bodies n head text place free out l counts w spot check lt no_call th
         (way_edges l (none_of true_term (checks_of spot)) spot) (true_is (λ x. w (place x))) fails
 
 -- no check fails: the way of this number after the checks, if it is taken
-way_comes : (bodies : Bodies) (n : ℕ) (head : Head) (text : Text) (place : ℕ → ℕ) (free : ℕ) (out : Outcome) (l : ℕ) (counts : Counts)
+way_comes : (blocks : Blocks) (n : ℕ) (head : Head) (text : Text) (place : ℕ → ℕ) (free : ℕ) (out : Outcome) (l : ℕ) (counts : Counts)
     (w : Valuation)
     (spot : Spot) (q : ℕ) (guard : Term) (on : Way) → l < length text.spots → call_of (parts_of head text) (at l counts) ≡ None
     → AtSpot text n counts l spot → failing (λ x. w (place x)) (checks_of spot) ≡ None → slice_get (way_marks spot) q ≡ Some on.turn
@@ -170,11 +170,11 @@ way_comes : (bodies : Bodies) (n : ℕ) (head : Head) (text : Text) (place : ℕ
     → taken (λ x. w (place x)) (ways_by (the_loops text) n l counts m (way_edges l (none_of true_term (checks_of spot)) spot))
     ≡ Some (way_of (the_loops text) n l counts (m + q) (way_edge l guard on)))
     → on.to ≤ length text.spots
-    → Comes bodies n (laid_work head text place free) out (length text.spots)
+    → Comes blocks n (laid_work head text place free) out (length text.spots)
     (along (record { place = place; called = λ j b i v. done_with v; bound = n }) text.loops l counts on w)
-    → ComesTo (blocks_of bodies) n (laid_work head text place free) (running (at l counts) w) out
-way_comes bodies n head text place free out l counts w spot q guard on lt no_call there clear marked takes le h =
-    step_goes bodies n head text place free out l counts w (there.edge + (length (checks_of spot) + q)) (way_edge l guard on) on.turn
+    → ComesTo blocks n (laid_work head text place free) (running (at l counts) w) out
+way_comes blocks n head text place free out l counts w spot q guard on lt no_call there clear marked takes le h =
+    step_goes blocks n head text place free out l counts w (there.edge + (length (checks_of spot) + q)) (way_edge l guard on) on.turn
     (along (record { place = place; called = λ j b i v. done_with v; bound = n }) text.loops l counts on w) lt no_call
     (ap (λ (ways : List (Taken State)). taken (λ x. w (place x)) ways) there.ways
     ∙ (left.1 ∙ (takes (there.edge + length (checks_of spot)) left.0
@@ -183,7 +183,7 @@ way_comes bodies n head text place free out l counts w spot q guard on lt no_cal
     (length (checks_of spot) + q) on.turn there.marks
     (way_mark (checks_of spot) (way_marks spot) q on.turn marked))
     refl
-    (goal_along bodies n (laid_work head text place free) out (length text.spots) text.loops l on.to counts
+    (goal_along blocks n (laid_work head text place free) out (length text.spots) text.loops l on.to counts
     (assigned_by (record { place = place; called = λ j b i v. done_with v; bound = n }) on.sets w) on.turn le h)
   where
     left : IsBit (λ x. w (place x)) (none_of true_term (checks_of spot)) true
@@ -231,61 +231,61 @@ second_takes v loops n l counts last c checks one other m off is = ap (λ (ways 
 
 -- ---- a spot
 
-after_call : (bodies : Bodies) (n : ℕ) (k : Work) (out : Outcome) (limit : ℕ) (marks : List (Option ℕ)) (loops : List Loop) (l to : ℕ)
+after_call : (blocks : Blocks) (n : ℕ) (k : Work) (out : Outcome) (limit : ℕ) (marks : List (Option ℕ)) (loops : List Loop) (l to : ℕ)
     (counts : Counts) (call : CallEdge) → call.to ≡ to → to ≤ limit → (middle : Outcome)
-    → Comes bodies n k out limit (back_to loops l to counts middle)
+    → Comes blocks n k out limit (back_to loops l to counts middle)
     → k.parts.loops ≡ turned_loops marks 0 loops
-    → ComesTo (blocks_of bodies) n k (returned k.parts.loops call (at l counts) middle) out
-after_call bodies n k out limit marks loops l to counts call same le (done_with v) h all =
-    subst (λ (m : ℕ). ComesTo (blocks_of bodies) n k (running (at m (moved k.parts.loops l m counts)) v) out) (sym same)
-    (subst (λ (cs : Counts). ComesTo (blocks_of bodies) n k (running (at to cs) v) out)
+    → ComesTo blocks n k (returned k.parts.loops call (at l counts) middle) out
+after_call blocks n k out limit marks loops l to counts call same le (done_with v) h all =
+    subst (λ (m : ℕ). ComesTo blocks n k (running (at m (moved k.parts.loops l m counts)) v) out) (sym same)
+    (subst (λ (cs : Counts). ComesTo blocks n k (running (at to cs) v) out)
     (sym (ap (λ (ls : List Loop). moved ls l to counts) all ∙ same_moved marks loops l to counts)) (h le))
-after_call bodies n k out limit marks loops l to counts call same le (trapped kind place) h all = stays h
-after_call bodies n k out limit marks loops l to counts call same le (gone_over place) h all = stays h
+after_call blocks n k out limit marks loops l to counts call same le (trapped kind place) h all = stays h
+after_call blocks n k out limit marks loops l to counts call same le (gone_over place) h all = stays h
 
 -- the setting and the work that see the same variables
 abbrev the_setting : (ℕ → ℕ) → (ℕ → ℕ → ℕ → Valuation → Outcome) → ℕ → Setting
 the_setting place called n = record { place = place; called = called; bound = n }
 
-spot_comes : (bodies : Bodies) (n : ℕ) (head : Head) (text : Text) (place : ℕ → ℕ) (free : ℕ) (called : ℕ → ℕ → ℕ → Valuation → Outcome)
+spot_comes : (blocks : Blocks) (n : ℕ) (head : Head) (text : Text) (place : ℕ → ℕ) (free : ℕ) (called : ℕ → ℕ → ℕ → Valuation → Outcome)
     (out : Outcome) (l : ℕ) (counts : Counts) (w : Valuation) (spot : Spot) → slice_get text.spots l ≡ Some spot → l < length text.spots
-    → LeadsWithin (length text.spots) spot → AreCalls bodies (laid_work head text place free) (the_setting place called n)
+    → LeadsWithin (length text.spots) spot → AreCalls blocks (laid_work head text place free) (the_setting place called n)
     → AtSpot text n counts l spot → call_of (parts_of head text) (at l counts) ≡ call_by l (calls_before text.spots l) spot
-    → Comes bodies n (laid_work head text place free) out (length text.spots)
+    → Comes blocks n (laid_work head text place free) out (length text.spots)
     (step_of (the_setting place called n) text.loops (calls_before text.spots l) l counts w (Some spot))
-    → ComesTo (blocks_of bodies) n (laid_work head text place free) (running (at l counts) w) out
-spot_comes bodies n head text place free called out l counts w (Act checks on) stands lt leads are there call h =
+    → ComesTo blocks n (laid_work head text place free) (running (at l counts) w) out
+spot_comes blocks n head text place free called out l counts w (Act checks on) stands lt leads are there call h =
     by (failing (λ x. w (place x)) checks) refl h
   where
     by : (o : Option Check) → failing (λ x. w (place x)) checks ≡ o
-        → Comes bodies n (laid_work head text place free) out (length text.spots)
+        → Comes blocks n (laid_work head text place free) out (length text.spots)
         (unless o (along (the_setting place called n) text.loops l counts on w))
-        → ComesTo (blocks_of bodies) n (laid_work head text place free) (running (at l counts) w) out
-    by (Some check) fails g = fail_comes bodies n head text place free out l counts w (Act checks on) check lt call there fails g
-    by None clear g = way_comes bodies n head text place free out l counts w (Act checks on) 0
+        → ComesTo blocks n (laid_work head text place free) (running (at l counts) w) out
+    by (Some check) fails g = fail_comes blocks n head text place free out l counts w (Act checks on) check lt call there fails g
+    by None clear g = way_comes blocks n head text place free out l counts w (Act checks on) 0
         (none_of true_term checks) on lt call there clear refl
         (λ m is. act_takes (λ x. w (place x)) (the_loops text) n l counts (none_of true_term checks) checks on m is) leads g
-spot_comes bodies n head text place free called out l counts w (Branch checks c one other) stands lt leads are there call h =
+spot_comes blocks n head text place free called out l counts w (Branch checks c one other) stands lt leads are there call h =
     by (failing (λ x. w (place x)) checks) refl (is_on (λ x. w (place x)) c) refl h
   where
     by : (o : Option Check) → failing (λ x. w (place x)) checks ≡ o → (b : Bool) → is_on (λ x. w (place x)) c ≡ b
-        → Comes bodies n (laid_work head text place free) out (length text.spots) (unless o (elim b [
+        → Comes blocks n (laid_work head text place free) out (length text.spots) (unless o (elim b [
           | true ↦ along (the_setting place called n) text.loops l counts one w
           | false ↦ along (the_setting place called n) text.loops l counts other w
         ]))
-        → ComesTo (blocks_of bodies) n (laid_work head text place free) (running (at l counts) w) out
+        → ComesTo blocks n (laid_work head text place free) (running (at l counts) w) out
     by (Some check) fails b on g =
-        fail_comes bodies n head text place free out l counts w (Branch checks c one other) check lt call there fails g
-    by None clear true on g = way_comes bodies n head text place free out l counts w (Branch checks c one other) 0
+        fail_comes blocks n head text place free out l counts w (Branch checks c one other) check lt call there fails g
+    by None clear true on g = way_comes blocks n head text place free out l counts w (Branch checks c one other) 0
         (both c (none_of true_term checks)) one lt call there clear refl
         (λ m is. first_takes (λ x. w (place x)) (the_loops text) n l counts (none_of true_term checks) c checks one other m on is) leads.0 g
-    by None clear false off g = way_comes bodies n head text place free out l counts w (Branch checks c one other) 1
+    by None clear false off g = way_comes blocks n head text place free out l counts w (Branch checks c one other) 1
         (both (negated c) (none_of true_term checks)) other lt call there clear refl
         (λ m is. second_takes (λ x. w (place x)) (the_loops text) n l counts
         (none_of true_term checks) c checks one other m off is) leads.1 g
-spot_comes bodies n head text place free called out l counts w (Enter block instance spot_place to) stands lt leads are there call h =
+spot_comes blocks n head text place free called out l counts w (Enter block instance spot_place to) stands lt leads are there call h =
     calls (numbered j edge) is.parts (called j block instance w) (no_end head text l lt) call is.stands (is.comes w)
-    (after_call bodies n (laid_work head text place free) out (length text.spots)
+    (after_call blocks n (laid_work head text place free) out (length text.spots)
     (marks_of text.spots) text.loops l to counts edge refl leads
     (called j block instance w) h refl)
   where
@@ -299,8 +299,8 @@ spot_comes bodies n head text place free called out l counts w (Enter block inst
     number = call_stands 0 l text.spots block instance spot_place to stands
         ∙ (let same : 0 + l ≡ l = omega arith in ap (λ (m : ℕ). Some (edge_of m to block instance spot_place)) same)
 
-    is : IsCall bodies (laid_work head text place free) (the_setting place called n) j edge
-    is = some_at (IsCall bodies (laid_work head text place free) (the_setting place called n) j)
+    is : IsCall blocks (laid_work head text place free) (the_setting place called n) j edge
+    is = some_at (IsCall blocks (laid_work head text place free) (the_setting place called n) j)
         (slice_get (parts_of head text).calls j) edge number (are j)
 
 -- ---- runs
@@ -313,7 +313,7 @@ abbrev end_in : Outcome → Stage → Outcome
 end_in other (running x w) = other
 end_in other (finished out) = out
 
-is_below : {X : Type 0} (xs : List X) (i : ℕ) (x : X) → slice_get xs i ≡ Some x → i < length xs
+pub is_below : {X : Type 0} (xs : List X) (i : ℕ) (x : X) → slice_get xs i ≡ Some x → i < length xs
 is_below [] i x here = absurd (none-some x here)
 is_below (y ∷ xs) zero x here = omega arith
 is_below (y ∷ xs) (suc i) x here = let lt = is_below xs i x here in omega (arith, lt)
@@ -323,20 +323,20 @@ past_all [] i here = omega arith
 past_all (y ∷ xs) zero here = absurd (none-some y (sym here))
 past_all (y ∷ xs) (suc i) here = let le = past_all xs i here in omega (arith, le)
 
-step_comes : (bodies : Bodies) (n : ℕ) (head : Head) (text : Text) (place : ℕ → ℕ) (free : ℕ) (called : ℕ → ℕ → ℕ → Valuation → Outcome)
+step_comes : (blocks : Blocks) (n : ℕ) (head : Head) (text : Text) (place : ℕ → ℕ) (free : ℕ) (called : ℕ → ℕ → ℕ → Valuation → Outcome)
     (out : Outcome) (l : ℕ) (counts : Counts) (w : Valuation) → LeadWithin text
-    → AreCalls bodies (laid_work head text place free) (the_setting place called n) → l ≤ length text.spots
-    → Comes bodies n (laid_work head text place free) out (length text.spots) (stepped (the_setting place called n) text l counts w)
-    → ComesTo (blocks_of bodies) n (laid_work head text place free) (running (at l counts) w) out
-step_comes bodies n head text place free called out l counts w leads are le h = by (slice_get text.spots l) refl h
+    → AreCalls blocks (laid_work head text place free) (the_setting place called n) → l ≤ length text.spots
+    → Comes blocks n (laid_work head text place free) out (length text.spots) (stepped (the_setting place called n) text l counts w)
+    → ComesTo blocks n (laid_work head text place free) (running (at l counts) w) out
+step_comes blocks n head text place free called out l counts w leads are le h = by (slice_get text.spots l) refl h
   where
     by : (o : Option Spot) → slice_get text.spots l ≡ o
-        → Comes bodies n (laid_work head text place free) out (length text.spots)
+        → Comes blocks n (laid_work head text place free) out (length text.spots)
         (step_of (the_setting place called n) text.loops (calls_before text.spots l) l counts w o)
-        → ComesTo (blocks_of bodies) n (laid_work head text place free) (running (at l counts) w) out
+        → ComesTo blocks n (laid_work head text place free) (running (at l counts) w) out
     by None none g = let far = past_all text.spots l none in
         ends (ap (λ (o : Option End). ended o w) (at_done head text l (omega (arith, far, le))) ∙ ap (λ (o : Outcome). Some o) g)
-    by (Some spot) some g = spot_comes bodies n head text place free called out l counts w spot some
+    by (Some spot) some g = spot_comes blocks n head text place free called out l counts w spot some
         (is_below text.spots l spot some)
         (some_at (LeadsWithin (length text.spots)) (slice_get text.spots l) spot some (leads l)) are
         (spot_there text n counts l spot some)
@@ -345,27 +345,27 @@ step_comes bodies n head text place free called out l counts w leads are le h = 
         ∙ (let same : 0 + calls_before text.spots l ≡ calls_before text.spots l = omega arith in ap (λ (j : ℕ). call_by
         (0 + l) j spot) same))) g
 
-run_comes : (bodies : Bodies) (n : ℕ) (head : Head) (text : Text) (place : ℕ → ℕ) (free : ℕ) (called : ℕ → ℕ → ℕ → Valuation → Outcome)
-    (out : Outcome) → LeadWithin text → AreCalls bodies (laid_work head text place free) (the_setting place called n) → (stage : Stage)
+run_comes : (blocks : Blocks) (n : ℕ) (head : Head) (text : Text) (place : ℕ → ℕ) (free : ℕ) (called : ℕ → ℕ → ℕ → Valuation → Outcome)
+    (out : Outcome) → LeadWithin text → AreCalls blocks (laid_work head text place free) (the_setting place called n) → (stage : Stage)
     → Reaches (the_setting place called n) text (finished out) stage
-    → Comes bodies n (laid_work head text place free) out (length text.spots) stage
-run_comes bodies n head text place free called out leads are (running (at l counts) w) (arrived e) = absurd (false≢true (ap is_finished e))
-run_comes bodies n head text place free called out leads are (running (at l counts) w) (further g) =
-    λ le. step_comes bodies n head text place free called out l counts w leads are le
-    (run_comes bodies n head text place free called out leads are (stepped (the_setting place called n) text l counts w) g)
-run_comes bodies n head text place free called out leads are (running (past there) w) (arrived e) = absurd (false≢true (ap is_finished e))
-run_comes bodies n head text place free called out leads are (finished end) (arrived e) = ap (end_in out) e
+    → Comes blocks n (laid_work head text place free) out (length text.spots) stage
+run_comes blocks n head text place free called out leads are (running (at l counts) w) (arrived e) = absurd (false≢true (ap is_finished e))
+run_comes blocks n head text place free called out leads are (running (at l counts) w) (further g) =
+    λ le. step_comes blocks n head text place free called out l counts w leads are le
+    (run_comes blocks n head text place free called out leads are (stepped (the_setting place called n) text l counts w) g)
+run_comes blocks n head text place free called out leads are (running (past there) w) (arrived e) = absurd (false≢true (ap is_finished e))
+run_comes blocks n head text place free called out leads are (finished end) (arrived e) = ap (end_in out) e
 
-abbrev RunsAs : Bodies → Head → Text → Work → Setting → Type 0
-RunsAs bodies head text k s = (l : ℕ) (counts : Counts) (w : Valuation) (out : Outcome) → l ≤ length text.spots → AreCalls bodies k s
-    → Reaches s text (finished out) (running (at l counts) w) → ComesTo (blocks_of bodies) s.bound k (running (at l counts) w) out
+abbrev RunsAs : Blocks → Head → Text → Work → Setting → Type 0
+RunsAs blocks head text k s = (l : ℕ) (counts : Counts) (w : Valuation) (out : Outcome) → l ≤ length text.spots → AreCalls blocks k s
+    → Reaches s text (finished out) (running (at l counts) w) → ComesTo blocks s.bound k (running (at l counts) w) out
 
-pub parts_run : (bodies : Bodies) (k : Work) (s : Setting) (head : Head) (text : Text) → k.parts ≡ parts_of head text → s.place ≡ k.place
-    → LeadWithin text → RunsAs bodies head text k s
-parts_run bodies k s head text parts place leads =
-    subst (λ (p : Parts). RunsAs bodies head text (record { parts = p; place = k.place; free = k.free }) s) (sym parts)
-    (subst (λ (pl : ℕ → ℕ). RunsAs bodies head text (laid_work head text k.place k.free)
+pub parts_run : (blocks : Blocks) (k : Work) (s : Setting) (head : Head) (text : Text) → k.parts ≡ parts_of head text → s.place ≡ k.place
+    → LeadWithin text → RunsAs blocks head text k s
+parts_run blocks k s head text parts place leads =
+    subst (λ (p : Parts). RunsAs blocks head text (record { parts = p; place = k.place; free = k.free }) s) (sym parts)
+    (subst (λ (pl : ℕ → ℕ). RunsAs blocks head text (laid_work head text k.place k.free)
     (record { place = pl; called = s.called; bound = s.bound }))
     (sym place)
-    (λ l counts w out le are reaches. run_comes bodies s.bound head text k.place k.free s.called out leads are
+    (λ l counts w out le are reaches. run_comes blocks s.bound head text k.place k.free s.called out leads are
     (running (at l counts) w) reaches le))

@@ -1,5 +1,5 @@
 -- Typed flows have typed edges, which name the flow's variables alone.
-use Rattle.std.proofs.Common.{◌≡◌, ℕ, suc, ◌+◌, ◌≤◌, pos, List, [], ◌∷◌, length, true, None, Some, refl, sym, subst, arith}
+use Rattle.std.proofs.Common.{◌≡◌, ℕ, suc, ◌+◌, pos, List, [], ◌∷◌, length, true, None, Some, refl, sym, subst, arith}
 use Rattle.std.specs.List.{AllByRecursion, list_all}
 use Rattle.std.proofs.lemmas.Bool.{and_from}
 use Rattle.std.proofs.lemmas.List.Elements.{All-from_recursion, recursion_from_All}
@@ -14,6 +14,7 @@ use Rattle.pv_layout.specs.Spots.{Check, Way, way, Spot, Act, Branch, Enter, che
 use Rattle.pv_layout.specs.Flows.{Flow, act, enter, leave, then_, if_, choice, while_, for_, repeat_}
 use Rattle.pv_layout.specs.Layout.{width, loops_in, Exits, exit_by, before, in_loop, spots_of, edges_of}
 use Rattle.pv_layout.specs.Bodies.{IsCondition, AreChecks, AreSets, IsTypedFlow}
+use Rattle.pv_layout.specs.Sound.{IsTypedWay, IsTypedSpot}
 use Rattle.pv_layout.proofs.Lists.{all_append}
 
 -- ---- guards
@@ -35,15 +36,6 @@ negated_typed : (n : ℕ) (types : Types) (t : Term) → IsCondition n types t �
 negated_typed n types t is = record { typed = (is.typed, is.condition); condition = refl; names = is.names }
 
 -- ---- spots
-
-pub record IsTypedWay (n : ℕ) (types : Types) (on : Way) : Type 0 where
-  pub sets : AreSets n types on.sets
-
-abbrev pub IsTypedSpot : ℕ → Types → Spot → Type 0
-IsTypedSpot n types (Act checks on) = AreChecks n types checks × IsTypedWay n types on
-IsTypedSpot n types (Branch checks c one other) =
-    AreChecks n types checks × IsCondition n types c × IsTypedWay n types one × IsTypedWay n types other
-IsTypedSpot n types (Enter block instance place to) = instance ≤ n
 
 no_sets : (n : ℕ) (types : Types) → AreSets n types []
 no_sets n types = record { typed = All-from_recursion (IsSet types) [] tt; names = refl }

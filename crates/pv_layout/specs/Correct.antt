@@ -1,16 +1,17 @@
 -- What is so of each flow and of its layout: the statements of the laws.
-use Rattle.std.specs.Prelude.{◌≡◌, ℕ, suc, ◌+◌, ◌<◌, ◌≤◌, ◌⊎◌, List, [], ◌∷◌, length, slice_get, true, false, IfSome, Option, Some, None}
+use Rattle.std.specs.Prelude.{◌≡◌, ℕ, suc, ◌+◌, ◌<◌, ◌≤◌, ◌⊎◌, List, [], ◌∷◌, length, slice_get, true, false, IfSome, Option, Some, None, All}
 use Rattle.pv_flow.specs.Terms.{Valuation, holds_in}
-use Rattle.pv_flow.specs.Automata.{Set, Edge, CallEdge, Loop, Parts, holds}
+use Rattle.pv_flow.specs.Automata.{Set, Edge, CallEdge, Loop, Parts, type_at, holds}
 use Rattle.pv_flow.specs.Faults.{IsFaultless}
-use Rattle.pv_flow.specs.WellMade.{true_guards, IsWellMade}
+use Rattle.pv_flow.specs.WellMade.{IsVariable, true_guards, IsWellMade}
 use Rattle.pv_flow.specs.Runs.{Outcome, trapped, gone_over, Counts, at, entry_count, moved, entered, first_spot}
-use Rattle.pv_flow.specs.Calls.{block_at, Work, entry_work, numbered, callee_work, cleared, Stage, running, finished, ComesTo, EndsAs}
+use Rattle.pv_flow.specs.Calls.{Blocks, block_at, Work, entry_work, numbered, callee_work, cleared, Stage, running, finished, ComesTo, EndsAs}
 use Rattle.pv_flow.specs.Fitting.{AreFitting}
 use Rattle.pv_layout.specs.Spots.{Check, Way, Spot, Act, Branch, Enter, is_on, edges_at}
 use Rattle.pv_layout.specs.Flows.{Flow, Ending, normal, at_exit, at_continue, at_return, by_trap, by_over, Setting, flow, outcome_of_ending}
 use Rattle.pv_layout.specs.Layout.{width, loops_in, Exits, spots_of, loops_of, Text, text_of, Head, parts_of, plain}
 use Rattle.pv_layout.specs.SpotRuns.{calls_before, Reaches}
+use Rattle.pv_layout.specs.Sound.{LeadWithin, IsSoundText}
 use Rattle.pv_layout.specs.Bodies.{Body, Bodies, blocks_of, body_at, laid, run_body, IsTypedBody}
 
 -- ---- one edge
@@ -123,38 +124,34 @@ WholesEnd = (s : Setting) (f : Flow) (w : Valuation) → 0 < s.bound
 
 -- ---- parts
 
--- each way leads to a spot, or where it is done
-abbrev pub LeadsWithin : ℕ → Spot → Type 0
-LeadsWithin done (Act checks on) = on.to ≤ done
-LeadsWithin done (Branch checks c one other) = (one.to ≤ done) × (other.to ≤ done)
-LeadsWithin done (Enter block instance place to) = to ≤ done
-
-abbrev pub LeadWithin : Text → Type 0
-LeadWithin text = (l : ℕ) → IfSome (slice_get text.spots l) (LeadsWithin (length text.spots))
-
--- what a setting says of calls is what the called automata come to
-pub record IsCall (bodies : Bodies) (k : Work) (s : Setting) (number : ℕ) (call : CallEdge) : Type 0 where
+-- what a setting says of a call is what the called block's automaton comes to, whatever kind of block it is
+pub record IsCall (blocks : Blocks) (k : Work) (s : Setting) (number : ℕ) (call : CallEdge) : Type 0 where
   pub parts : Parts
-  pub stands : block_at (blocks_of bodies) call.block ≡ Some parts
-  pub comes : (w : Valuation) → ComesTo (blocks_of bodies) s.bound (callee_work (blocks_of bodies) k (numbered number call) parts)
-      (running (first_spot parts) (cleared (callee_work (blocks_of bodies) k (numbered number call) parts) w))
+  pub stands : block_at blocks call.block ≡ Some parts
+  pub comes : (w : Valuation) → ComesTo blocks s.bound (callee_work blocks k (numbered number call) parts)
+      (running (first_spot parts) (cleared (callee_work blocks k (numbered number call) parts) w))
       (s.called number call.block call.instance w)
 
-abbrev pub AreCalls : Bodies → Work → Setting → Type 0
-AreCalls bodies k s = (number : ℕ) → IfSome (slice_get k.parts.calls number) (IsCall bodies k s number)
+abbrev pub AreCalls : Blocks → Work → Setting → Type 0
+AreCalls blocks k s = (number : ℕ) → IfSome (slice_get k.parts.calls number) (IsCall blocks k s number)
 
 -- edges by number come to what the spots come to
 abbrev pub PartsRun : Type 0
-PartsRun = (bodies : Bodies) (k : Work) (s : Setting) (head : Head) (text : Text) (l : ℕ) (counts : Counts) (w : Valuation) (out : Outcome)
-    → k.parts ≡ parts_of head text → s.place ≡ k.place → LeadWithin text → l ≤ length text.spots → AreCalls bodies k s
-    → Reaches s text (finished out) (running (at l counts) w) → ComesTo (blocks_of bodies) s.bound k (running (at l counts) w) out
+PartsRun = (blocks : Blocks) (k : Work) (s : Setting) (head : Head) (text : Text) (l : ℕ) (counts : Counts) (w : Valuation) (out : Outcome)
+    → k.parts ≡ parts_of head text → s.place ≡ k.place → LeadWithin text → l ≤ length text.spots → AreCalls blocks k s
+    → Reaches s text (finished out) (running (at l counts) w) → ComesTo blocks s.bound k (running (at l counts) w) out
 
 -- a body's automaton ends as its flow
 abbrev pub BlocksRun : Type 0
 BlocksRun = (bodies : Bodies) (n b : ℕ) (body : Body) (w : Valuation) → AreFitting (blocks_of bodies) → 0 < n → body_at bodies b ≡ Some body
     → EndsAs (blocks_of bodies) n (laid body) w (run_body bodies n (length bodies) (entry_work (laid body)) body w)
 
--- it has no fault, and is well made
+-- the automaton of a sound text has no fault, and is well made
+abbrev pub TextsAreLegal : Type 0
+TextsAreLegal = (head : Head) (text : Text) → All IsVariable head.vars → head.bound + head.shared ≤ length head.vars
+    → IsSoundText (length head.vars) (type_at head.vars) text → IsFaultless (parts_of head text) × IsWellMade (parts_of head text)
+
+-- so is that of a typed body
 abbrev pub LayoutsAreLegal : Type 0
 LayoutsAreLegal = (body : Body) → IsTypedBody body → IsFaultless (laid body) × IsWellMade (laid body)
 

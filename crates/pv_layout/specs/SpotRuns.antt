@@ -66,7 +66,7 @@ stepped s text l counts w = step_of s text.loops (calls_before text.spots l) l c
 
 -- ---- runs
 
--- step by step a run comes from the one stage to this one
+-- step by step the run from a stage comes to `end`
 pub data Reaches (s : Setting) (text : Text) (end : Stage) : Stage → Type 0 where
   arrived : {stage : Stage} → stage ≡ end → Reaches s text end stage
   further : {l : ℕ} {counts : Counts} {w : Valuation} → Reaches s text end (stepped s text l counts w)

@@ -5,12 +5,12 @@ use Rattle.pv_flow.specs.declared.parts.Parts.{Parts as CodeParts}
 use Rattle.pv_flow.specs.declared.inlined_machine.Inlined.{Inlined}
 use Rattle.pv_flow.specs.declared.acyclic_machine.Acyclic.{Acyclic}
 use Rattle.pv_flow.specs.Machines.{inlined_machine, acyclic_machine}
-use Rattle.pv_flow.specs.MachineView.{inlined_parts, inlined_code, bound_of, acyclic_parts, attached_in}
+use Rattle.pv_flow.specs.MachineView.{inlined_parts, inlined_code, bound_of, acyclic_parts, acyclic_code, attached_in}
 use Rattle.pv_flow.specs.View.{parts_of}
 use Rattle.pv_copies.specs.Unrolled.{unrolled, unrolled_size}
 use Rattle.pv_unroll.specs.declared.fault.TheConstants.{MAX_EDGES}
 use Rattle.pv_unroll.specs.declared.fault.TooLarge.{TooLarge}
-use Rattle.pv_unroll.specs.Correct.{IsTooLarge}
+use Rattle.pv_unroll.specs.Correct.{IsTooLarge, KeepsTables}
 use Rattle.pv_unroll.proofs.Conditions.{same_of}
 
 -- of the automaton's own parts and bound
@@ -19,6 +19,10 @@ pub unrolled_copies : (m : Inlined) (p : CodeParts) (n : ℕ) (r : Result Acycli
 unrolled_copies m p n r e f is =
     subst (λ (k : ℕ). IfOk r (λ a. acyclic_parts a ≡ unrolled (inlined_parts m) k)) f
     (subst (λ (q : CodeParts). IfOk r (λ a. acyclic_parts a ≡ unrolled (parts_of q) n)) e is)
+
+pub unrolled_tables : (m : Inlined) (p : CodeParts) (r : Result Acyclic TooLarge) → p ≡ inlined_code m
+    → IfOk r (λ a. KeepsTables p (acyclic_code a)) → IfOk r (λ a. KeepsTables (inlined_code m) (acyclic_code a))
+unrolled_tables m p r e is = subst (λ (q : CodeParts). IfOk r (λ a. KeepsTables q (acyclic_code a))) e is
 
 pub unrolled_fits : (m : Inlined) (p : CodeParts) (n : ℕ) (r : Result Acyclic TooLarge) → p ≡ inlined_code m → n ≡ bound_of m
     → OnOk r (unrolled_size (parts_of p) n ≤ MAX_EDGES) → OnOk r (unrolled_size (inlined_parts m) (bound_of m) ≤ MAX_EDGES)

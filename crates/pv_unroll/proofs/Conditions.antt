@@ -6,20 +6,21 @@ use Rattle.pv_flow.specs.declared.inlined_machine.Inlined.{Inlined}
 use Rattle.pv_flow.specs.declared.acyclic_machine.Acyclic.{Acyclic}
 use Rattle.pv_flow.specs.Automata.{Parts}
 use Rattle.pv_flow.specs.Machines.{Attached, inlined_machine, acyclic_machine}
-use Rattle.pv_flow.specs.MachineView.{inlined_parts, inlined_code, bound_of, acyclic_parts, attached_in}
+use Rattle.pv_flow.specs.MachineView.{inlined_parts, inlined_code, bound_of, acyclic_parts, acyclic_code, attached_in}
 use Rattle.pv_flow.specs.View.{parts_of}
 use Rattle.pv_flow.proofs.ForCallers.{inlined_keeps}
 use Rattle.pv_copies.specs.Unrolled.{text_size, unrolled, unrolled_size}
 use Rattle.pv_copies.proofs.ForCallers.{same_machine}
 use Rattle.pv_unroll.specs.declared.numbers.TheConstants.{MOST}
-use Rattle.pv_unroll.specs.declared.fault.TheConstants.{MAX_EDGES}
+use Rattle.pv_unroll.specs.declared.fault.TheConstants.{MAX_EDGES, MAX_COPIES}
 use Rattle.pv_unroll.specs.declared.fault.TooLarge.{TooLarge}
 use Rattle.pv_unroll.specs.declared.fault.TooLarge.TheVariants.{Edges, NoMemory}
 use Rattle.pv_unroll.specs.Counts.{capped}
+use Rattle.pv_unroll.specs.Laying.{Laid}
 use Rattle.pv_unroll.specs.Tables.{edge_sizing, laid_in, IsReplaced}
-use Rattle.pv_unroll.specs.Correct.{CanUnroll, IsSmall, IsFew, IsWithin, IsOver, IsSizeOf, IsTooLarge, IsForward}
+use Rattle.pv_unroll.specs.Correct.{CanUnroll, IsSmall, IsFew, IsWithin, IsOver, IsSizeOf, IsTooLarge, IsForward, KeepsTables}
 use Rattle.pv_unroll.proofs.Weights.{edges_are_sized, copies_are_sized}
-use Rattle.pv_unroll.proofs.Replacing.{most_is, edges_most, replaced_are_unrolled, replaced_are_forward}
+use Rattle.pv_unroll.proofs.Replacing.{most_is, edges_most, copies_most, replaced_are_unrolled, replaced_are_forward}
 use Rattle.pv_unroll.proofs.Walks.{copies_are_laid}
 
 pub can_unroll : (m : Inlined) → CanUnroll (inlined_code m) (bound_of m)
@@ -67,8 +68,8 @@ pub small_of : (p : CodeParts) (n : ℕ) → CanUnroll p n → p.locations ≤ 4
 small_of p n can narrow bound few = record {
   edges = uncapped (unrolled_size (parts_of p) n) MAX_EDGES MOST (omega (arith, most_is, edges_most))
       (subst (λ (m : ℕ). m ≤ MAX_EDGES) (edges_are_sized p n can narrow) few.edges);
-  text = uncapped (text_size (parts_of p) n) 4000000000 MOST (omega (arith, most_is))
-      (subst (λ (m : ℕ). m ≤ 4000000000) (copies_are_sized p n can narrow) few.copies);
+  text = uncapped (text_size (parts_of p) n) MAX_COPIES MOST (omega (arith, most_is, copies_most))
+      (subst (λ (m : ℕ). m ≤ MAX_COPIES) (copies_are_sized p n can narrow) few.copies);
   locations = narrow;
   bound = bound;
 }
@@ -88,6 +89,14 @@ fits_of p n narrow few can = uncapped (unrolled_size (parts_of p) n) MAX_EDGES M
 pub large_of : (p : CodeParts) (n : ℕ) (fault : TooLarge) → p.locations ≤ 4294967295 → IsOver (edge_sizing p n).here fault → CanUnroll p n
     → IsTooLarge (parts_of p) n fault
 large_of p n fault narrow over can = over_is (parts_of p) n (edge_sizing p n).here fault (edges_are_sized p n can narrow) over
+
+pub tables_of : (p : CodeParts) (laid : Laid) (q : CodeParts) → IsReplaced p laid q → KeepsTables p q
+tables_of p laid q is = record { nodes = is.nodes; deeds = is.deeds }
+
+pub tables_kept : (p q : CodeParts) (r : Result Acyclic TooLarge) → KeepsTables p q → IfOk r (λ a. acyclic_code a ≡ q)
+    → IfOk r (λ a. KeepsTables p (acyclic_code a))
+tables_kept p q (Ok a) keeps e = subst (λ (code : CodeParts). KeepsTables p code) (sym e) keeps
+tables_kept p q (Err fault) keeps e = tt
 
 -- memory alone may be wanting
 pub memory_is : (p : Parts) (n : ℕ) (fault : TooLarge) → fault ≡ NoMemory → IsTooLarge p n fault

@@ -36,7 +36,7 @@ use Rattle.pv_unroll.proofs.Firsts.{OnlyTurn, first_places, over_places, over_at
 use Rattle.pv_unroll.proofs.Leads.{HasTurns, Led, at_in, opens_from, leads_along}
 use Rattle.pv_unroll.proofs.Lists.{zero_at}
 use Rattle.pv_unroll.proofs.Nest.{drop_one, get_drop}
-use Rattle.pv_unroll.proofs.Replacing.{few_traps, most_is}
+use Rattle.pv_unroll.proofs.Replacing.{few_traps, most_is, few_copies}
 use Rattle.pv_unroll.proofs.Sized.{IsSized}
 use Rattle.pv_unroll.proofs.Turns.{TurnsFrom, table_turns}
 use Rattle.pv_unroll.proofs.Weights.{ending_of, endings_are, copies_passed, weighs}
@@ -47,7 +47,7 @@ exact_turn : (most n s z x whole turn : ℕ) → 0 < n → s + n * z + x ≤ who
 exact_turn most n s z x whole turn some low high e = let h = at_least n z some in omega (arith, h, low, high, e)
 
 text_most : (p : CodeParts) (n : ℕ) → IsSmall p n → text_size (parts_of p) n ≤ MOST
-text_most p n small = omega (arith, small.text, most_is)
+text_most p n small = omega (arith, (few_copies p n small), most_is)
 
 pub has_turns : (p : CodeParts) (n : ℕ) → CanUnroll p n → IsSmall p n
     → HasTurns (one_each (stands_in (parts_of p))) 1 n (plain_loops p) (table_in p n)
@@ -167,7 +167,7 @@ pub record Known (p : CodeParts) (n : ℕ) (s : Laid) : Type 0 where
 
 trap_is : (p : CodeParts) (n : ℕ) (s : Laid) → IsSmall p n → Known p n s → trap_number s ≡ text_size (parts_of p) n + suc (length s.traps)
 trap_is p n s small known = ap (λ (m : ℕ). capped (capped (m + 1) + length s.traps)) known.done
-    ∙ sum MOST (text_size (parts_of p) n) (length s.traps) (omega (arith, small.text, known.few, most_is))
+    ∙ sum MOST (text_size (parts_of p) n) (length s.traps) (omega (arith, (few_copies p n small), known.few, most_is))
   where
     sum : (most t m : ℕ) → t + suc m ≤ most → min (min (t + 1) most + m) most ≡ t + suc m
     sum most t m le = omega (arith, le)
@@ -326,7 +326,7 @@ number_small : (p : CodeParts) (n : ℕ) (s : Laid) (c : Copy) → CanUnroll p n
     ≡ numbered_by (exit_of_copy (parts_of p) c) (text_size (parts_of p) n) (length s.traps) (place_in_text (parts_of p) n c)
 number_small p n s c can small known is =
     narrowed (numbered_by (exit_of_copy (parts_of p) c) (text_size (parts_of p) n) (length s.traps) (place_in_text (parts_of p) n c))
-    (text_size (parts_of p) n) small.text (by_copy c is)
+    (text_size (parts_of p) n) (few_copies p n small) (by_copy c is)
   where
     by_end : (end : Option End) (here : ℕ) → (weight_of (ending_of end) ≡ 1 → here < text_size (parts_of p) n)
         → numbered_by end (text_size (parts_of p) n) (length s.traps) here ≤ text_size (parts_of p) n + 200001
@@ -359,7 +359,7 @@ edge_told p n s next edge c number todo can small is low deed leads told =
           ∙ ap (λ (m : ℕ). map (plain_edge p) s.edges ++ (plain_edge p new ∷ edges_of (parts_of p) n m todo)) both.1
           ∙ ap (λ (m : ℕ). map (plain_edge p) s.edges ++ ((record { from = m; to = narrow number; guard = (plain_edge p edge).guard; sets = (plain_edge p edge).sets })
           ∷ edges_of (parts_of p) n (traps_by (exit_of_copy (parts_of p) c) (length s.traps)) todo))
-          (narrowed s.here (text_size (parts_of p) n) small.text (omega (arith, low)))
+          (narrowed s.here (text_size (parts_of p) n) (few_copies p n small) (omega (arith, low)))
           ∙ ap (λ (m : ℕ). map (plain_edge p) s.edges ++ ((record { from = s.here; to = m; guard = (plain_edge p edge).guard; sets = (plain_edge p edge).sets })
           ∷ edges_of (parts_of p) n (traps_by (exit_of_copy (parts_of p) c) (length s.traps)) todo))
           (ap narrow leads.number_is ∙ number_small p n s c can small known is)
@@ -383,7 +383,7 @@ edge_told p n s next edge c number todo can small is low deed leads told =
         ≡ traps_of (parts_of p) n 0 (all_copied p n))
         × (length next_traps ≡ traps_by (exit_of_copy (parts_of p) c) (length s.traps))
     both = trap_told p n s (record { from = s.here; to = c; guard = (plain_edge p edge).guard; sets = (plain_edge p edge).sets }) todo
-        (exit_of_copy (parts_of p) c) small.text known.few refl told.traps
+        (exit_of_copy (parts_of p) c) (few_copies p n small) known.few refl told.traps
 
 -- ---- the edges of a location
 
@@ -624,7 +624,7 @@ over_put_is : (p : CodeParts) (n : ℕ) (s : Laid) (place : Place) (rest : List 
 over_put_is p n s place rest small low =
     map_on over_end_of s.overs (record { location = narrow s.here; place = place }) rest
     ∙ ap (λ (m : ℕ). map over_end_of s.overs ++ (record { location = m; place = place } ∷ rest))
-    (narrowed s.here (text_size (parts_of p) n) small.text (omega (arith, low)))
+    (narrowed s.here (text_size (parts_of p) n) (few_copies p n small) (omega (arith, low)))
 
 pub over_is_laid : (p : CodeParts) (n : ℕ) (s : Laid) (loop : Loop) (js : List ℕ) (rest : List Copy) → IsSmall p n
     → LaidTo p n s (beyond loop js ∷ rest) → LaidTo p n (over_laid loop.place s) rest

@@ -17,7 +17,7 @@ use Rattle.pv_copies.specs.Copies.{exit_of_copy}
 use Rattle.pv_copies.specs.Unrolled.{CopiedEdge, copied, whole_text, text_size, traps_by, with_trap, edges_of, traps_of, unrolled}
 use Rattle.pv_copies.proofs.ForCallers.{edges_are_counted, numbers_lead_forward, unrolled_is_well_made}
 use Rattle.pv_unroll.specs.declared.numbers.TheConstants.{MOST}
-use Rattle.pv_unroll.specs.declared.fault.TheConstants.{MAX_EDGES}
+use Rattle.pv_unroll.specs.declared.fault.TheConstants.{MAX_EDGES, MAX_COPIES}
 use Rattle.pv_unroll.specs.Counts.{capped}
 use Rattle.pv_unroll.specs.Laying.{narrow}
 use Rattle.pv_unroll.specs.Tables.{laid_in, IsReplaced}
@@ -30,6 +30,12 @@ most_is = refl
 
 pub edges_most : MAX_EDGES ≡ 200000
 edges_most = refl
+
+pub copies_most : MAX_COPIES ≡ 4000000000
+copies_most = refl
+
+pub few_copies : (p : CodeParts) (n : ℕ) → IsSmall p n → text_size (parts_of p) n ≤ 4000000000
+few_copies p n small = subst (λ (most : ℕ). text_size (parts_of p) n ≤ most) copies_most small.text
 
 -- of numbers within their bounds, over any bounds
 kept_by : (n most last : ℕ) → n ≤ last → last ≤ most → min n last ≡ n
@@ -95,7 +101,7 @@ replaced_are_unrolled law p n q can small is =
     traps = sym (length-map (laid_in p n).traps trap_end_of) ∙ ap (λ (ends : List TrapEnd). length ends) it.traps
 
     fits : text_size (parts_of p) n + suc (length (unrolled (parts_of p) n).traps) ≤ 4294967295
-    fits = omega (arith, small.text, few_traps p n can small)
+    fits = omega (arith, (few_copies p n small), few_traps p n can small)
 
     number : narrow (capped (capped ((laid_in p n).done + 1) + length (laid_in p n).traps)) ≡ text_size (parts_of p) n + suc (length (unrolled (parts_of p) n).traps)
     number = ap (λ (t : ℕ). narrow (capped (capped (t + 1) + length (laid_in p n).traps))) it.done
@@ -103,7 +109,7 @@ replaced_are_unrolled law p n q can small is =
         ∙ behind_by (text_size (parts_of p) n) (length (unrolled (parts_of p) n).traps) MOST 4294967295 fits last_below
 
     end : narrow (laid_in p n).done ≡ text_size (parts_of p) n
-    end = ap narrow it.done ∙ kept_by (text_size (parts_of p) n) MOST 4294967295 (omega (arith, small.text)) last_below
+    end = ap narrow it.done ∙ kept_by (text_size (parts_of p) n) MOST 4294967295 (omega (arith, (few_copies p n small))) last_below
 
     edges : (parts_of q).edges ≡ (unrolled (parts_of p) n).edges
     edges = ap (λ (ns : List Node). map (edge_of (terms_of ns) q.deeds.items) q.edges.items) is.nodes

@@ -29,7 +29,7 @@ use Rattle.pv_unroll.proofs.Leads.{opens_from}
 use Rattle.pv_unroll.proofs.Nest.{Held, Skips, none, skips_length, Path, Around, end_by, skips_all, later_path, path_left, path_order, path_all, path_end, range_of, range_is, last_is, before_last}
 use Rattle.pv_unroll.proofs.Rests.{put_in, past_turns, after, rest, text_none, rest_passed, rest_entered, rest_turned, rest_left}
 use Rattle.pv_unroll.proofs.Lays.{plain_edge, LaidTo, copy_is_laid, over_is_laid, behind_is_laid}
-use Rattle.pv_unroll.proofs.Replacing.{most_is}
+use Rattle.pv_unroll.proofs.Replacing.{most_is, few_copies}
 use Rattle.pv_unroll.proofs.Weights.{last_below, copies_are_sized}
 
 -- ---- the loops around, as the code has them
@@ -718,7 +718,7 @@ walks p n l (suc fuel) around loops s can small low is enough =
 
 steps_enough : (p : CodeParts) (n : ℕ) → CanUnroll p n → IsSmall p n → measure p.locations (text_size (parts_of p) n) 0 0 ≤ steps_in p n
 steps_enough p n can small =
-    by MOST (text_size (parts_of p) n) p.locations (copy_sizing p n).here (copies_are_sized p n can small.locations) most_is small.text small.locations
+    by MOST (text_size (parts_of p) n) p.locations (copy_sizing p n).here (copies_are_sized p n can small.locations) most_is (few_copies p n small) small.locations
   where
     by : (most t b here : ℕ) → here ≡ min t most → most ≡ 18446744073709551615 → t ≤ 4000000000 → b ≤ 4294967295
         → suc b * (t - 0) + (b - 0) ≤ min (min (here * min (b + 1) most) most + b) most
@@ -762,7 +762,7 @@ copies_are_laid p n can small = finish
     same (x ∷ xs) = ap (λ (ys : List Copy). x ∷ ys) (same xs)
 
     done : (copy_sizing p n).here ≡ text_size (parts_of p) n
-    done = copies_are_sized p n can small.locations ∙ exact MOST (text_size (parts_of p) n) (omega (arith, small.text, most_is))
+    done = copies_are_sized p n can small.locations ∙ exact MOST (text_size (parts_of p) n) (omega (arith, (few_copies p n small), most_is))
       where
         exact : (most t : ℕ) → t ≤ most → min t most ≡ t
         exact most t le = omega (arith, le)

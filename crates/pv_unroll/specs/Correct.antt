@@ -8,7 +8,7 @@ use Rattle.pv_flow.specs.Machines.{IsInlined, IsAcyclic}
 use Rattle.pv_flow.specs.View.{terms_of, edge_of, trap_end_of, over_end_of, parts_of}
 use Rattle.pv_flow.specs.Tables.{AreTabled}
 use Rattle.pv_copies.specs.Unrolled.{copied, whole_text, text_size, edges_of, traps_of, overs_of, unrolled, unrolled_size}
-use Rattle.pv_unroll.specs.declared.fault.TheConstants.{MAX_EDGES}
+use Rattle.pv_unroll.specs.declared.fault.TheConstants.{MAX_EDGES, MAX_COPIES}
 use Rattle.pv_unroll.specs.declared.fault.TooLarge.{TooLarge}
 use Rattle.pv_unroll.specs.declared.fault.TooLarge.TheVariants.{Edges, NoMemory}
 use Rattle.pv_flow.specs.Automata.{Parts}
@@ -23,17 +23,22 @@ pub record CanUnroll (p : CodeParts) (n : ℕ) : Type 0 where
   pub inlined : IsInlined (parts_of p) n
   pub tabled : AreTabled p
 
+-- it has the tables of terms and deeds that the other has: copies of an edge have its deed, and none is made anew
+pub record KeepsTables (p q : CodeParts) : Type 0 where
+  pub nodes : q.nodes.items ≡ p.nodes.items
+  pub deeds : q.deeds.items ≡ p.deeds.items
+
 -- its numbers of edges are within the limit, and those of its locations within 32 bits
 pub record IsSmall (p : CodeParts) (n : ℕ) : Type 0 where
   pub edges : unrolled_size (parts_of p) n ≤ MAX_EDGES
-  pub text : text_size (parts_of p) n ≤ 4000000000
+  pub text : text_size (parts_of p) n ≤ MAX_COPIES
   pub locations : p.locations ≤ 4294967295
   pub bound : n ≤ 4294967295
 
 -- so few edges and copies, as far as is counted
 pub record IsFew (p : CodeParts) (n : ℕ) : Type 0 where
   pub edges : (edge_sizing p n).here ≤ MAX_EDGES
-  pub copies : (copy_sizing p n).here ≤ 4000000000
+  pub copies : (copy_sizing p n).here ≤ MAX_COPIES
 
 -- of a number of edges that are too many it is told how many they are, as far as is counted
 abbrev pub IsTooLarge : Parts → ℕ → TooLarge → Type 0

@@ -6,6 +6,10 @@ use thiserror::Error;
 /// The greatest number of edges that an unrolled automaton may have.
 pub const MAX_EDGES: u64 = 200_000;
 
+/// The greatest number of copies of which all locations have numbers in 32 bits, traps included. So many have more edges than may be,
+/// unless there are as many loops.
+pub(crate) const MAX_COPIES: u64 = 4_000_000_000;
+
 /// Why an automaton isn't unrolled.
 #[derive(Clone, Copy, Debug, PartialEq, Eq, Error)]
 pub enum TooLarge {

@@ -2,22 +2,22 @@
 ghost use Rattle.std.specs.Prelude.{◌≡◌, ◌+◌, ◌*◌, ◌≤◌, None, IfOk, OnOk, IfErr};
 ghost use Rattle.pv_machine.specs.Same.{IsSame};
 ghost use Rattle.pv_flow.specs.Machines.{inlined_machine, acyclic_machine};
-ghost use Rattle.pv_flow.specs.MachineView.{inlined_parts, bound_of, acyclic_parts, attached_in};
+ghost use Rattle.pv_flow.specs.MachineView.{inlined_parts, inlined_code, bound_of, acyclic_parts, acyclic_code, attached_in};
 ghost use Rattle.pv_flow.specs.View.{parts_of};
 ghost use Rattle.pv_copies.specs.Unrolled.{unrolled, unrolled_size};
-ghost use Rattle.pv_unroll.specs.declared.fault.TheConstants.{MAX_EDGES};
+ghost use Rattle.pv_unroll.specs.declared.fault.TheConstants.{MAX_EDGES, MAX_COPIES};
 ghost use Rattle.pv_unroll.specs.declared.fault.TooLarge.TheVariants.{NoMemory};
 ghost use Rattle.pv_unroll.specs.Counts.{capped};
 ghost use Rattle.pv_unroll.specs.Endings.{endings_of};
 ghost use Rattle.pv_unroll.specs.Tables.{edge_sizing, copy_sizing, laid_in, IsReplaced};
 ghost use Rattle.pv_unroll.specs.Known.{IsKnown};
-ghost use Rattle.pv_unroll.specs.Correct.{CanUnroll, IsOver, IsFew, IsTooLarge, IsForward};
+ghost use Rattle.pv_unroll.specs.Correct.{CanUnroll, IsOver, IsFew, IsTooLarge, IsForward, KeepsTables};
 ghost use Rattle.pv_unroll.specs.Seen.{sizing_seen, laid_seen};
 
 use crate::chains::{Chains, chains_of};
 use crate::counting::{edge_count, of_bits, within_limit};
 use crate::endings::{Ending, endings, weights};
-use crate::fault::TooLarge;
+use crate::fault::{MAX_COPIES, TooLarge};
 use crate::lay::Laid;
 use crate::lead::Table;
 use crate::numbers::{narrow, plus, times};
@@ -26,10 +26,6 @@ use crate::turning::turns_of;
 use crate::walk::walk_text;
 use pv_flow::{Acyclic, Inlined, Parts, acyclic, build};
 use std::alloc::{AllocError, Global};
-
-/// The greatest number of copies of which all locations have numbers in 32 bits, traps included. So many have more edges than may be,
-/// unless there are as many loops.
-const MAX_COPIES: u64 = 4_000_000_000;
 
 /// The tables of locations, loops and edges.
 #[derive(Drop)]
@@ -118,7 +114,7 @@ fn lay(alloc: Global, parts: &Parts, known: &Known, bound: u32) -> Result<Laid, 
 
 /// Whether the copies are so few that their numbers fit.
 fn fits(copies: u64) -> Result<(), TooLarge>
-    ensures few { OnOk result (copies ≤ 4000000000) }
+    ensures few { OnOk result (copies ≤ MAX_COPIES) }
     ensures fault { IfErr result (λ fault. fault ≡ NoMemory) }
 {
     if copies > MAX_COPIES {
@@ -131,7 +127,7 @@ fn fits(copies: u64) -> Result<(), TooLarge>
 /// Lays the text.
 fn laid_text(alloc: Global, parts: &Parts, bound: u32) -> Result<Laid, TooLarge>
     ensures laid { IfOk result (λ laid. laid_seen laid ≡ laid_in parts.now bound) }
-    ensures few { OnOk result ((copy_sizing parts.now bound).here ≤ 4000000000) }
+    ensures few { OnOk result ((copy_sizing parts.now bound).here ≤ MAX_COPIES) }
     ensures fault { IfErr result (λ fault. fault ≡ NoMemory) }
 {
     let known = tables_of(alloc, parts, bound)?;
@@ -179,16 +175,19 @@ fn with_text(alloc: Global, parts: Parts, bound: u32, laid: Laid) -> Parts
     requires few { IsFew parts bound }
     ensures copies { CanUnroll parts bound → parts_of result ≡ unrolled (parts_of parts) bound }
     ensures forward { CanUnroll parts bound → IsForward result }
+    ensures tables { KeepsTables parts result }
 {
     in_bits(parts.locations, bound);
     replaced(alloc, parts, laid)
 }
 
 /// The parts whose locations are the copies of these ones', for as many turns of each loop as the bound says: what [`unroll`] makes its
-/// automaton of. Of parts that are no automaton nothing is said.
+/// automaton of. The tables of terms and deeds stay as they are, and copies of an edge share its deed. Of parts that are no automaton
+/// nothing else is said.
 pub fn copy_loops(alloc: Global, parts: Parts, bound: u32) -> Result<Parts, TooLarge>
     ensures copies { CanUnroll parts bound → IfOk result (λ made. parts_of made ≡ unrolled (parts_of parts) bound) }
     ensures forward { CanUnroll parts bound → IfOk result IsForward }
+    ensures tables { IfOk result (KeepsTables parts) }
     ensures fits { CanUnroll parts bound → OnOk result (unrolled_size (parts_of parts) bound ≤ MAX_EDGES) }
     ensures large { CanUnroll parts bound → IfErr result (IsTooLarge (parts_of parts) bound) }
 {
@@ -206,6 +205,7 @@ pub fn copy_loops(alloc: Global, parts: Parts, bound: u32) -> Result<Parts, TooL
 fn made(alloc: Global, parts: Parts) -> Result<Acyclic, TooLarge>
     requires { IsForward parts }
     ensures parts { IfOk result (λ m. acyclic_parts m ≡ parts_of parts) }
+    ensures code { IfOk result (λ m. acyclic_code m ≡ parts) }
     ensures bare { IfOk result (λ m. attached_in m ≡ None) }
     ensures fault { IfErr result (λ fault. fault ≡ NoMemory) }
 {
@@ -219,6 +219,7 @@ fn made(alloc: Global, parts: Parts) -> Result<Acyclic, TooLarge>
 fn unrolled(alloc: Global, parts: Parts, bound: u32) -> Result<Acyclic, TooLarge>
     requires { CanUnroll parts bound }
     ensures copies { IfOk result (λ m. acyclic_parts m ≡ unrolled (parts_of parts) bound) }
+    ensures tables { IfOk result (λ m. KeepsTables parts (acyclic_code m)) }
     ensures bare { IfOk result (λ m. attached_in m ≡ None) }
     ensures fits { OnOk result (unrolled_size (parts_of parts) bound ≤ MAX_EDGES) }
     ensures large { IfErr result (IsTooLarge (parts_of parts) bound) }
@@ -234,6 +235,7 @@ fn unrolled(alloc: Global, parts: Parts, bound: u32) -> Result<Acyclic, TooLarge
 /// copy of an edge.
 pub fn unroll(alloc: Global, from: Inlined) -> Result<Acyclic, TooLarge>
     ensures copies { IfOk result (λ m. acyclic_parts m ≡ unrolled (inlined_parts from) (bound_of from)) }
+    ensures tables { IfOk result (λ m. KeepsTables (inlined_code from) (acyclic_code m)) }
     ensures bare { IfOk result (λ m. attached_in m ≡ None) }
     ensures same { IfOk result (λ m. IsSame (acyclic_machine (acyclic_parts m) (attached_in m)) (inlined_machine (inlined_parts from) (bound_of from))) }
     ensures fits { OnOk result (unrolled_size (inlined_parts from) (bound_of from) ≤ MAX_EDGES) }

@@ -11,3 +11,6 @@ returns-clause-fits c = c.copy_loops.ensures.fits
 
 pub returns-clause-large : goal.returns-clause-large
 returns-clause-large c = c.copy_loops.ensures.large
+
+pub returns-clause-tables : goal.returns-clause-tables
+returns-clause-tables c = c.copy_loops.ensures.tables

@@ -14,3 +14,6 @@ returns-clause-fits c = c.unroll.ensures.fits
 
 pub returns-clause-large : goal.returns-clause-large
 returns-clause-large c = c.unroll.ensures.large
+
+pub returns-clause-tables : goal.returns-clause-tables
+returns-clause-tables c = c.unroll.ensures.tables

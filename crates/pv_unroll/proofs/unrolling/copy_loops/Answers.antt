@@ -6,3 +6,6 @@ returns-in-Ok-clause-fits c = fits_of c.args.parts c.args.bound c.of_bits.ensure
 
 pub returns-in-Err-clause-large : goal.returns-in-Err-clause-large
 returns-in-Err-clause-large c = large_of c.args.parts c.args.bound c.in-Err.fault c.of_bits.ensures c.in-Err.ensures.large
+
+pub returns-in-Ok-clause-tables : goal.returns-in-Ok-clause-tables
+returns-in-Ok-clause-tables c = c.with_text.ensures.tables
