@@ -31,23 +31,32 @@ COMMANDS = [
 
 def run(program, library, words, **more):
     settings = dict(os.environ, LD_PRELOAD=str(library), **more)
-    done = subprocess.run([program, *words], cwd=ROOT, env=settings, stdout=subprocess.PIPE)
+    done = subprocess.run([program, *words], cwd=ROOT, env=settings, stdout=subprocess.PIPE, stderr=subprocess.DEVNULL)
     return done.returncode, done.stdout
 
 
-def swept(program, library, counted, words):
-    """Prints how each run of a command ends in which another allocation fails, and answers whether all end as they may."""
+def compiled(folder):
+    """The library that fails an allocation, made in this folder."""
+    library = pathlib.Path(folder) / "fail.so"
+    subprocess.run(["gcc", "-O1", "-shared", "-fPIC", "-o", library, HERE / "fail.c", "-ldl"], check=True)
+    return library
+
+
+def swept(program, library, words, name, failed=9):
+    """Prints how each run of a command ends in which another allocation fails, and answers whether all end as they may: with the status
+    of one that failed, or with the answer."""
+    counted = pathlib.Path(library).with_name("count")
     whole = run(program, library, words, COUNT_TO=str(counted))
     allocations = int(counted.read_text())
     ends, right = collections.Counter(), True
     for at in range(1, allocations + 1):
         status, text = run(program, library, words, FAIL_AT=str(at))
         ends[status] += 1
-        if (status, text) != whole and not (status == 9 and whole[1].startswith(text)):
-            print(f"{' '.join(words)}: allocation {at}: status {status}, {text[:80]!r}", flush=True)
+        if (status, text) != whole and not (status == failed and whole[1].startswith(text)):
+            print(f"{name}: allocation {at}: status {status}, {text[:80]!r}", flush=True)
             right = False
     told = ", ".join(f"{number} with status {status}" for status, number in sorted(ends.items()))
-    print(f"{' '.join(words)} (status {whole[0]}): {allocations} allocations, {told}", flush=True)
+    print(f"{name} (status {whole[0]}): {allocations} allocations, {told}", flush=True)
     return right
 
 
@@ -55,13 +64,13 @@ def main():
     program = pathlib.Path(sys.argv[1]).resolve() if len(sys.argv) > 1 else ROOT / "crates" / "plcv" / "out" / "plcv"
     right = True
     with tempfile.TemporaryDirectory() as folder:
-        library, counted = pathlib.Path(folder) / "fail.so", pathlib.Path(folder) / "count"
-        subprocess.run(["gcc", "-O1", "-shared", "-fPIC", "-o", library, HERE / "fail.c", "-ldl"], check=True)
+        library = compiled(folder)
         for command in COMMANDS:
             verb, *files = command.split(" ")
             words = [verb, *(f"examples/{file}" for file in files)]
-            right = swept(program, library, counted, words) and right
+            right = swept(program, library, words, " ".join(words)) and right
     sys.exit(not right)
 
 
-main()
+if __name__ == "__main__":
+    main()

@@ -5,52 +5,29 @@
 //! by the other literals of its reason, until one literal of the last level is left. Of the lower levels those go
 //! that the others imply, by their reasons and the reasons of what stands in these, and all of level 0. The hints
 //! are the reasons that the line needs, in the trail's order, and the conflict after them.
-ghost use Rattle.std.specs.Prelude.{◌^◌, ◌<◌, ◌≤◌, length};
+ghost use Rattle.std.specs.Prelude.{◌^◌, ◌<◌};
 ghost use Rattle.pv_learn.specs.Learning.{KeepsRoom};
 
 use crate::draft::Draft;
 use crate::known::Known;
+use crate::places::Places;
 use pv_cnf::ClauseView;
 use pv_order::Order;
 use pv_watch::{Propagator, Trail};
 use std::alloc::{AllocError, Global};
 
-/// What a variable is in an analysis.
-#[derive(Clone, Copy, PartialEq, Eq)]
-enum Mark {
-    /// It wasn't met.
-    Unmet,
-    /// It stands in the reason of one that was met.
-    Asked,
-    /// It stands there, and its literal is implied by those of the clause.
-    Implied,
-    /// It is in the clause.
-    Held,
-    /// It is in the clause, and its literal is implied by the others.
-    Spare,
-}
-
-/// What is known of a variable.
-#[derive(Clone, Copy)]
-struct Note {
-    mark: Mark,
-    /// Whether the line needs its literal, or its reason as a hint.
-    is_needed: bool,
-}
-
-/// Nothing is known yet.
-fn no_note() -> Note {
-    Note {
-        mark: Mark::Unmet,
-        is_needed: false,
-    }
-}
-
-/// What an analysis knows of the variables. The memory is taken when it is made.
+/// What an analysis knows of the literals that are false, by their places on the trail. The memory is taken when it
+/// is made.
 #[derive(Drop)]
 pub struct Analysis {
-    /// Of each variable, and one for 0.
-    notes: Vec<Note>,
+    /// Those in the clause.
+    held: Places,
+    /// Those, and what stands in the reasons of lower levels.
+    met: Places,
+    /// Those of lower levels that the others of the clause imply.
+    implied: Places,
+    /// Those that the line needs, as a literal or by their reasons.
+    needed: Places,
     /// How many literals of the last level are in the clause.
     left: usize,
     /// The places of the first and of the last decision; where there is none, past the trail's end and 0.
@@ -60,17 +37,33 @@ pub struct Analysis {
     first: usize,
 }
 
-/// Whether a literal is among the first `start` of the trail.
-fn is_before(trail: &Trail, start: usize, lit: u32) -> bool {
-    start <= trail.len() && lit / 2 <= trail.variables() && trail.is_false_at(start, lit)
+/// The place of a literal, past the trail's end where it isn't false.
+fn place_of(trail: &Trail, lit: u32) -> usize {
+    if lit / 2 <= trail.variables() {
+        trail.place(lit) as usize
+    } else {
+        usize::MAX
+    }
 }
 
-/// How many places of the trail there are.
-fn length_of(trail: &Trail) -> usize
-    ensures falses { result ≤ length trail.now.falses }
-    ensures reasons { result ≤ length trail.now.reasons }
-{
-    trail.falses().len().min(trail.reasons().len())
+/// The literal at a place, or 0.
+fn lit_at(trail: &Trail, place: usize) -> u32 {
+    let falses = trail.falses();
+    if place < falses.len() {
+        falses[place]
+    } else {
+        0
+    }
+}
+
+/// The reason of the literal at a place, or 0.
+fn reason_at(trail: &Trail, place: usize) -> u32 {
+    let reasons = trail.reasons();
+    if place < reasons.len() {
+        reasons[place]
+    } else {
+        0
+    }
 }
 
 impl Analysis {
@@ -79,7 +72,10 @@ impl Analysis {
         requires { variables < 2 ^ 31 }
     {
         Ok(Analysis {
-            notes: vec![in alloc; no_note(); variables as usize + 1]?,
+            held: Places::new(alloc, variables)?,
+            met: Places::new(alloc, variables)?,
+            implied: Places::new(alloc, variables)?,
+            needed: Places::new(alloc, variables)?,
             left: 0,
             root: 0,
             start: 0,
@@ -89,9 +85,10 @@ impl Analysis {
 
     /// Begins anew, with this trail.
     fn begin(&mut self, trail: &Trail) {
-        for note in self.notes.iter_mut() {
-            *note = no_note();
-        }
+        self.held.clear();
+        self.met.clear();
+        self.implied.clear();
+        self.needed.clear();
         let end = trail.falses().len();
         self.left = 0;
         self.root = trail.starts().first().copied().unwrap_or(end);
@@ -99,31 +96,13 @@ impl Analysis {
         self.first = end;
     }
 
-    fn mark(&self, lit: u32) -> Mark {
-        let v = (lit / 2) as usize;
-        if v < self.notes.len() {
-            self.notes[v].mark
-        } else {
-            Mark::Unmet
-        }
-    }
-
-    fn set(&mut self, lit: u32, mark: Mark) {
-        let v = (lit / 2) as usize;
-        if v < self.notes.len() {
-            self.notes[v].mark = mark;
-        }
-    }
-
-    fn is_needed(&self, lit: u32) -> bool {
-        let v = (lit / 2) as usize;
-        v < self.notes.len() && self.notes[v].is_needed
-    }
-
-    /// Whether the literal, which stands at this place of the trail, is one of the line's, if it is needed.
-    fn stays(&self, place: usize, lit: u32) -> bool {
+    /// Whether the literal at this place of the trail is one of the line's, if it is needed.
+    fn stays(&self, place: usize) -> bool {
         place == self.first
-            || self.root <= place && place < self.start && self.mark(lit) == Mark::Held
+            || self.root <= place
+                && place < self.start
+                && self.held.has(place)
+                && !self.implied.has(place)
     }
 
     /// Takes the literals of a clause in.
@@ -131,11 +110,15 @@ impl Analysis {
         if id == 0 || id > known.count() {
             return;
         }
+        let trail = known.propagator.trail();
+        let end = trail.len();
         for lit in known.clause(id) {
-            if self.mark(*lit) == Mark::Unmet {
-                self.set(*lit, Mark::Held);
+            let place = place_of(trail, *lit);
+            if place < end && !self.held.has(place) {
+                self.held.put(place);
+                self.met.put(place);
                 order.bump(*lit / 2);
-                if !is_before(known.propagator.trail(), self.start, *lit) {
+                if self.start <= place {
                     self.left = self.left.saturating_add(1);
                 }
             }
@@ -146,15 +129,21 @@ impl Analysis {
     fn resolve(&mut self, known: &Known<'_>, order: &mut Order, conflict: u32) {
         let trail = known.propagator.trail();
         self.hold(known, order, conflict);
-        for i in (self.start..length_of(trail)).rev() {
-            if self.mark(trail.falses()[i]) == Mark::Held {
-                self.left = self.left.saturating_sub(1);
-                if self.left == 0 && self.root <= i {
-                    self.first = i;
-                    return;
-                }
-                self.hold(known, order, trail.reasons()[i]);
+        let mut end = trail.len();
+        for _ in self.start..trail.len() {
+            let Some(place) = self.held.last_before(end) else {
+                return;
+            };
+            if place < self.start {
+                return;
             }
+            self.left = self.left.saturating_sub(1);
+            if self.left == 0 && self.root <= place {
+                self.first = place;
+                return;
+            }
+            self.hold(known, order, reason_at(trail, place));
+            end = place;
         }
     }
 
@@ -163,29 +152,55 @@ impl Analysis {
         if id == 0 || id > known.count() {
             return;
         }
+        let trail = known.propagator.trail();
+        let end = trail.len();
         for lit in known.clause(id) {
-            if self.mark(*lit) == Mark::Unmet {
-                self.set(*lit, Mark::Asked);
+            let place = place_of(trail, *lit);
+            if place < end {
+                self.met.put(place);
             }
         }
     }
 
-    /// Asks for what stands in the reasons of the lower levels' literals, from the last on.
-    fn ask_all(&mut self, known: &Known<'_>) {
+    /// Asks for what stands in the reasons of the literals from place `from` up to `upto`, from the last on.
+    fn ask_level(&mut self, known: &Known<'_>, from: usize, upto: usize) {
         let trail = known.propagator.trail();
-        for i in (self.root..self.start.min(length_of(trail))).rev() {
-            if self.mark(trail.falses()[i]) != Mark::Unmet {
-                self.ask(known, trail.reasons()[i]);
+        let mut end = upto;
+        for _ in from..upto {
+            let Some(place) = self.met.last_before(end) else {
+                return;
+            };
+            if place < from {
+                return;
             }
+            self.ask(known, reason_at(trail, place));
+            end = place;
+        }
+    }
+
+    /// Does so for the lower levels, from the last on. A literal of a level of which the clause has none isn't
+    /// implied by it, so its reason isn't asked for.
+    fn ask_all(&mut self, known: &Known<'_>) {
+        let starts = known.propagator.trail().starts();
+        let mut end = self.start;
+        let mut next = self.held.last_before(end);
+        for k in 1..starts.len() {
+            let Some(place) = next else {
+                return;
+            };
+            let start = starts[starts.len() - 1 - k];
+            if start <= place {
+                self.ask_level(known, start, end);
+                next = self.held.last_before(start);
+            }
+            end = start;
         }
     }
 
     /// Whether a literal of the reason of `own` is that one's, of level 0, in the clause, or implied by it.
     fn is_given(&self, trail: &Trail, own: u32, lit: u32) -> bool {
-        match self.mark(lit) {
-            Mark::Implied | Mark::Held | Mark::Spare => true,
-            _ => lit / 2 == own / 2 || is_before(trail, self.root, lit),
-        }
+        let place = place_of(trail, lit);
+        place < self.root || self.held.has(place) || self.implied.has(place) || lit / 2 == own / 2
     }
 
     /// Whether the reason of a literal makes it follow from the clause.
@@ -199,23 +214,21 @@ impl Analysis {
                 .all(|lit| self.is_given(trail, own, *lit))
     }
 
-    /// Marks a literal so, if its reason makes it follow from the clause.
-    fn imply(&mut self, known: &Known<'_>, lit: u32, reason: u32, mark: Mark) {
-        if self.is_implied(known, lit, reason) {
-            self.set(lit, mark);
-        }
-    }
-
     /// Finds which of the lower levels' literals are implied by the clause, from the first on.
     fn imply_all(&mut self, known: &Known<'_>) {
         let trail = known.propagator.trail();
-        for i in self.root..self.start.min(length_of(trail)) {
-            let lit = trail.falses()[i];
-            match self.mark(lit) {
-                Mark::Asked => self.imply(known, lit, trail.reasons()[i], Mark::Implied),
-                Mark::Held => self.imply(known, lit, trail.reasons()[i], Mark::Spare),
-                _ => {}
+        let mut from = self.root;
+        for _ in self.root..self.start {
+            let Some(place) = self.met.first_from(from) else {
+                return;
+            };
+            if place >= self.start {
+                return;
             }
+            if self.is_implied(known, lit_at(trail, place), reason_at(trail, place)) {
+                self.implied.put(place);
+            }
+            from = place.saturating_add(1);
         }
     }
 
@@ -224,10 +237,12 @@ impl Analysis {
         if id == 0 || id > known.count() {
             return;
         }
+        let trail = known.propagator.trail();
+        let end = trail.len();
         for lit in known.clause(id) {
-            let v = (*lit / 2) as usize;
-            if v < self.notes.len() {
-                self.notes[v].is_needed = true;
+            let place = place_of(trail, *lit);
+            if place < end {
+                self.needed.put(place);
             }
         }
     }
@@ -236,11 +251,26 @@ impl Analysis {
     fn need_all(&mut self, known: &Known<'_>, conflict: u32) {
         let trail = known.propagator.trail();
         self.need(known, conflict);
-        for i in (0..length_of(trail)).rev() {
-            let lit = trail.falses()[i];
-            if self.is_needed(lit) && !self.stays(i, lit) {
-                self.need(known, trail.reasons()[i]);
+        let mut end = trail.len();
+        for _ in 0..trail.len() {
+            let Some(place) = self.needed.last_before(end) else {
+                return;
+            };
+            if !self.stays(place) {
+                self.need(known, reason_at(trail, place));
             }
+            end = place;
+        }
+    }
+
+    /// Writes a needed place down: its literal where that stays, and else its reason.
+    fn write_place(&self, trail: &Trail, draft: &mut Draft, place: usize)
+        ensures room { KeepsRoom draft.old draft.new }
+    {
+        if self.stays(place) {
+            draft.put_lit(lit_at(trail, place));
+        } else {
+            draft.put_hint(reason_at(trail, place));
         }
     }
 
@@ -249,13 +279,13 @@ impl Analysis {
         ensures room { KeepsRoom draft.old draft.new }
     {
         draft.clear();
-        for i in 0..length_of(trail) {
-            let lit = trail.falses()[i];
-            if self.is_needed(lit) {
-                if self.stays(i, lit) {
-                    draft.put_lit(lit);
-                } else {
-                    draft.put_hint(trail.reasons()[i]);
+        let mut from = 0;
+        for _ in 0..trail.len() {
+            match self.needed.first_from(from) {
+                None => break,
+                Some(place) => {
+                    self.write_place(trail, draft, place);
+                    from = place.saturating_add(1);
                 }
             }
         }

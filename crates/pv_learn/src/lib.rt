@@ -7,6 +7,7 @@ mod draft;
 mod known;
 mod learn;
 mod look;
+mod places;
 
 pub use analysis::Analysis;
 pub use draft::Draft;

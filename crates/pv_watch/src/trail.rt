@@ -3,7 +3,7 @@ ghost use Rattle.std.specs.Prelude.{◌≡◌, ℕ, ◌+◌, ◌*◌, ◌^◌, �
 ghost use Rattle.pv_cnf.specs.Literal.{complement, is_outside};
 ghost use Rattle.pv_cnf.specs.Clause.{has_outside, has_double};
 ghost use Rattle.pv_log.specs.Propagation.{is_false, unit_of};
-ghost use Rattle.pv_watch.specs.Trail.{Path, Agree, LastIs, Rise};
+ghost use Rattle.pv_watch.specs.Trail.{Path, Agree, LastIs, Rise, place_from, no_place};
 
 use pv_cnf::flip;
 use std::alloc::{AllocError, Global};
@@ -69,6 +69,14 @@ impl Trail {
         ensures small { result < 2 ^ 31 }
     {
         self.variables
+    }
+
+    /// The place of a literal among those that are false, in their order; 2^32 - 1 where it isn't false.
+    pub fn place(&self, lit: u32) -> u32
+        requires { lit < 2 * self.now.variables + 2 }
+        ensures { result ≡ place_from no_place 0 self.now.falses lit }
+    {
+        self.places[lit as usize]
     }
 
     /// Whether a literal is one of the first `upto` that became false.
