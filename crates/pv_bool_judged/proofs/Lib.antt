@@ -1,0 +1,5 @@
+pub mod Terms
+pub mod Placed
+pub mod Begun
+pub mod Scanned
+pub mod Formed

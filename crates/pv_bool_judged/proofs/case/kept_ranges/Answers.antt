@@ -1,0 +1,8 @@
+use Rattle.std.proofs.Common.{◌≡◌, ℕ, subst, replicate}
+use Rattle.std.specs.Prelude.{IfOk}
+use Rattle.pv_bool_judged.specs.Bounds.{bit_bounds}
+use Rattle.pv_bool_judged.proofs.case.kept_ranges.Goals as goal
+
+pub returns : goal.returns
+returns c =
+    subst (λ (n : ℕ). IfOk c.ranges-2.result (λ ranges. ranges.items ≡ replicate n bit_bounds)) c.kept_count.ensures c.ranges-2.ensures
