@@ -19,7 +19,6 @@ pub struct Shown {
 }
 
 impl Shown {
-    /// The status, which is that of the replay.
     pub fn status(&self) -> Status
         ensures { result ≡ show_status (Ok self.now) }
     {
