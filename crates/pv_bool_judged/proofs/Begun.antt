@@ -1,13 +1,13 @@
 -- With what a stretch begins, and one scan over a frame.
-use Rattle.std.proofs.Common.{◌≡◌, ℕ, ℤ, Bool, true, false, List, length, map, replicate, refl, ap, sym, subst, ◌∙◌}
+use Rattle.std.proofs.Common.{◌≡◌, ℕ, ℤ, true, false, List, length, map, replicate, refl, ap, sym, subst, ◌∙◌}
 use Rattle.std.proofs.lemmas.List.{length-map}
 use Rattle.pv_place.specs.Ranges.{Range, AreWithin}
 use Rattle.pv_stretch.specs.declared.ends.StretchStart.{StretchStart}
 use Rattle.pv_stretch.specs.declared.ends.StretchStart.TheVariants as from
 use Rattle.pv_bool.specs.declared.program.Bit.{Bit}
 use Rattle.pv_bool.specs.Tree.{AssignmentTree, ProgramTree}
-use Rattle.pv_bool.specs.Scans.{Bits, state_len, start, begin, state_of, input_of, run_body, value_in, scan_end, next_state, keeps}
-use Rattle.pv_bool.specs.Machine.{bit_range, bit_of, numbers_of, bits_of}
+use Rattle.pv_bool.specs.Scans.{Bits, state_len, start, state_of, input_of, run_body, scan_end}
+use Rattle.pv_bool.specs.Machine.{bit_of, numbers_of, bits_of}
 use Rattle.pv_bool.proofs.ForCallers.{length-within, numbers_of-bits_of, state_of-begin}
 use Rattle.pv_valid.specs.declared.facts.Facts.{Facts}
 use Rattle.pv_valid.specs.Cases.{range_between, Bounds}

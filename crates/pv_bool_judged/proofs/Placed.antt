@@ -1,5 +1,5 @@
 -- Values put into their bits of a frame, one after another.
-use Rattle.std.proofs.Common.{◌≡◌, ◌++◌, ◌+◌, ℕ, zero, suc, ◌<◌, ◌≤◌, List, [], ◌∷◌, length, ℤ, Bool, true, false, cond, get_or, set, take, drop, refl, ap, sym, subst, ◌∙◌, append_assoc, append-nil, arith, map, filter}
+use Rattle.std.proofs.Common.{◌≡◌, ◌++◌, ℕ, zero, suc, ◌<◌, ◌≤◌, List, [], ◌∷◌, length, Bool, true, false, cond, get_or, set, take, drop, refl, ap, sym, subst, ◌∙◌, append_assoc, append-nil, arith, map, filter}
 use Rattle.std.proofs.Math.Seq.{take-suc-set, take-suc, drop-cons}
 use Rattle.std.proofs.lemmas.List.{drop-set-lt, take_all, drop_all, length-map}
 use Rattle.pv_bool.specs.declared.program.BitRole.{BitRole}

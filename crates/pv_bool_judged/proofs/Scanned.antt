@@ -1,17 +1,14 @@
 -- Scans of a program, one after another, as a stretch of its machine.
-use Rattle.std.proofs.Common.{◌≡◌, ◌+◌, ◌++◌, ℕ, zero, suc, ◌<◌, ◌≤◌, List, [], ◌∷◌, length, ℤ, Bool, true, false, not, get_or, drop, Option, Some, None, refl, ap, sym, subst, ◌∙◌, arith}
+use Rattle.std.proofs.Common.{◌≡◌, ◌+◌, ℕ, suc, ◌<◌, List, [], ◌∷◌, length, true, false, not, get_or, drop, Option, Some, None, refl, ap, sym, subst, ◌∙◌, arith}
 use Rattle.std.proofs.Math.Seq.{drop-cons}
-use Rattle.std.proofs.lemmas.List.{drop_all, length-map}
+use Rattle.std.proofs.lemmas.List.{drop_all}
 use Rattle.pv_machine.specs.Machines.{Values, done}
 use Rattle.pv_machine.specs.Queries.{IsGoodScan}
 use Rattle.pv_claims.specs.declared.trace.Ending.TheVariants as ending
 use Rattle.pv_stretch.specs.declared.ends.StretchEnd.{StretchEnd}
 use Rattle.pv_stretch.specs.declared.ends.StretchEnd.TheVariants as end
-use Rattle.pv_stretch.specs.declared.ends.StretchStart.{StretchStart}
-use Rattle.pv_stretch.specs.declared.ends.StretchStart.TheVariants as from
-use Rattle.pv_bool.specs.declared.program.Bit.{Bit}
 use Rattle.pv_bool.specs.Tree.{ProgramTree}
-use Rattle.pv_bool.specs.Scans.{Bits, state_len, state_of, start, run_body, value_in, next_state, keeps}
+use Rattle.pv_bool.specs.Scans.{Bits, next_state, keeps}
 use Rattle.pv_bool.specs.Machine.{numbers_of, bits_of, machine_of}
 use Rattle.pv_bool.proofs.ForCallers.{bits_of-numbers_of}
 use Rattle.pv_valid.specs.Shown.{EndsStretch, IsStretch}

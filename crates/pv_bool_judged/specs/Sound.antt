@@ -4,7 +4,6 @@ use Rattle.pv_place.specs.Ranges.{Range, AreWithin}
 use Rattle.pv_cnf.specs.Clause.{Holds}
 use Rattle.pv_cert.specs.declared.proof.Query.{Query}
 use Rattle.pv_cert.specs.declared.proof.Query.TheVariants.{Base, Step}
-use Rattle.pv_bool.specs.declared.program.Bit.{Bit}
 use Rattle.pv_bool.specs.Tree.{ProgramTree, IsProgram}
 use Rattle.pv_bool.specs.Scans.{state_len, input_len}
 use Rattle.pv_bool.specs.Machine.{bit_range, machine_of}

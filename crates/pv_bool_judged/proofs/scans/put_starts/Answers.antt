@@ -1,7 +1,7 @@
 use Rattle.std.proofs.Common.{◌+◌, false, refl, arith}
 use Rattle.pv_bool.specs.declared.program.Bit.{Bit}
 use Rattle.pv_bool.specs.declared.program.BitRole.TheVariants.{Input}
-use Rattle.pv_bool_judged.proofs.Placed.{starts-put, starts-all}
+use Rattle.pv_bool_judged.proofs.Placed.{starts-put}
 use Rattle.pv_bool_judged.proofs.scans.put_starts.Goals as goal
 
 -- what a bit past the last is
