@@ -1,5 +1,5 @@
 -- Room for the line at hand.
-use Rattle.std.proofs.Common.{ℕ, ◌≤◌, arith}
+use Rattle.std.proofs.Common.{ℕ, arith}
 use Rattle.std.specs.Prelude.{vec_capacity}
 use Rattle.pv_learn.specs.declared.draft.Draft.{Draft}
 use Rattle.pv_learn.specs.Learning.{HasRoom, KeepsRoom}

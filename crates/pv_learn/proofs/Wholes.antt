@@ -1,18 +1,18 @@
 -- The trail itself as a line.
-use Rattle.std.proofs.Common.{◌≡◌, ℕ, zero, suc, ◌+◌, ◌-◌, ◌<◌, ◌≤◌, ◌⊎◌, false, List, [], ◌∷◌, ◌++◌, length, get_or, take, drop, refl, sym, ap, subst, ◌∙◌, inl, inr, Some, arith}
+use Rattle.std.proofs.Common.{◌≡◌, ℕ, zero, suc, ◌+◌, ◌-◌, ◌<◌, ◌≤◌, false, List, [], ◌∷◌, ◌++◌, length, get_or, take, drop, sym, ap, subst, ◌∙◌, inl, inr, Some, arith}
 use Rattle.std.specs.Prelude.{Contains}
 use Rattle.std.specs.List.{AllByRecursion}
 use Rattle.std.proofs.lemmas.List.{take-append-drop}
 use Rattle.std.proofs.lemmas.List.Elements.{Contains-push_cases}
-use Rattle.pv_cnf.specs.Clause.{has_outside, has_double, AreClauses}
+use Rattle.pv_cnf.specs.Clause.{has_outside, has_double}
 use Rattle.pv_log.specs.declared.line.Line.{Line}
-use Rattle.pv_log.specs.Propagation.{left_of, unit_of, LeadsToFalse}
+use Rattle.pv_log.specs.Propagation.{unit_of, LeadsToFalse}
 use Rattle.pv_log.specs.Follows.{Follows as FollowsLog}
 use Rattle.pv_log.proofs.ForCallers.{double-front, outside-front}
 use Rattle.pv_watch.specs.Trail.{Path, Rise, LastIs, IsImplied, IsSound}
 use Rattle.pv_watch.specs.Quiet.{IsConflict}
 use Rattle.pv_watch.proofs.ForCallers.{Rise-front, below-all, leads-from}
-use Rattle.pv_learn.specs.Learning.{IsAsserting, IsNext, IsLast}
+use Rattle.pv_learn.specs.Learning.{IsNext, IsLast}
 
 -- ---- which places are implied
 

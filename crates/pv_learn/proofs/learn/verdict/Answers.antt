@@ -1,7 +1,7 @@
-use Rattle.std.proofs.Common.{◌∷◌, [], ◌+◌, ℕ, List, subst}
+use Rattle.std.proofs.Common.{◌∷◌, [], subst}
 use Rattle.pv_log.specs.declared.line.Line.{Line}
 use Rattle.pv_log.specs.Follows.{Follows, IsAccepted, LacksEmpty}
-use Rattle.pv_region.specs.Stored.{count_of, all_lits}
+use Rattle.pv_region.specs.Stored.{all_lits}
 use Rattle.pv_learn.proofs.Counts.{line-is}
 use Rattle.pv_learn.proofs.learn.verdict.Goals as goal
 
