@@ -1,0 +1,6 @@
+mod Images
+mod Failing
+mod Kept
+mod Told
+mod Deciding
+mod Exact
