@@ -1,9 +1,7 @@
-pub mod Queries
+pub mod Wider
 pub mod Requirements
-pub mod Subjects
 pub mod Stages
 pub mod Verdicts
-pub mod Items
 pub mod Working
 pub mod Certifying
 pub mod Reporting

@@ -10,7 +10,8 @@ use Rattle.pv_command_load.specs.Refusals.{Refusal, of_case, of_source, of_proje
 use Rattle.pv_command_load.specs.Subjects.{Given, blocks_of, SubjectData}
 use Rattle.pv_command_load.specs.Reads.{HoldsCase, ReadsSources, Refuses}
 use Rattle.pv_command_load.proofs.ForCallers.{Laws, one_case, one_given, case_read, sources_read, project_read, one_refusal as one_any, apart as any_apart, one_subject as one_read}
-use Rattle.pv_command_recheck.specs.Forms.{IsFirstCase, IsFirstAlone, ReadsFirst}
+use Rattle.pv_bool_case.specs.Forms.{IsFirstAlone}
+use Rattle.pv_command_recheck.specs.Forms.{IsFirstCase, ReadsFirst}
 use Rattle.pv_command_recheck.specs.Refusals.{RecheckRefusal, as_any, case_form, source_form, HoldsOtherCase, HoldsOtherProject, HoldsOtherRequirement, RefusesAny, RefusesRecheck}
 use Rattle.pv_command_recheck.specs.Correct.{FilesDecideOneRecheck}
 

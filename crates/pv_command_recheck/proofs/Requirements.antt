@@ -1,11 +1,9 @@
 -- What the one text of an invariant says: it is the requirement, or its fault is the case's.
-use Rattle.std.proofs.Common.{◌≡◌, ℕ, ℤ, List, [], ◌∷◌, Result, Ok, Err, refl, ap, sym, subst, ◌∙◌}
+use Rattle.std.proofs.Common.{◌≡◌, ℕ, ℤ, List, [], ◌∷◌, Ok, Err, refl, sym, subst}
 use Rattle.pv_mean.specs.declared.cell.Cell.{Cell}
 use Rattle.pv_mean.specs.Cells.{View}
 use Rattle.pv_tree.specs.declared.expr.Expr.{Expr}
-use Rattle.pv_tree.specs.Tree.{BlockTree}
 use Rattle.pv_tree.specs.View.{expr_tree}
-use Rattle.pv_tree.specs.Scopes.{ProjectTree, Scope}
 use Rattle.pv_pattern.specs.Patterns.{invariant}
 use Rattle.pv_pattern.specs.Texts as texts
 use Rattle.pv_pattern.specs.Texts.{Fault, Say, FailsAt}
@@ -19,19 +17,6 @@ use Rattle.pv_command_load.specs.Stops.{StopsFit}
 use Rattle.pv_command_recheck.specs.Forms.{IsFirstCase}
 use Rattle.pv_command_recheck.specs.Made.{of_text}
 
--- ---- the scope of the entered block
-
-pub same_scope : (project other : ProjectTree) (block entered : BlockTree) → project ≡ other → block ≡ entered
-    → (let s : Scope = record { project = project; block = block } in s) ≡ record { project = other; block = entered }
-same_scope project other block entered p b =
-    ap (λ x. let s : Scope = record { project = x; block = block } in s) p
-    ∙ ap (λ x. let s : Scope = record { project = other; block = x } in s) b
-
-pub in_scope : (scope other : Scope) (text : List ℕ) (result : Result Expr TextFault) → scope ≡ other → AnswersText scope text result
-    → AnswersText other text result
-in_scope scope other text result same is =
-    let P : Scope → Type 0 = λ s. AnswersText s text result in subst P same is
-
 -- ---- the case's requirement
 
 abbrev pub no_view : View
@@ -44,7 +29,7 @@ pub views_none : (given : Given) (entered : Entered) → IsFirstCase given.case 
 views_none given entered is =
     let P : List (List ℕ) → Type 0 = λ ps. Views (cells_of given entered) ps given.case.bind [] [] in
     let Q : List (List ℕ × ℤ) → Type 0 = λ bs. Views (cells_of given entered) [] bs [] [] in
-    subst P (sym is.params) (subst Q (sym is.bind) (nothing_listed (cells_of given entered)))
+    subst P (sym is.form.params) (subst Q (sym is.form.bind) (nothing_listed (cells_of given entered)))
 
 pub requirement_found : (given : Given) (entered : Entered) (text : List ℕ) (e : Expr) → IsFirstCase given.case
     → given.case.expressions ≡ text ∷ [] → AnswersText (scope_of given entered) text (Ok e) → HasPattern given entered (invariant (expr_tree e))

@@ -1,5 +1,5 @@
 -- What the stages of a recheck make together, and why they stop.
-use Rattle.std.proofs.Common.{◌≡◌, ◌≢◌, ◌≤◌, ℕ, List, [], ◌∷◌, length, map, inl, inr, Option, Some, IsTrue, refl, ap, sym, subst, ◌∙◌, arith}
+use Rattle.std.proofs.Common.{◌≡◌, ◌≢◌, ◌≤◌, ℕ, List, [], ◌∷◌, length, map, Option, Some, refl, ap, sym, subst, ◌∙◌, arith}
 use Rattle.std.specs.Prelude.{slice_get}
 use Rattle.std.proofs.lemmas.List.{length-map}
 use Rattle.std.proofs.lemmas.List.Elements.{All-nil}
@@ -14,8 +14,7 @@ use Rattle.pv_bool.specs.Tree.{ProgramTree}
 use Rattle.pv_bool.specs.Programs.{program_tree}
 use Rattle.pv_mean.specs.declared.cell.Cell.{Cell}
 use Rattle.pv_mean.specs.Sources.{Source}
-use Rattle.pv_mean.specs.ProjectSizes.{project_tree}
-use Rattle.pv_bool_form.specs.FirstForm.{IsFirstBlock, IsFirstExpr, IsFirstOperand}
+use Rattle.pv_bool_form.specs.FirstForm.{IsFirstBlock, IsFirstExpr}
 use Rattle.pv_bool_form.specs.Programs.{bit_of_cell, first_source, program_of as program_of_source}
 use Rattle.pv_bool_form.proofs.ForCallers.{first_cell, cells_are}
 use Rattle.pv_pattern.specs.Patterns.{invariant}
@@ -27,15 +26,17 @@ use Rattle.pv_command_load.specs.declared.table.TableStop.TheVariants as table_s
 use Rattle.pv_command_load.specs.declared.fit.FitStop.{FitStop}
 use Rattle.pv_command_load.specs.declared.fit.FitStop.TheVariants as fit_stop
 use Rattle.pv_command_load.specs.declared.subject.SubjectStop.TheVariants.{Project as At_project, Table as At_table, Fit as At_fit}
-use Rattle.pv_command_load.specs.Subjects.{Given, blocks_of, project_of, Entered, HasTable, HasPattern, SubjectData, source_in}
-use Rattle.pv_command_load.specs.Reads.{HoldsCase, ReadsSources, ReadsProject, ReadsTable, Reads}
+use Rattle.pv_command_load.specs.Subjects.{Given, blocks_of, Entered, HasTable, HasPattern, SubjectData}
+use Rattle.pv_command_load.specs.Reads.{HoldsCase, ReadsSources, ReadsProject, Reads}
 use Rattle.pv_command_load.specs.Stops.{StopsProject, StopsTable, StopsFit, subject_status}
 use Rattle.pv_command_load.specs.Made.{IsProjectOf}
-use Rattle.pv_command_recheck.specs.Forms.{IsFirstCase, IsFirstAlone, AreFirst, IsFirst, ReadsFirst}
+use Rattle.pv_bool_case.specs.Forms.{IsFirstAlone}
+use Rattle.pv_command_recheck.specs.Forms.{IsFirstCase, AreFirst, ReadsFirst}
 use Rattle.pv_command_recheck.specs.Refusals.{HoldsOtherCase, HoldsOtherProject, HoldsOtherRequirement, StopsAsAny}
 use Rattle.pv_command_recheck.specs.Made.{IsProgramOf}
 use Rattle.pv_command_recheck.proofs.Requirements.{no_view, views_none}
-use Rattle.pv_command_recheck.proofs.Subjects.{OneReading, only_entered, of_form}
+use Rattle.pv_bool_case.proofs.ForCallers.{OneReading, only_entered}
+use Rattle.pv_command_recheck.proofs.Wider.{of_invariant}
 
 -- ---- stops of stages that ask for no file
 
@@ -139,13 +140,13 @@ module _ (told : Option FileMap) (file : List ℕ) where
         reads = reads_all given entered a reads has are pattern;
         first = record { are = are; requires = refl; first = subst P same first.1 };
       } in
-      let form = of_form told file (data_by given entered a) a one so in
+      let of = of_invariant told file (data_by given entered a) a one so in
       record {
         subject = data_by given entered a;
         requirement = a;
         reads = so;
         given_is = refl;
         same = made ∙ ap (λ (b : BlockTree). program_of_source (first_source b [] turns) a) same
-            ∙ ap (λ (x : Source). program_of_source x a) (sym form.source);
+            ∙ ap (λ (x : Source). program_of_source x a) (sym of.same);
         few = few_bits block turns a program first.0 made;
       }

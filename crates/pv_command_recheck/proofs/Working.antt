@@ -1,15 +1,14 @@
 -- What the code's case and project are of, where they are of the form; and that a stop at no file leaves the count of failed reads.
-use Rattle.std.proofs.Common.{◌≡◌, ◌≢◌, ◌↔◌, ◌<◌, ◌≤◌, ℕ, List, [], ◌∷◌, All, length, map, get_or, Option, Some, None, is_some, Result, Ok, Err, IfOk, IfErr, IfSome, MatchResult, string_bytes, true≢false, refl, sym, ap, subst, ◌∙◌, arith}
-use Rattle.std.specs.Prelude.{slice_get, option_map, IsSome}
+use Rattle.std.proofs.Common.{◌≡◌, ◌≢◌, ◌↔◌, ◌≤◌, ℕ, List, [], ◌∷◌, All, length, map, Option, Some, None, is_some, Result, Ok, Err, IfOk, IfErr, IfSome, MatchResult, string_bytes, true≢false, refl, sym, ap, subst, ◌∙◌, arith}
+use Rattle.std.specs.Prelude.{slice_get, IsSome}
 use Rattle.std.specs.Result.{IsErrAnd}
 use Rattle.std.proofs.lemmas.List.{length-map}
-use Rattle.std.proofs.lemmas.Option.{same_Some, slice_get_read, slice_get-map}
 use Rattle.pv_edge.specs.Files.{FileMap}
 use Rattle.pv_tree.specs.declared.expr.Expr.{Expr}
 use Rattle.pv_tree.specs.declared.kept.Project.{Project}
 use Rattle.pv_tree.specs.Tree.{ExprTree, OperandTree, BlockTree}
 use Rattle.pv_tree.specs.View.{block_tree, expr_tree}
-use Rattle.pv_tree.specs.Scopes.{SymbolTree, ProjectTree}
+use Rattle.pv_tree.specs.Scopes.{ProjectTree}
 use Rattle.pv_bool.specs.declared.program.Program.{Program}
 use Rattle.pv_bool.specs.Programs.{program_tree}
 use Rattle.pv_mean.specs.ProjectSizes.{project_tree}
@@ -30,11 +29,13 @@ use Rattle.pv_command_load.specs.Reads.{HoldsCase}
 use Rattle.pv_command_load.specs.Stops.{StopsSource, StopsFit}
 use Rattle.pv_command_load.specs.Made.{IsCase, IsProjectOf}
 use Rattle.pv_command_recheck.specs.declared.recheck.RecheckStop.{RecheckStop}
-use Rattle.pv_command_recheck.specs.Forms.{IsFirstCase, IsFirstAlone, AreFirst}
+use Rattle.pv_bool_case.specs.Forms.{IsFirstAlone}
+use Rattle.pv_command_recheck.specs.Forms.{IsFirstCase, AreFirst}
 use Rattle.pv_command_recheck.specs.Refusals.{StopsAsAny}
 use Rattle.pv_command_recheck.specs.Rechecks.{recheck_stop_status}
 use Rattle.pv_command_recheck.specs.Made.{requirement_in}
-use Rattle.pv_command_recheck.proofs.Requirements.{same_scope, in_scope, requirement_found, requirement_stopped}
+use Rattle.pv_bool_case.proofs.ForCallers.{same_scope, in_scope}
+use Rattle.pv_command_recheck.proofs.Requirements.{requirement_found, requirement_stopped}
 
 -- ---- options and stops
 
@@ -64,11 +65,11 @@ none_mapped [] none = refl
 none_mapped (x ∷ xs) none = absurd cc
 
 pub no_symbols : (case : Case) → IsFirstCase (data_of case) → [] ≡ case.symbols.items
-no_symbols case is = none_mapped case.symbols.items is.symbols
+no_symbols case is = none_mapped case.symbols.items is.form.symbols
 
 pub few_sources : (case : Case) → IsFirstCase (data_of case) → length case.sources.items ≤ MAX_SOURCES
 few_sources case is =
-    let count = sym (length-map case.sources.items source_data) ∙ ap length is.source.only in
+    let count = sym (length-map case.sources.items source_data) ∙ ap length is.form.source.only in
     omega (arith, count)
 
 pub are_first : (given : Given) → IsFirstCase given.case → IsFirstAlone (blocks_of given) → AreFirst given
@@ -88,19 +89,6 @@ stays status before after other same = record {
 pub stops_source : (told now : Option FileMap) (file : List ℕ) (case : CaseData) (stop : SourceStop) → now ≡ told → HoldsCase told file case
     → IsFirstCase case → StopsSource now case stop → StopsAsAny told file (At_source stop)
 stops_source told now file case stop same held first is = (case, held, (first, subst (λ t. StopsSource t case stop) same is))
-
--- ---- the code's tables of names
-
-pub same_project : (blocks other : List BlockTree) (symbols others : List SymbolTree) → blocks ≡ other → symbols ≡ others
-    → (let p : ProjectTree = record { blocks = blocks; symbols = symbols } in p) ≡ record { blocks = other; symbols = others }
-same_project blocks other symbols others b s =
-    ap (λ x. let p : ProjectTree = record { blocks = x; symbols = symbols } in p) b
-    ∙ ap (λ x. let p : ProjectTree = record { blocks = other; symbols = x } in p) s
-
-pub entered_is : {X Y : Type 0} (f : X → Y) (xs : List X) (n : ℕ) (x : X) (y : Y) → n < length xs → x ≡ get_or xs n x
-    → slice_get (map f xs) n ≡ Some y → f x ≡ y
-entered_is f xs n x y inside is e =
-    same_Some (f x) y (ap (option_map f) (sym (slice_get_read xs (length xs) n x refl inside is)) ∙ sym (slice_get-map f xs n) ∙ e)
 
 -- ---- the requirement
 

@@ -1,26 +1,21 @@
--- The first form: the cases, blocks and requirements that a recheck takes. A certificate is checked for a Boolean program, and
--- of these alone one is made.
-use Rattle.std.specs.Prelude.{◌≡◌, ℕ, List, [], ◌∷◌, false, Option, None}
+-- The cases, blocks and requirements that a recheck takes: those of the first form, with an invariant, and without what its certificates
+-- don't know yet. A certificate is checked for a Boolean program.
+use Rattle.std.specs.Prelude.{◌≡◌, ℕ, List, false, Option, None}
 use Rattle.pv_edge.specs.Files.{FileMap}
-use Rattle.pv_lex.specs.declared.token.Language.TheVariants.{Scl}
-use Rattle.pv_tree.specs.Tree.{ExprTree, BlockTree}
+use Rattle.pv_tree.specs.Tree.{ExprTree}
 use Rattle.pv_bool.specs.Tree.{ProgramTree}
 use Rattle.pv_pattern.specs.Patterns.{invariant}
 use Rattle.pv_case.specs.declared.case.Reductions.{Reductions}
 use Rattle.pv_case.specs.declared.case.PatternKind.TheVariants.{Invariant}
-use Rattle.pv_case.specs.Cases.{SourceData, CaseData}
-use Rattle.pv_bool_form.specs.FirstForm.{IsFirstBlock, IsFirstExpr}
+use Rattle.pv_case.specs.Cases.{CaseData}
+use Rattle.pv_bool_form.specs.FirstForm.{IsFirstExpr}
 use Rattle.pv_bool_form.specs.Programs.{program_of as program_of_source}
+use Rattle.pv_bool_case.specs.Forms as form
+use Rattle.pv_bool_case.specs.Forms.{IsFirstAlone}
 use Rattle.pv_command_load.specs.Subjects.{Given, blocks_of, SubjectData, source_in}
 use Rattle.pv_command_load.specs.Reads.{Reads}
 
 -- ---- what is of the form
-
--- one source, of SCL
-pub record IsOneSource (sources : List SourceData) : Type 0 where
-  pub source : SourceData
-  pub only : sources ≡ source ∷ []
-  pub language : source.language ≡ Scl
 
 -- no reduction may be used
 pub record NamesNoReduction (r : Reductions) : Type 0 where
@@ -28,21 +23,12 @@ pub record NamesNoReduction (r : Reductions) : Type 0 where
   pub abstraction : r.abstraction ≡ false
   pub cone : r.cone ≡ false
 
--- a case of one source of SCL with an invariant, without parameters, bound inputs, symbols, a certificate and reductions
+-- a case of the form with an invariant, without a certificate and reductions
 pub record IsFirstCase (case : CaseData) : Type 0 where
-  pub source : IsOneSource case.sources
+  pub form : form.IsFirstCase case
   pub kind : case.kind ≡ Invariant
-  pub params : case.params ≡ []
-  pub bind : case.bind ≡ []
-  pub symbols : case.symbols ≡ []
   pub certificate : case.certificate ≡ None
   pub reductions : NamesNoReduction case.reductions
-
--- one block, of the first form
-pub record IsFirstAlone (blocks : List BlockTree) : Type 0 where
-  pub block : BlockTree
-  pub only : blocks ≡ block ∷ []
-  pub first : IsFirstBlock block
 
 -- the case is of the form, and so are the blocks of its source
 pub record AreFirst (given : Given) : Type 0 where

@@ -13,7 +13,8 @@ use Rattle.pv_command_load.specs.Sources.{AtOne, IsRefused}
 use Rattle.pv_command_load.specs.Subjects.{blocks_of, RefusesProject, RefusesTable, RefusesFit, SubjectData}
 use Rattle.pv_command_load.specs.Reads.{OfCase, OfSources, OfProject, OfTable, RefusesCase, Reads}
 use Rattle.pv_command_load.specs.Stops.{StopsCase, StopsSource, StopsProject, StopsTable, StopsFit}
-use Rattle.pv_command_recheck.specs.Forms.{IsFirstCase, IsFirstAlone, AreFirst, Requires}
+use Rattle.pv_bool_case.specs.Forms.{IsFirstAlone}
+use Rattle.pv_command_recheck.specs.Forms.{IsFirstCase, AreFirst, Requires}
 
 -- ---- the refusals
 

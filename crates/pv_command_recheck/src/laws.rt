@@ -1,13 +1,10 @@
 //! Laws of the definitions, each the contract of a function that does nothing.
-ghost use Rattle.std.specs.Prelude.{◌≡◌, ◌↔◌, ℕ, List, [], All, Option};
+ghost use Rattle.std.specs.Prelude.{◌≡◌, ℕ, List, [], Option};
 ghost use Rattle.pv_edge.specs.Files.{FileMap};
-ghost use Rattle.pv_machine.specs.Queries.{MeetsBase, MeetsStep};
-ghost use Rattle.pv_tree.specs.Tree.{ExprTree, OperandTree, BlockTree};
-ghost use Rattle.pv_bool.specs.Machine.{machine_of as program_machine};
-ghost use Rattle.pv_bool_form.specs.FirstForm.{IsFirstForm, IsFirstExpr, IsFirstOperand};
-ghost use Rattle.pv_bool_form.specs.Programs.{first_source, program_of as program_of_source};
+ghost use Rattle.pv_tree.specs.Tree.{ExprTree};
+ghost use Rattle.pv_bool_form.specs.Programs.{first_source};
 ghost use Rattle.pv_pattern.specs.Patterns.{invariant};
-ghost use Rattle.pv_pattern.specs.Sources.{machine_of, IsSatisfied};
+ghost use Rattle.pv_pattern.specs.Sources.{IsSatisfied};
 ghost use Rattle.pv_recheck.specs.Validity.{IsValid};
 ghost use Rattle.pv_command_load.specs.Subjects.{SubjectData, source_in};
 ghost use Rattle.pv_command_recheck.specs.Forms.{ReadsFirst, program_of};
@@ -17,18 +14,6 @@ use pv_case::{bytes_say_one_case, first_breach_is_one};
 use pv_laws_readings::laws::{sources_are_judged_in_one_way, texts_are_one_name};
 use pv_pattern_read::laws::{first_fault_is_one, texts_are_one_expression, texts_say_one_pattern};
 use pv_tree::least_fault_is_one;
-
-/// On the first form the machine of a block with an invariant meets the queries that its Boolean program's machine meets.
-pub fn queries_are_the_programs()
-    ensures base { (block : BlockTree) (patterns : List OperandTree) (bound : ℕ) (a : ExprTree) (k : ℕ)
-        → IsFirstForm block → All (IsFirstOperand block.vars) patterns → IsFirstExpr block.vars a
-        → MeetsBase (machine_of (first_source block patterns bound) (invariant a)) k
-        ↔ MeetsBase (program_machine (program_of_source (first_source block patterns bound) a)) k }
-    ensures step { (block : BlockTree) (patterns : List OperandTree) (bound : ℕ) (a : ExprTree) (k : ℕ)
-        → IsFirstForm block → All (IsFirstOperand block.vars) patterns → IsFirstExpr block.vars a
-        → MeetsStep (machine_of (first_source block patterns bound) (invariant a)) k
-        ↔ MeetsStep (program_machine (program_of_source (first_source block patterns bound) a)) k }
-{}
 
 /// What a recheck runs is the project of its one block, whose requirement names no address.
 pub fn sources_are_of_one_block()

@@ -1,21 +1,18 @@
 //! The requirement of a recheck: what the case's one text says of a scan.
 ghost use Rattle.std.specs.Prelude.{◌≡◌, ◌≤◌, ◌∷◌, length, map, All, [], Some, IfOk, IfErr, IfSome, slice_get, string_bytes};
 ghost use Rattle.pv_lex.specs.declared.lex.TheConstants.{MAX_SOURCE};
-ghost use Rattle.pv_tree.specs.Tree.{BlockTree};
-ghost use Rattle.pv_tree.specs.View.{block_tree, expr_tree};
-ghost use Rattle.pv_mean.specs.ProjectSizes.{project_tree};
+ghost use Rattle.pv_tree.specs.View.{expr_tree};
 ghost use Rattle.pv_pattern.specs.Patterns.{invariant};
-ghost use Rattle.pv_pattern_read.specs.Answers.{AnswersText};
 ghost use Rattle.pv_command_load.specs.Subjects.{Given, blocks_of, Entered, HasPattern};
 ghost use Rattle.pv_command_load.specs.Stops.{StopsFit};
 ghost use Rattle.pv_command_load.specs.Made.{IsCase, IsProjectOf};
 ghost use Rattle.pv_command_recheck.specs.Forms.{IsFirstCase};
 ghost use Rattle.pv_command_recheck.specs.Made.{of_text, requirement_in};
 
+use pv_bool_case::said_at;
 use pv_case::Case;
 use pv_command_load::FitStop;
-use pv_names::{Scope, Tables, entries};
-use pv_pattern_read::{TextFault, said};
+use pv_pattern_read::TextFault;
 use pv_tree::{Expr, Project};
 use std::alloc::Global;
 
@@ -39,30 +36,6 @@ fn requirement_in(said: Result<Expr, TextFault>) -> Result<Expr, FitStop>
     match said {
         Ok(e) => Ok(e),
         Err(fault) => Err(stop_of(fault)),
-    }
-}
-
-/// What the text says over the names of the block of this number.
-fn said_at(alloc: Global, project: &Project, entry: u32, text: &str) -> Result<Expr, TextFault>
-    requires short { length text.now ≤ MAX_SOURCE }
-    ensures { (block : BlockTree) → slice_get (map block_tree project.now.blocks.list.items) entry ≡ Some block
-        → AnswersText (record { project = project_tree project.now; block = block }) text.now result }
-{
-    let Ok(list) = entries(alloc, project.blocks().list.as_slice()) else {
-        return Err(TextFault::NoMemory);
-    };
-    let Ok(tables) = Tables::of(alloc, list.as_slice(), project.symbols()) else {
-        return Err(TextFault::NoMemory);
-    };
-    match tables.entries().get(entry as usize) {
-        Some(entered) => {
-            let scope = Scope {
-                tables: &tables,
-                entry: entered,
-            };
-            said(&scope, alloc, text)
-        }
-        None => Err(TextFault::NoMemory),
     }
 }
 

@@ -1,20 +1,22 @@
 //! What a recheck works on, by all its stages up to that.
-ghost use Rattle.std.specs.Prelude.{◌≡◌, ◌≢◌, ◌≤◌, ◌∷◌, ℕ, List, [], Option, length, All, IfOk, IfErr, IfSome, MatchResult, string_bytes};
+ghost use Rattle.std.specs.Prelude.{◌≡◌, ◌≢◌, ◌≤◌, ℕ, List, [], Option, length, All, IfOk, IfErr, MatchResult, string_bytes};
 ghost use Rattle.pv_edge.specs.Files.{FileMap};
 ghost use Rattle.pv_lex.specs.declared.lex.TheConstants.{MAX_SOURCE};
-ghost use Rattle.pv_case.specs.Cases.{SourceData, data_of};
+ghost use Rattle.pv_case.specs.Cases.{data_of};
 ghost use Rattle.pv_command_load.specs.Held.{Counts};
 ghost use Rattle.pv_command_load.specs.Subjects.{Given, blocks_of};
 ghost use Rattle.pv_command_load.specs.Reads.{HoldsCase, ReadsSources, ReadsProject};
 ghost use Rattle.pv_command_load.specs.Made.{IsCase, AreGiven, IsProjectOf};
-ghost use Rattle.pv_command_recheck.specs.Forms.{IsFirstCase, IsFirstAlone, AreFirst};
+ghost use Rattle.pv_bool_case.specs.Forms.{IsFirstAlone};
+ghost use Rattle.pv_command_recheck.specs.Forms.{IsFirstCase, AreFirst};
 ghost use Rattle.pv_command_recheck.specs.Rechecks.{recheck_stop_status, StopsRecheck};
 ghost use Rattle.pv_command_recheck.specs.Made.{IsProgramOf, IsSubjectOf};
 
-use crate::form::{is_first_case, is_first_project, only_block};
+use crate::form::is_rechecked_case;
 use crate::recheck::RecheckStop;
 use crate::requirement::requirement_of;
 use pv_bool::Program;
+use pv_bool_case::{is_first_project, only_block, source_file};
 use pv_bool_form::first_form;
 use pv_case::Case;
 use pv_command_load::{Sources, case_in, project_of, sources_in, table_of};
@@ -45,22 +47,11 @@ fn first_case_in<F: Files>(
     ensures writes { F.write_faults files.new ≡ F.write_faults files.old }
 {
     let case = case_in(alloc, files, case_file)?;
-    if is_first_case(&case) {
+    if is_rechecked_case(&case) {
         Ok(case)
     } else {
         let file = String::from_str(alloc, case_file)?;
         Err(RecheckStop::CaseForm { file })
-    }
-}
-
-/// The name of the file of the case's one source.
-fn source_file(case: &Case) -> Option<&String>
-    ensures { IfSome result (λ file. (source : SourceData) × ((data_of case.now).sources ≡ source ∷ [])
-        × (string_bytes file.now ≡ source.file)) }
-{
-    match case.sources.as_slice() {
-        [source] => Some(&source.file),
-        _ => None,
     }
 }
 

@@ -1,20 +1,30 @@
-//! Contract tests of the patterns of `pv_bool_form`.
+//! Contract tests of the patterns of `pv_bool_form` and of `pv_bool_case`.
 //!
-//! The public call stands here once more, with the library's clauses, by the call itself. An edit of `must-fail` gives a wrong answer in its
-//! place.
+//! Each of these public calls stands here once more, with the library's clauses, by the call itself. An edit of `must-fail` gives a wrong
+//! answer in its place.
 #![tactic(auto)]
 
 ghost use Rattle.pv_bool.specs.Programs.{program_tree};
+ghost use Rattle.pv_bool_case.specs.Forms.{IsFirstCase, IsFirstAlone};
+ghost use Rattle.pv_bool_case.specs.Programs.{IsMadeOf};
 ghost use Rattle.pv_bool_form.specs.FirstForm.{IsFirstBlock, IsFirstPattern, IsFirstOperand};
 ghost use Rattle.pv_bool_form.specs.Programs.{first_source, pattern_program};
 ghost use Rattle.pv_bool_form.specs.Requirements.{pattern_tree};
-ghost use Rattle.pv_tree.specs.Tree.{OperandTree};
+ghost use Rattle.pv_case.specs.Cases.{SourceData, data_of};
+ghost use Rattle.pv_lex.specs.declared.lex.TheConstants.{MAX_SOURCE};
+ghost use Rattle.pv_mean.specs.ProjectSizes.{project_tree};
+ghost use Rattle.pv_pattern.specs.Patterns.{Pattern};
+ghost use Rattle.pv_pattern_read.specs.Answers.{AnswersText};
+ghost use Rattle.pv_pattern_read.specs.Kinds.{IsReadPattern};
+ghost use Rattle.pv_tree.specs.Tree.{BlockTree, OperandTree};
 ghost use Rattle.pv_tree.specs.View.{block_tree};
-ghost use Rattle.std.specs.Prelude.{All, IfOk, IfSome, IsSome, List, ℕ, ◌↔◌, ◌≡◌};
+ghost use Rattle.std.specs.Prelude.{All, IfNone, IfOk, IfSome, IsSome, IsTrue, List, Some, [], length, map, slice_get, string_bytes, ℕ, ◌∷◌, ◌↔◌, ◌≡◌, ◌≤◌};
 
 use pv_bool::Program;
 use pv_bool_form::Requirement;
-use pv_tree::Block;
+use pv_case::{Case, PatternKind};
+use pv_pattern_read::TextFault;
+use pv_tree::{Block, Expr, Project};
 use std::alloc::{AllocError, Global};
 
 /// [`pv_bool_form::first_pattern`].
@@ -32,4 +42,63 @@ pub fn first_pattern(
         (first_source (block_tree block.now) patterns bound) (pattern_tree required.entry))) }
 {
     pv_bool_form::first_pattern(alloc, block, required)
+}
+
+/// [`pv_bool_case::is_first_case`].
+pub fn is_first_case(case: &Case) -> bool
+    ensures { IsTrue result ↔ IsFirstCase (data_of case.now) }
+{
+    pv_bool_case::is_first_case(case)
+}
+
+/// [`pv_bool_case::source_file`].
+pub fn source_file(case: &Case) -> Option<&String>
+    ensures some { IfSome result (λ file. (source : SourceData) × ((data_of case.now).sources ≡ source ∷ [])
+        × (string_bytes file.now ≡ source.file)) }
+    ensures none { IfNone result ((source : SourceData) → (data_of case.now).sources ≡ source ∷ [] → ⊥) }
+{
+    pv_bool_case::source_file(case)
+}
+
+/// [`pv_bool_case::only_block`].
+pub fn only_block(project: &Project) -> Option<&Block>
+    ensures some { IfSome result (λ block. map block_tree project.now.blocks.list.items ≡ block_tree block.now ∷ []) }
+    ensures none { IfNone result ((block : BlockTree) → map block_tree project.now.blocks.list.items ≡ block ∷ [] → ⊥) }
+{
+    pv_bool_case::only_block(project)
+}
+
+/// [`pv_bool_case::is_first_project`].
+pub fn is_first_project(alloc: Global, project: &Project) -> Result<bool, AllocError>
+    ensures { IfOk result (λ is. IsTrue is ↔ IsFirstAlone (map block_tree project.now.blocks.list.items)) }
+{
+    pv_bool_case::is_first_project(alloc, project)
+}
+
+/// [`pv_bool_case::said_at`].
+pub fn said_at(alloc: Global, project: &Project, entry: u32, text: &str) -> Result<Expr, TextFault>
+    requires short { length text.now ≤ MAX_SOURCE }
+    ensures { (block : BlockTree) → slice_get (map block_tree project.now.blocks.list.items) entry ≡ Some block
+        → AnswersText (record { project = project_tree project.now; block = block }) text.now result }
+{
+    pv_bool_case::said_at(alloc, project, entry, text)
+}
+
+/// [`pv_bool_case::program_by`].
+pub fn program_by(
+    alloc: Global,
+    project: &Project,
+    entry: u32,
+    block: &Block,
+    kind: PatternKind,
+    texts: &[String],
+) -> Result<Option<Program>, AllocError>
+    requires short { All (λ t. length (string_bytes t) ≤ MAX_SOURCE) texts.now }
+    ensures { (entered : BlockTree) (p : Pattern)
+        → slice_get (map block_tree project.now.blocks.list.items) entry ≡ Some entered
+        → IsReadPattern (record { project = project_tree project.now; block = entered }) kind
+        (map string_bytes texts.now) p
+        → IfOk result (IsMadeOf (block_tree block.now) p) }
+{
+    pv_bool_case::program_by(alloc, project, entry, block, kind, texts)
 }

@@ -6,9 +6,8 @@ use Rattle.pv_tree.specs.Projects.{symbol_tree}
 use Rattle.pv_names.specs.Entries.{block_of}
 use Rattle.pv_names.specs.Tables.{blocks_of, symbols_of, project_of}
 use Rattle.pv_mean.specs.ProjectSizes.{project_tree}
-use Rattle.pv_command_recheck.proofs.Requirements.{same_scope, in_scope}
-use Rattle.pv_command_recheck.proofs.Working.{same_project, entered_is}
-use Rattle.pv_command_recheck.proofs.requirement.said_at.Goals as goal
+use Rattle.pv_bool_case.proofs.Scopes.{same_project, entered_is, same_scope, in_scope}
+use Rattle.pv_bool_case.proofs.text.said_at.Goals as goal
 
 pub returns-in-Some : goal.returns-in-Some
 returns-in-Some c = λ block there.

@@ -1,0 +1,5 @@
+pub mod Scopes
+pub mod OneBlock
+pub mod Readings
+pub mod Items
+pub mod ForCallers
