@@ -1,4 +1,4 @@
-//! Contract tests of the patterns of `pv_bool_form` and of `pv_bool_case`.
+//! Contract tests of the patterns of `pv_bool_form`, of `pv_bool_case`, and of `pv_bool_load`.
 //!
 //! Each of these public calls stands here once more, with the library's clauses, by the call itself. An edit of `must-fail` gives a wrong
 //! answer in its place.
@@ -10,7 +10,12 @@ ghost use Rattle.pv_bool_case.specs.Programs.{IsMadeOf};
 ghost use Rattle.pv_bool_form.specs.FirstForm.{IsFirstBlock, IsFirstPattern, IsFirstOperand};
 ghost use Rattle.pv_bool_form.specs.Programs.{first_source, pattern_program};
 ghost use Rattle.pv_bool_form.specs.Requirements.{pattern_tree};
+ghost use Rattle.pv_bool_load.specs.Forms.{ReadsFirst};
+ghost use Rattle.pv_bool_load.specs.Made.{IsFirstSubject};
+ghost use Rattle.pv_bool_load.specs.Stops.{first_stop_status, StopsFirst};
 ghost use Rattle.pv_case.specs.Cases.{SourceData, data_of};
+ghost use Rattle.pv_command_load.specs.Held.{Counts};
+ghost use Rattle.pv_command_load.specs.Subjects.{SubjectData};
 ghost use Rattle.pv_lex.specs.declared.lex.TheConstants.{MAX_SOURCE};
 ghost use Rattle.pv_mean.specs.ProjectSizes.{project_tree};
 ghost use Rattle.pv_pattern.specs.Patterns.{Pattern};
@@ -18,11 +23,13 @@ ghost use Rattle.pv_pattern_read.specs.Answers.{AnswersText};
 ghost use Rattle.pv_pattern_read.specs.Kinds.{IsReadPattern};
 ghost use Rattle.pv_tree.specs.Tree.{BlockTree, OperandTree};
 ghost use Rattle.pv_tree.specs.View.{block_tree};
-ghost use Rattle.std.specs.Prelude.{All, IfNone, IfOk, IfSome, IsSome, IsTrue, List, Some, [], length, map, slice_get, string_bytes, ℕ, ◌∷◌, ◌↔◌, ◌≡◌, ◌≤◌};
+ghost use Rattle.std.specs.Prelude.{All, IfErr, IfNone, IfOk, IfSome, IsSome, IsTrue, List, MatchResult, Some, [], length, map, slice_get, string_bytes, ℕ, ◌∷◌, ◌↔◌, ◌≡◌, ◌≤◌};
 
 use pv_bool::Program;
 use pv_bool_form::Requirement;
+use pv_bool_load::{FirstStop, FirstSubject};
 use pv_case::{Case, PatternKind};
+use pv_edge::Files;
 use pv_pattern_read::TextFault;
 use pv_tree::{Block, Expr, Project};
 use std::alloc::{AllocError, Global};
@@ -101,4 +108,21 @@ pub fn program_by(
         → IfOk result (IsMadeOf (block_tree block.now) p) }
 {
     pv_bool_case::program_by(alloc, project, entry, block, kind, texts)
+}
+
+/// [`pv_bool_load::first_subject_in`].
+pub fn first_subject_in<F: Files>(
+    alloc: Global,
+    files: &mut F,
+    case_file: &str,
+) -> Result<FirstSubject, FirstStop>
+    ensures files { F.told files.new ≡ F.told files.old }
+    ensures found { IfOk result (λ made. (s : SubjectData) × ReadsFirst (F.told files.old) case_file.now s × IsFirstSubject made s) }
+    ensures stopped { IfErr result (StopsFirst (F.told files.old) case_file.now) }
+    ensures counted { MatchResult result
+        (λ made. F.read_faults files.new ≡ F.read_faults files.old)
+        (λ stop. Counts (first_stop_status stop) (F.read_faults files.old) (F.read_faults files.new)) }
+    ensures writes { F.write_faults files.new ≡ F.write_faults files.old }
+{
+    pv_bool_load::first_subject_in(alloc, files, case_file)
 }

@@ -1,0 +1,5 @@
+pub mod Subjects
+pub mod Working
+pub mod Stages
+pub mod Joining
+pub mod OneFirst
