@@ -1,5 +1,5 @@
 //! The lines of a log, and the lemma that comes next, as one log.
-ghost use Rattle.std.specs.Prelude.{◌≡◌, ◌<◌, length, IfSome};
+ghost use Rattle.std.specs.Prelude.{◌≡◌, ◌<◌, length, IfNone, IfSome, IsSome};
 ghost use Rattle.pv_valid.specs.Validity.{with_next};
 
 use pv_log::{Line, Log, LogView};
@@ -20,7 +20,8 @@ pub(crate) struct Joined<'a> {
 impl<'a> Joined<'a> {
     /// A log with the next lemma after it; none where that would be line 4,294,967,296.
     pub fn make(log: &'a Log, next: &'a Option<Line>) -> Option<Joined<'a>>
-        ensures { IfSome result (λ joined. with_next joined.log.now joined.next.now ≡ with_next log.now next.now) }
+        ensures some { IfSome result (λ joined. with_next joined.log.now joined.next.now ≡ with_next log.now next.now) }
+        ensures none { IfNone result ((length log.now ≡ 4294967295) × IsSome next.now) }
     {
         let own = log.lines();
         let all = match next {

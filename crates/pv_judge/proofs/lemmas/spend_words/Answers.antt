@@ -21,7 +21,7 @@ returns-then-is_in_log c =
     let log = c.args.log.now in
     let next = c.args.next.now in
     let w = c.in_ok-wrong.wrong in
-    let told : Told f (with_next log next) w = subst (λ (ls : List Line). Told f ls w) c.in-Some.ensures c.in_ok-wrong.ensures.wrong in
+    let told : Told f (with_next log next) w = subst (λ (ls : List Line). Told f ls w) c.in-Some.ensures.some c.in_ok-wrong.ensures.wrong in
     let within = ap (is_in_log w) (sym c.lines-own.ensures) ∙ (sym c.is_in_log.ensures ∙ c.if-is_in_log.true) in
     finds-as (need_fault c.args.limit c.args.need next f c.args.at log) (placed c.args.at w) c.placed.result
     (spend-within f log c.args.at c.args.limit c.args.need next w within (told c.args.at)) c.placed.ensures
@@ -33,10 +33,10 @@ returns-then-not-is_same c =
     let log = c.args.log.now in
     let next = c.args.next.now in
     let w = c.in_ok-wrong.wrong in
-    let told : Told f (with_next log next) w = subst (λ (ls : List Line). Told f ls w) c.in-Some.ensures c.in_ok-wrong.ensures.wrong in
+    let told : Told f (with_next log next) w = subst (λ (ls : List Line). Told f ls w) c.in-Some.ensures.some c.in_ok-wrong.ensures.wrong in
     let out = ap (is_in_log w) (sym c.lines-own.ensures) ∙ (sym c.is_in_log.ensures ∙ c.if-is_in_log.false) in
     let sum : c.first_sum_past.result ≡ first_sum_past c.args.limit f (with_next log next) (2 * f.variables) =
-    c.first_sum_past.ensures ∙ ap (λ (ls : List Line). first_sum_past c.args.limit f ls (2 * f.variables)) c.in-Some.ensures in
+    c.first_sum_past.ensures ∙ ap (λ (ls : List Line). first_sum_past c.args.limit f ls (2 * f.variables)) c.in-Some.ensures.some in
     let differs = ap (λ (o : Option ℕ). is_same o c.args.need) (sym sum) ∙ (sym c.is_same.ensures ∙ c.if-not-is_same.true) in
     finds-at (need_fault c.args.limit c.args.need next f c.args.at log) c.fault_at.result (c.args.at + 1 + c.lines-own.result) kind.WrongNeed
     c.fault_at.ensures
@@ -50,10 +50,10 @@ returns c =
     let log = c.args.log.now in
     let next = c.args.next.now in
     let w = c.in_ok-wrong.wrong in
-    let told : Told f (with_next log next) w = subst (λ (ls : List Line). Told f ls w) c.in-Some.ensures c.in_ok-wrong.ensures.wrong in
+    let told : Told f (with_next log next) w = subst (λ (ls : List Line). Told f ls w) c.in-Some.ensures.some c.in_ok-wrong.ensures.wrong in
     let out = ap (is_in_log w) (sym c.lines-own.ensures) ∙ (sym c.is_in_log.ensures ∙ c.if-is_in_log.false) in
     let sum : c.first_sum_past.result ≡ first_sum_past c.args.limit f (with_next log next) (2 * f.variables) =
-    c.first_sum_past.ensures ∙ ap (λ (ls : List Line). first_sum_past c.args.limit f ls (2 * f.variables)) c.in-Some.ensures in
+    c.first_sum_past.ensures ∙ ap (λ (ls : List Line). first_sum_past c.args.limit f ls (2 * f.variables)) c.in-Some.ensures.some in
     let same = ap (λ (o : Option ℕ). is_same o c.args.need) (sym sum) ∙ (sym c.is_same.ensures ∙ c.if-not-is_same.false) in
     finds-as (need_fault c.args.limit c.args.need next f c.args.at log) (placed (c.args.at + 1) w) c.placed-2.result
     (spend-next f log c.args.at c.args.limit c.args.need next w out told same) c.placed-2.ensures
