@@ -32,6 +32,7 @@ fn run(rt: &HostRuntime, words: &[String]) -> Status {
     let mut files = HostFiles {
         rt,
         read_faults: 0,
+        unread: None,
         write_faults: 0,
     };
     let mut out = HostOut { rt, faults: 0 };

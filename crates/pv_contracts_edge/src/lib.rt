@@ -1,12 +1,12 @@
 //! Contract tests of pv_edge: each call once more, with the clauses of the library.
 #![tactic(auto)]
 
-ghost use Rattle.std.specs.Prelude.{◌≡◌, ◌<◌, ◌≤◌, ◌↔◌, ◌++◌, ◌==◌, ◌&&◌, [], IfOk, IfSome, IsErr, IsErrOf, IsTrue, None, OnErr, OnOk, Some, if◌then◌else◌, length, min, nat_lt, take};
+ghost use Rattle.std.specs.Prelude.{◌≡◌, ◌<◌, ◌≤◌, ◌↔◌, ◌++◌, ◌==◌, ◌&&◌, [], IfErr, IfOk, IfSome, IsErr, IsErrOf, IsTrue, None, OnErr, OnOk, Some, if◌then◌else◌, length, min, nat_lt, take};
 ghost use Rattle.pv_edge.specs.Calls.{is_failing, next_count};
 ghost use Rattle.pv_edge.specs.Entries.{entries, file_at, next_read, put};
 ghost use Rattle.pv_edge.specs.Faults.{HasRisen, last_count};
 ghost use Rattle.pv_edge.specs.Files.{Changes, Puts, PutsPart};
-ghost use Rattle.pv_edge.specs.Sink.{Takes, TakesLess, faults_after};
+ghost use Rattle.pv_edge.specs.Sink.{Offered, StopsOffering, Takes, TakesLess, faults_after};
 
 use pv_edge::{FileFault, Files, HostFiles, HostOut, MemFiles, MemSink, Sink, SinkFault};
 use std::alloc::Global;
@@ -15,6 +15,8 @@ use std::alloc::Global;
 pub fn write_all<S: Sink>(out: &mut S, bytes: &[u8]) -> Result<(), SinkFault>
     ensures ok { OnOk result (Takes bytes.now (S.taken out.old) (S.taken out.new)) }
     ensures err { OnErr result (TakesLess bytes.now (S.taken out.old) (S.taken out.new)) }
+    ensures offered { OnOk result (Offered S.call bytes.now out.old [] out.new) }
+    ensures stops { IfErr result (λ fault. StopsOffering S.call bytes.now out.old fault out.new) }
     ensures idle { bytes.now ≡ [] → out.new ≡ out.old }
     ensures failed { IsErrOf result SinkFault.Failed → HasRisen (S.faults out.old) (S.faults out.new) }
     ensures never_falls { S.faults out.old ≤ S.faults out.new }
@@ -35,6 +37,8 @@ pub fn read<F: Files>(files: &mut F, alloc: Global, name: &str) -> Result<Vec<u8
     ensures never_falls { F.read_faults files.old ≤ F.read_faults files.new }
     ensures counted { F.read_faults files.new ≤ last_count }
     ensures only_faults { OnOk result (F.read_faults files.new ≡ F.read_faults files.old) }
+    ensures named { IsErrOf result FileFault.Failed → IfSome (F.unread files.new) (λ unread. unread ≡ name.now) }
+    ensures only_named { ¬ IsErrOf result FileFault.Failed → F.unread files.new ≡ F.unread files.old }
     ensures other_count { F.write_faults files.new ≡ F.write_faults files.old }
 {
     files.read(alloc, name)
@@ -56,6 +60,7 @@ pub fn write<F: Files>(
     ensures never_falls { F.write_faults files.old ≤ F.write_faults files.new }
     ensures counted { F.write_faults files.new ≤ last_count }
     ensures only_faults { OnOk result (F.write_faults files.new ≡ F.write_faults files.old) }
+    ensures other_name { F.unread files.new ≡ F.unread files.old }
     ensures other_count { F.read_faults files.new ≡ F.read_faults files.old }
 {
     files.write(alloc, name, bytes)
@@ -63,6 +68,7 @@ pub fn write<F: Files>(
 
 /// [`Sink::write`], through the bound.
 pub fn offer<S: Sink>(out: &mut S, bytes: &[u8]) -> Result<usize, SinkFault>
+    ensures called { S.call bytes.now result out.old out.new }
     ensures within { IfOk result (λ n. n ≤ length bytes.now) }
     ensures ok { IfOk result (λ n. Takes (take n bytes.now) (S.taken out.old) (S.taken out.new)) }
     ensures err { OnErr result (S.taken out.new ≡ S.taken out.old) }
@@ -84,8 +90,9 @@ pub fn read_host<R: std::rt::Files>(
     name: &str,
 ) -> Result<Vec<u8>, FileFault>
     ensures after_ok { OnOk result (host.new ≡ host.old) }
-    ensures after_failed { IsErrOf result FileFault.Failed
-        → host.new ≡ record host.old { read_faults = next_count host.old.read_faults } }
+    ensures after_failed { IsErrOf result FileFault.Failed → host.new
+        ≡ record host.old { read_faults = next_count host.old.read_faults; unread = host.new.unread } }
+    ensures told { IsErrOf result FileFault.Failed → IfSome host.new.unread (λ unread. unread ≡ name.now) }
     ensures after_no_memory { IsErrOf result FileFault.NoMemory → host.new ≡ host.old }
     ensures never_falls { host.old.read_faults ≤ host.new.read_faults }
     ensures counted { host.new.read_faults ≤ last_count }
@@ -129,8 +136,12 @@ pub fn read_memory(memory: &mut MemFiles, alloc: Global, name: &str) -> Result<V
     ensures failed { IsErrOf result FileFault.Failed ↔ (next_read memory.old.fail_at.items memory.old.calls
         (file_at (entries memory.old.files.items)) name.now ≡ None) }
     ensures after_ok { OnOk result (memory.new ≡ record memory.old { calls = next_count memory.old.calls }) }
-    ensures after_failed { IsErrOf result FileFault.Failed → memory.new
-        ≡ record memory.old { calls = next_count memory.old.calls; read_faults = next_count memory.old.read_faults } }
+    ensures after_failed { IsErrOf result FileFault.Failed → memory.new ≡ record memory.old {
+      calls = next_count memory.old.calls;
+      read_faults = next_count memory.old.read_faults;
+      unread = memory.new.unread;
+    } }
+    ensures told { IsErrOf result FileFault.Failed → IfSome memory.new.unread (λ unread. unread ≡ name.now) }
     ensures after_no_memory { IsErrOf result FileFault.NoMemory → memory.new ≡ memory.old }
     ensures never_falls { memory.old.read_faults ≤ memory.new.read_faults }
     ensures counted { memory.new.read_faults ≤ last_count }

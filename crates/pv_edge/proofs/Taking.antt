@@ -1,11 +1,14 @@
 -- Laws of what a sink takes.
 -- `&rest[n..]` is seen as `take (length rest - n) (drop n rest)`, the second half of `rest.split_at(n)` as `drop n rest`. Loops
 -- that offer what is left use the latter, with the invariant `(front) × (bytes ≡ front ++ rest) × Takes front old now`.
-use Rattle.std.proofs.Common.{◌≡◌, ℕ, ◌<◌, List, [], ◌++◌, length, take, Option, Some, None, refl, sym, ◌∙◌, ap, arith, append_assoc, append-nil, length-append, drop, subst}
+use Rattle.std.proofs.Common.{◌≡◌, ℕ, ◌<◌, List, [], ◌∷◌, ◌++◌, length, take, Option, Some, None, refl, sym, ◌∙◌, ap, arith, append_assoc, append-nil, length-append, drop, subst, inl, inr}
 use Rattle.std.proofs.lemmas.List.{take-append-drop}
 use Rattle.std.proofs.Math.Seq.{take-append_seam}
 use Rattle.std.specs.Prelude.{option_map}
-use Rattle.pv_edge.specs.Sink.{Takes, TakesPart, TakesLess}
+use Rattle.std.specs.Prelude.{Result, Ok, Err}
+use Rattle.pv_edge.specs.declared.outside.SinkFault.{SinkFault}
+use Rattle.pv_edge.specs.declared.outside.SinkFault.TheVariants.{Failed}
+use Rattle.pv_edge.specs.Sink.{Offered, StopsOffering, Takes, TakesPart, TakesLess}
 
 -- nothing is taken where nothing changes
 pub takes-none : (old : Option (List ℕ)) → Takes [] old old
@@ -43,3 +46,20 @@ takes-zero n rest (Some taken) new e h = h ∙ ap (λ k. Some (taken ++ take k r
 -- what lacks the last byte is a prefix
 pub less-part : (bytes : List ℕ) (old new : Option (List ℕ)) → TakesLess bytes old new → TakesPart bytes old new
 less-part bytes old new h = (h.0, omega (arith, h.1), h.2)
+
+-- one call more, which is offered what the others left
+pub offered-more : {S : Type 0} (call : List ℕ → Result ℕ SinkFault → S → S → Type 0) (bytes : List ℕ) (old : S) (rest left : List ℕ) (n : ℕ) (mid new : S) → Offered call bytes old rest mid → call rest (Ok n) mid new → left ≡ drop n rest → Offered call bytes old left new
+offered-more call bytes old rest left n mid new h k is = rw is (Offered.more h k)
+
+-- calls that leave nothing
+pub offered-all : {S : Type 0} (call : List ℕ → Result ℕ SinkFault → S → S → Type 0) (bytes : List ℕ) (old : S) (rest : List ℕ) (new : S) → Offered call bytes old rest new → length rest ≡ 0 → Offered call bytes old [] new
+offered-all call bytes old [] new h none = h
+offered-all call bytes old (x ∷ rest) new h none = absurd (omega (arith, none))
+
+-- the call that fails
+pub stops-failed : {S : Type 0} (call : List ℕ → Result ℕ SinkFault → S → S → Type 0) (bytes : List ℕ) (old : S) (rest : List ℕ) (fault : SinkFault) (mid new : S) → 0 < length rest → Offered call bytes old rest mid → call rest (Err fault) mid new → StopsOffering call bytes old fault new
+stops-failed call bytes old rest fault mid new some h k = record { left = rest; mid = mid; before = h; more = λ none. absurd (omega (arith, some, ap length none)); last = inl k }
+
+-- the call that takes nothing
+pub stops-stalled : {S : Type 0} (call : List ℕ → Result ℕ SinkFault → S → S → Type 0) (bytes : List ℕ) (old : S) (rest : List ℕ) (n : ℕ) (mid new : S) → 0 < length rest → Offered call bytes old rest mid → call rest (Ok n) mid new → n ≡ 0 → StopsOffering call bytes old Failed new
+stops-stalled call bytes old rest n mid new some h k none = record { left = rest; mid = mid; before = h; more = λ e. absurd (omega (arith, some, ap length e)); last = inr (refl, subst (λ n. call rest (Ok n) mid new) none k) }

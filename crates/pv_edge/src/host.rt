@@ -8,7 +8,9 @@ ghost use Rattle.pv_edge.specs.Faults.{last_count};
 ghost use Rattle.pv_edge.specs.Sink.{AppendsPart, faults_after};
 
 use crate::counts::next;
+use crate::made::told_name;
 use crate::outside::{FileFault, Files, Sink, SinkFault};
+use crate::words::Text;
 use std::alloc::Global;
 use std::fs;
 use std::io::{self, ErrorKind, Read, Write};
@@ -28,6 +30,8 @@ pub struct HostFiles<R> {
     pub rt: R,
     /// How many reads failed. It stays at its last value.
     pub read_faults: u64,
+    /// The name of the last read that failed, none where memory ended for it.
+    pub unread: Option<Text>,
     /// How many writes failed. It stays at its last value.
     pub write_faults: u64,
 }
@@ -142,12 +146,15 @@ impl<R: std::rt::Files> Files for HostFiles<R> {
 
     ghost read_faults = { λ host. host.read_faults };
 
+    ghost unread = { λ host. host.unread };
+
     ghost write_faults = { λ host. host.write_faults };
 
     fn read(&mut self, alloc: Global, name: &str) -> Result<Vec<u8>, FileFault>
         ensures after_ok { OnOk result (self.new ≡ self.old) }
-        ensures after_failed { IsErrOf result FileFault.Failed
-            → self.new ≡ record self.old { read_faults = next_count self.old.read_faults } }
+        ensures after_failed { IsErrOf result FileFault.Failed → self.new
+            ≡ record self.old { read_faults = next_count self.old.read_faults; unread = self.new.unread } }
+        ensures told { IsErrOf result FileFault.Failed → IfSome self.new.unread (λ unread. unread ≡ name.now) }
         ensures after_no_memory { IsErrOf result FileFault.NoMemory → self.new ≡ self.old }
         ensures never_falls { self.old.read_faults ≤ self.new.read_faults }
         ensures counted { self.new.read_faults ≤ last_count }
@@ -156,6 +163,7 @@ impl<R: std::rt::Files> Files for HostFiles<R> {
         let read = read_opened(alloc, fs::open(&self.rt, name));
         if let Err(FileFault::Failed) = read {
             self.read_faults = next(faults);
+            self.unread = told_name(alloc, name);
         }
         read
     }
@@ -182,6 +190,8 @@ impl<R: Print> Sink for HostOut<R> {
     ghost taken = { λ _. None };
 
     ghost faults = { λ host. host.faults };
+
+    ghost call = { λ bytes answer old new. new ≡ record old { faults = faults_after (length bytes) answer old.faults } };
 
     fn write(&mut self, bytes: &[u8]) -> Result<usize, SinkFault>
         ensures within { IfOk result (λ n. n ≤ length bytes.now) }

@@ -1,5 +1,5 @@
 //! How a text is made.
-ghost use Rattle.std.specs.Prelude.{◌≡◌, IfOk};
+ghost use Rattle.std.specs.Prelude.{◌≡◌, IfOk, IfSome};
 
 use crate::words::Text;
 use std::alloc::{AllocError, Global};
@@ -10,4 +10,11 @@ pub fn text(alloc: Global, bytes: &[u8]) -> Result<Text, AllocError>
 {
     let bytes = Vec::from_slice(alloc, bytes)?;
     Ok(Text::from(bytes))
+}
+
+/// A copy of a name, none where memory ends.
+pub(crate) fn told_name(alloc: Global, name: &str) -> Option<Text>
+    ensures { IfSome result (λ told. told ≡ name.now) }
+{
+    text(alloc, name.as_bytes()).ok()
 }

@@ -3,10 +3,11 @@ ghost use Rattle.std.specs.Prelude.{◌≡◌, ◌<◌, ◌≤◌, ◌↔◌, If
 ghost use Rattle.pv_edge.specs.Faults.{last_count};
 ghost use Rattle.pv_edge.specs.Calls.{next_count, is_failing};
 ghost use Rattle.pv_edge.specs.Files.{Puts};
+ghost use Rattle.pv_edge.specs.Sink.{IsPiece};
 ghost use Rattle.pv_edge.specs.Entries.{entries, file_at, put, index_of, next_read};
 
 use crate::counts::next;
-use crate::made::text;
+use crate::made::{text, told_name};
 use crate::outside::{FileFault, Files, Sink, SinkFault};
 use crate::words::Text;
 use std::alloc::{AllocError, Global};
@@ -22,6 +23,8 @@ pub struct MemFiles {
     pub fail_at: Vec<u64>,
     /// How many reads failed. It stays at its last value.
     pub read_faults: u64,
+    /// The name of the last read that failed, none where memory ended for it.
+    pub unread: Option<Text>,
     /// How many writes failed. It stays at its last value.
     pub write_faults: u64,
 }
@@ -124,6 +127,8 @@ impl Files for MemFiles {
 
     ghost read_faults = { λ memory. memory.read_faults };
 
+    ghost unread = { λ memory. memory.unread };
+
     ghost write_faults = { λ memory. memory.write_faults };
 
     fn read(&mut self, alloc: Global, name: &str) -> Result<Vec<u8>, FileFault>
@@ -132,8 +137,12 @@ impl Files for MemFiles {
         ensures failed { IsErrOf result FileFault.Failed ↔ (next_read self.old.fail_at.items self.old.calls
             (file_at (entries self.old.files.items)) name.now ≡ None) }
         ensures after_ok { OnOk result (self.new ≡ record self.old { calls = next_count self.old.calls }) }
-        ensures after_failed { IsErrOf result FileFault.Failed → self.new
-            ≡ record self.old { calls = next_count self.old.calls; read_faults = next_count self.old.read_faults } }
+        ensures after_failed { IsErrOf result FileFault.Failed → self.new ≡ record self.old {
+          calls = next_count self.old.calls;
+          read_faults = next_count self.old.read_faults;
+          unread = self.new.unread;
+        } }
+        ensures told { IsErrOf result FileFault.Failed → IfSome self.new.unread (λ unread. unread ≡ name.now) }
         ensures after_no_memory { IsErrOf result FileFault.NoMemory → self.new ≡ self.old }
         ensures never_falls { self.old.read_faults ≤ self.new.read_faults }
         ensures counted { self.new.read_faults ≤ last_count }
@@ -155,6 +164,7 @@ impl Files for MemFiles {
             Err(FileFault::Failed) => {
                 self.calls = next(self.calls);
                 self.read_faults = next(faults);
+                self.unread = told_name(alloc, name);
                 Err(FileFault::Failed)
             }
             Err(FileFault::NoMemory) => Err(FileFault::NoMemory),
@@ -199,6 +209,8 @@ impl Sink for MemSink {
     ghost taken = { λ memory. Some memory.taken.items };
 
     ghost faults = { λ memory. memory.faults };
+
+    ghost call = { λ bytes answer old new. IfOk answer (λ n. IsPiece n bytes old.piece old.calls new.piece new.calls) };
 
     fn write(&mut self, bytes: &[u8]) -> Result<usize, SinkFault>
         ensures ok { IfOk result (λ n. n ≡ min (length bytes.now) self.old.piece) }

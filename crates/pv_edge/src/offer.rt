@@ -1,7 +1,7 @@
 //! How a whole text is handed to a sink.
-ghost use Rattle.std.specs.Prelude.{◌≡◌, ◌≤◌, [], IsErrOf, OnOk, OnErr};
+ghost use Rattle.std.specs.Prelude.{◌≡◌, ◌≤◌, [], IfErr, IsErrOf, OnOk, OnErr};
 ghost use Rattle.pv_edge.specs.Faults.{HasRisen};
-ghost use Rattle.pv_edge.specs.Sink.{Takes, TakesLess};
+ghost use Rattle.pv_edge.specs.Sink.{Offered, StopsOffering, Takes, TakesLess};
 
 use crate::outside::{Sink, SinkFault};
 
@@ -12,6 +12,8 @@ use crate::outside::{Sink, SinkFault};
 pub fn write_all<S: Sink>(out: &mut S, bytes: &[u8]) -> Result<(), SinkFault>
     ensures ok { OnOk result (Takes bytes.now (S.taken out.old) (S.taken out.new)) }
     ensures err { OnErr result (TakesLess bytes.now (S.taken out.old) (S.taken out.new)) }
+    ensures offered { OnOk result (Offered S.call bytes.now out.old [] out.new) }
+    ensures stops { IfErr result (λ fault. StopsOffering S.call bytes.now out.old fault out.new) }
     ensures idle { bytes.now ≡ [] → out.new ≡ out.old }
     ensures failed { IsErrOf result SinkFault.Failed → HasRisen (S.faults out.old) (S.faults out.new) }
     ensures never_falls { S.faults out.old ≤ S.faults out.new }

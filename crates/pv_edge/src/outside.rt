@@ -1,5 +1,5 @@
 //! What the program asks of its surroundings: files by name, and a sink for its report.
-ghost use Rattle.std.specs.Prelude.{◌≡◌, ◌≤◌, ◌<◌, ℕ, List, Option, IfOk, IfSome, IsErr, IsErrOf, OnOk, OnErr, Some, None, length, take};
+ghost use Rattle.std.specs.Prelude.{◌≡◌, ◌≤◌, ◌<◌, ℕ, List, Option, Result, IfOk, IfSome, IsErr, IsErrOf, OnOk, OnErr, Some, None, length, take};
 ghost use Rattle.pv_edge.specs.Faults.{HasRisen, last_count};
 ghost use Rattle.pv_edge.specs.Files.{FileMap, Puts, PutsPart, Changes};
 ghost use Rattle.pv_edge.specs.Sink.{Takes};
@@ -59,6 +59,9 @@ pub trait Files {
     /// How many reads failed so far.
     ghost read_faults: { Self → ℕ };
 
+    /// The name of the last read that failed, where it is told.
+    ghost unread: { Self → Option (List ℕ) };
+
     /// How many writes failed so far.
     ghost write_faults: { Self → ℕ };
 
@@ -73,6 +76,8 @@ pub trait Files {
         ensures never_falls { read_faults self.old ≤ read_faults self.new }
         ensures counted { read_faults self.new ≤ last_count }
         ensures only_faults { OnOk result (read_faults self.new ≡ read_faults self.old) }
+        ensures named { IsErrOf result FileFault.Failed → IfSome (unread self.new) (λ unread. unread ≡ name.now) }
+        ensures only_named { ¬ IsErrOf result FileFault.Failed → unread self.new ≡ unread self.old }
         ensures other_count { write_faults self.new ≡ write_faults self.old };
 
     /// Makes a file hold these bytes, whether or not it was there.
@@ -85,6 +90,7 @@ pub trait Files {
         ensures never_falls { write_faults self.old ≤ write_faults self.new }
         ensures counted { write_faults self.new ≤ last_count }
         ensures only_faults { OnOk result (write_faults self.new ≡ write_faults self.old) }
+        ensures other_name { unread self.new ≡ unread self.old }
         ensures other_count { read_faults self.new ≡ read_faults self.old };
 }
 
@@ -92,15 +98,21 @@ pub trait Files {
 ///
 /// The count of faults is a `u64` that stays at its last value.
 pub trait Sink {
+    ghost use Rattle.pv_edge.specs.declared.outside.SinkFault.{SinkFault};
+
     /// The bytes taken so far, where they are told.
     ghost taken: { Self → Option (List ℕ) };
 
     /// How many calls failed or took nothing of what there was.
     ghost faults: { Self → ℕ };
 
+    /// What one call does: the bytes that it is offered, its answer, and the sink before and behind it.
+    ghost call: { List ℕ → Result ℕ SinkFault → Self → Self → Type 0 };
+
     /// Takes a prefix of the bytes, and answers its length. To take nothing of what there is counts
     /// as a fault; where there is nothing, the answer is 0 and no fault.
     fn write(&mut self, bytes: &[u8]) -> Result<usize, SinkFault>
+        ensures called { call bytes.now result self.old self.new }
         ensures within { IfOk result (λ n. n ≤ length bytes.now) }
         ensures ok { IfOk result (λ n. Takes (take n bytes.now) (taken self.old) (taken self.new)) }
         ensures err { OnErr result (taken self.new ≡ taken self.old) }

@@ -90,6 +90,7 @@ pub fn files_of(alloc: Global, head: &str, row: &str) -> Result<MemFiles, AllocE
         calls: 0,
         fail_at: numbers(alloc, head, "fail read", row)?,
         read_faults: 0,
+        unread: None,
         write_faults: 0,
     })
 }

@@ -60,6 +60,7 @@ fn files(alloc: Global, failing: &str) -> Result<MemFiles, AllocError> {
         calls: 0,
         fail_at: calls(alloc, failing)?,
         read_faults: 0,
+        unread: None,
         write_faults: 0,
     })
 }

@@ -57,6 +57,7 @@ pub fn files_of(row: Row<'_>, told: &mut Told) -> MemFiles {
         calls: 0,
         fail_at: Vec::new(alloc),
         read_faults: 0,
+        unread: None,
         write_faults: 0,
     }
 }

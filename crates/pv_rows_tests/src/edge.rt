@@ -30,6 +30,7 @@ fn the_host_keeps_files(rt: HostRuntime) -> Result<(), Fail> {
     let mut files = HostFiles {
         rt: &rt,
         read_faults: 0,
+        unread: None,
         write_faults: 0,
     };
     let name = "pv_rows_tests-file";
@@ -76,6 +77,7 @@ fn files_of_one_byte_a_call(rt: HostRuntime) -> Result<(), Fail> {
     let mut files = HostFiles {
         rt: slow(alloc, &rt, 7),
         read_faults: 0,
+        unread: None,
         write_faults: 0,
     };
     files.write(alloc, name, b"sixsix")?;

@@ -48,13 +48,13 @@ by_bits : (source : Source) (p : Pattern) (prev : Option Bool) (s : Scan) (b : B
 by_bits source p prev s true h = ap (λ m. ends_as source p m s) (mark_back prev)
 by_bits source p prev s false h = ends_alike source p None prev s h
 
-step_is : (source : Source) (p : Pattern) (image : Image) (prev : Option Bool) (i : Input) → Fits source image
+pub step_is : (source : Source) (p : Pattern) (image : Image) (prev : Option Bool) (i : Input) → Fits source image
     → (machine_of source p).step (state_of p image prev) i
     ≡ step_of source p (scan source image i).beginning (scan source image i).end
 step_is source p image prev i len =
     ap (λ x. step_of source p (scan source x i).beginning (scan source x i).end) (image_back source p image prev len)
 
-fails_is : (source : Source) (p : Pattern) (image : Image) (prev : Option Bool) (i : Input) → Fits source image
+pub fails_is : (source : Source) (p : Pattern) (image : Image) (prev : Option Bool) (i : Input) → Fits source image
     → (machine_of source p).fails (state_of p image prev) i ≡ is_some (ends_as source p prev (scan source image i))
 fails_is source p image prev i len =
     ap (λ x. is_some (ends_as source p (prev_in source (state_of p image prev)) (scan source x i))) (image_back source p image prev len)

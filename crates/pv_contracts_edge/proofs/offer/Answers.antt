@@ -26,3 +26,6 @@ returns-clause-counted g c = c.write.ensures.counted
 
 pub returns-clause-only_faults : goal.returns-clause-only_faults
 returns-clause-only_faults g c = c.write.ensures.only_faults
+
+pub returns-clause-called : goal.returns-clause-called
+returns-clause-called g c = c.write.ensures.called

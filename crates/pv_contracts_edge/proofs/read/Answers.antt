@@ -24,5 +24,11 @@ returns-clause-counted g c = c.read.ensures.counted
 pub returns-clause-only_faults : goal.returns-clause-only_faults
 returns-clause-only_faults g c = c.read.ensures.only_faults
 
+pub returns-clause-named : goal.returns-clause-named
+returns-clause-named g c = c.read.ensures.named
+
+pub returns-clause-only_named : goal.returns-clause-only_named
+returns-clause-only_named g c = c.read.ensures.only_named
+
 pub returns-clause-other_count : goal.returns-clause-other_count
 returns-clause-other_count g c = c.read.ensures.other_count

@@ -14,3 +14,6 @@ returns-clause-never_falls g c = c.read.ensures.never_falls
 
 pub returns-clause-counted : goal.returns-clause-counted
 returns-clause-counted g c = c.read.ensures.counted
+
+pub returns-clause-told : goal.returns-clause-told
+returns-clause-told g c = c.read.ensures.told

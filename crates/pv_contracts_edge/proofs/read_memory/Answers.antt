@@ -23,3 +23,6 @@ returns-clause-counted c = c.read.ensures.counted
 
 pub returns-clause-only_missing : goal.returns-clause-only_missing
 returns-clause-only_missing c = c.read.ensures.only_missing
+
+pub returns-clause-told : goal.returns-clause-told
+returns-clause-told c = c.read.ensures.told

@@ -24,5 +24,8 @@ returns-clause-counted g c = c.write.ensures.counted
 pub returns-clause-only_faults : goal.returns-clause-only_faults
 returns-clause-only_faults g c = c.write.ensures.only_faults
 
+pub returns-clause-other_name : goal.returns-clause-other_name
+returns-clause-other_name g c = c.write.ensures.other_name
+
 pub returns-clause-other_count : goal.returns-clause-other_count
 returns-clause-other_count g c = c.write.ensures.other_count

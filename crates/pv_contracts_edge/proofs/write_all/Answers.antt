@@ -20,3 +20,9 @@ returns-clause-no_memory g c = c.write_all.ensures.no_memory
 
 pub returns-clause-only_faults : goal.returns-clause-only_faults
 returns-clause-only_faults g c = c.write_all.ensures.only_faults
+
+pub returns-clause-offered : goal.returns-clause-offered
+returns-clause-offered g c = c.write_all.ensures.offered
+
+pub returns-clause-stops : goal.returns-clause-stops
+returns-clause-stops g c = c.write_all.ensures.stops
