@@ -35,7 +35,7 @@ begun-image bits s o values frame before is begins long fits e =
 
 -- a start with its values in range
 pub start-is : (program : ProgramTree) (facts : Facts) (gates : ℕ) (s : StretchStart)
-    → facts.image.items ≡ replicate (state_len program.bits) bit_bounds → IsStart (case_of program facts gates) s
+    → facts.image ≡ replicate (state_len program.bits) bit_bounds → IsStart (case_of program facts gates) s
     → IsFitting program.bits s × (state_from (case_of program facts gates) s ≡ numbers_of (begun_bits program.bits s))
 start-is program facts gates (from.Params params) image at = (tt, refl)
 start-is program facts gates (from.Image values prev) image at =

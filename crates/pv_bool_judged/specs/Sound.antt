@@ -40,8 +40,8 @@ module _ (program : ProgramTree) (own : IsProgram program) where
   )
 
 pub case_is_sound : (program : ProgramTree) (facts : Facts) (gates : ℕ) → IsProgram program → facts.depth ≤ LAST_QUERY
-    → facts.params.items ≡ [] → facts.input.items ≡ replicate (input_len program.bits) bit_bounds
-    → facts.image.items ≡ replicate (state_len program.bits) bit_bounds → IsSound (case_of program facts gates)
+    → facts.params ≡ [] → facts.input ≡ replicate (input_len program.bits) bit_bounds
+    → facts.image ≡ replicate (state_len program.bits) bit_bounds → IsSound (case_of program facts gates)
 case_is_sound program facts gates own depth params input image = record {
   lawful = lawful program;
   params = ap (λ (bs : List Bounds). map range_between bs) params;

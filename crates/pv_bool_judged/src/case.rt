@@ -16,7 +16,7 @@ use pv_cnf::Formula;
 use pv_gate::GateFault;
 use pv_kind::LAST_QUERY;
 use pv_stretch::{Stretch, StretchStart};
-use pv_valid::{Facts, Judged};
+use pv_valid::{CellRanges, Facts, Judged};
 use std::alloc::{AllocError, Global};
 
 /// A program as a case. It has no parameters; an image has the values of the kept bits, and an input those of the input bits.
@@ -32,9 +32,9 @@ pub struct ProgramCase<'a> {
     ghost few_bits: { length program.now.bits.items ≤ MAX_CASE_BITS },
     ghost few_gates: { gates ≤ MAX_CASE_GATES },
     ghost few_queries: { facts.depth ≤ LAST_QUERY },
-    ghost no_params: { facts.params.items ≡ [] },
-    ghost input_bits: { facts.input.items ≡ replicate (input_len program.now.bits.items) bit_bounds },
-    ghost kept_bits: { facts.image.items ≡ replicate (state_len program.now.bits.items) bit_bounds },
+    ghost no_params: { facts.params ≡ [] },
+    ghost input_bits: { facts.input ≡ replicate (input_len program.now.bits.items) bit_bounds },
+    ghost kept_bits: { facts.image ≡ replicate (state_len program.now.bits.items) bit_bounds },
     ghost room: { length frame.items ≡ length program.now.bits.items },
 }
 
@@ -65,32 +65,32 @@ fn taken_count(bits: &[Bit]) -> usize
 }
 
 /// So many times the range of a bit.
-fn ranges(alloc: Global, count: usize) -> Result<Vec<(i128, i128)>, AllocError>
-    ensures { IfOk result (λ ranges. ranges.items ≡ replicate count bit_bounds) }
+fn ranges(alloc: Global, count: usize) -> Result<CellRanges, AllocError>
+    ensures { IfOk result (λ ranges. ranges ≡ replicate count bit_bounds) }
 {
     let ranges = vec![in alloc; (0, 1); count]?;
-    Ok(ranges)
+    Ok(CellRanges::from_vec(ranges))
 }
 
 /// The ranges of a state's values.
-fn kept_ranges(alloc: Global, bits: &[Bit]) -> Result<Vec<(i128, i128)>, AllocError>
-    ensures { IfOk result (λ ranges. ranges.items ≡ replicate (state_len bits.now) bit_bounds) }
+fn kept_ranges(alloc: Global, bits: &[Bit]) -> Result<CellRanges, AllocError>
+    ensures { IfOk result (λ ranges. ranges ≡ replicate (state_len bits.now) bit_bounds) }
 {
     ranges(alloc, kept_count(bits))
 }
 
 /// The ranges of an input's values.
-fn taken_ranges(alloc: Global, bits: &[Bit]) -> Result<Vec<(i128, i128)>, AllocError>
-    ensures { IfOk result (λ ranges. ranges.items ≡ replicate (input_len bits.now) bit_bounds) }
+fn taken_ranges(alloc: Global, bits: &[Bit]) -> Result<CellRanges, AllocError>
+    ensures { IfOk result (λ ranges. ranges ≡ replicate (input_len bits.now) bit_bounds) }
 {
     ranges(alloc, taken_count(bits))
 }
 
 /// What is known of a case of a program with these bits.
 fn facts_of(alloc: Global, bits: &[Bit], setting: Setting) -> Result<Facts, AllocError>
-    ensures params { IfOk result (λ facts. facts.params.items ≡ []) }
-    ensures input { IfOk result (λ facts. facts.input.items ≡ replicate (input_len bits.now) bit_bounds) }
-    ensures image { IfOk result (λ facts. facts.image.items ≡ replicate (state_len bits.now) bit_bounds) }
+    ensures params { IfOk result (λ facts. facts.params ≡ []) }
+    ensures input { IfOk result (λ facts. facts.input ≡ replicate (input_len bits.now) bit_bounds) }
+    ensures image { IfOk result (λ facts. facts.image ≡ replicate (state_len bits.now) bit_bounds) }
     ensures depth { IfOk result (λ facts. facts.depth ≡ setting.depth) }
     ensures setting { IfOk result (λ facts. setting_of facts setting.gates ≡ setting) }
 {
@@ -102,7 +102,7 @@ fn facts_of(alloc: Global, bits: &[Bit], setting: Setting) -> Result<Facts, Allo
         depth: setting.depth,
         lemmas: setting.lemmas,
         words: setting.words,
-        params: Vec::new(alloc),
+        params: CellRanges::from_vec(Vec::new(alloc)),
         input,
         image,
     })

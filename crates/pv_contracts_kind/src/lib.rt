@@ -1,4 +1,4 @@
-//! Contract tests of pv_kind and pv_evidence: their calls once more, with the clauses of the libraries.
+//! Contract tests of pv_kind, pv_lift and pv_evidence: their calls once more, with the clauses of the libraries.
 #![tactic(auto)]
 
 ghost use Rattle.std.specs.Prelude.{◌≡◌, ℕ, ◌≤◌, true, IfOk};
@@ -8,8 +8,10 @@ ghost use Rattle.pv_kind.specs.Refinements.{IsRefinedInFew};
 ghost use Rattle.pv_kind.specs.Decisions.{Decides, IsUnspent, IsProvedBy, IsFailedBy};
 
 mod evidence;
+mod lift;
 
 pub use evidence::decide_case;
+pub use lift::{formula, make, stretch};
 use pv_kind::{Decision, Limits, Oracle, OracleFault};
 use std::alloc::Global;
 

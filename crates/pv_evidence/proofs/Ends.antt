@@ -1,15 +1,14 @@
 -- What a decision comes to is evidence.
-use Rattle.std.proofs.Common.{◌≡◌, ℕ, ◌+◌, ◌≤◌, Bool, true, false, List, [], refl, ap, sym, subst, ◌∙◌, Option, Some, None}
-use Rattle.std.specs.List.{AllByRecursion}
+use Rattle.std.proofs.Common.{◌≡◌, ℕ, ◌+◌, ◌≤◌, Bool, true, false, List, refl, ap, sym, subst, ◌∙◌, Option, Some, None}
 use Rattle.pv_machine.specs.Machines.{Machine}
 use Rattle.pv_machine.specs.Queries.{MeetsBase, MeetsStep}
 use Rattle.pv_claims.specs.declared.claim.Claim.TheVariants as claim
 use Rattle.pv_claims.specs.declared.claim.TraceForm.{TraceForm}
-use Rattle.pv_claims.specs.declared.claim.TraceForm.TheVariants.{Nothing, Run, Stretch}
+use Rattle.pv_claims.specs.declared.claim.TraceForm.TheVariants.{Nothing, Run}
 use Rattle.pv_claims.specs.declared.trace.Ending.{Ending}
 use Rattle.pv_claims.specs.declared.trace.Ending.TheVariants as ending
 use Rattle.pv_claims.specs.declared.trace.Trace.{Trace}
-use Rattle.pv_claims.specs.TracePart.{trace_form, HasForm, IsRun, IsStretch}
+use Rattle.pv_claims.specs.TracePart.{trace_form, HasForm, IsStretch}
 use Rattle.pv_cert.specs.declared.proof.Query.TheVariants.{Base, Step}
 use Rattle.pv_cert.specs.declared.proof.Proof.{Proof}
 use Rattle.pv_cert.specs.declared.certificate.Certificate.{Certificate}
@@ -22,10 +21,10 @@ use Rattle.pv_kind.specs.Oracles.{Encoding}
 use Rattle.pv_kind.specs.Decisions.{Decides, IsUnspent, IsProvedBy, IsFailedBy}
 use Rattle.pv_valid.specs.Cases.{Case, IsSound}
 use Rattle.pv_valid.specs.Validity.{Replays, ending_in, IsRight}
-use Rattle.pv_valid.specs.Deciding.{proved_claim, failed_claim, certificate_of, IsOracleOf}
+use Rattle.pv_valid.specs.Deciding.{proved_claim, failed_claim, certificate_of, IsOracleFor, IsOracleOf}
 use Rattle.pv_valid.proofs.ForCallers.{right-of}
 use Rattle.pv_evidence.specs.Endings.{ReplaysOnce, EndReplays}
-use Rattle.pv_evidence.specs.Correct.{IsOracleFor, IsEvidence}
+use Rattle.pv_evidence.specs.Correct.{IsEvidence}
 use Rattle.pv_evidence.proofs.Writable.{belonging-writable, region-writable}
 
 -- where the circuit is within the limit, an oracle for a case is one of it

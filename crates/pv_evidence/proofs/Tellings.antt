@@ -1,8 +1,7 @@
 -- The stretch that replays a trace tells how its last scan ends.
-use Rattle.std.proofs.Common.{◌≡◌, ℕ, zero, suc, Bool, true, false, List, [], ◌∷◌, refl, ap, sym, subst, ◌∙◌, Option, Some, None, ℤ}
-use Rattle.pv_machine.specs.Machines.{Machine, Values, Step, done, trap, over}
+use Rattle.std.proofs.Common.{◌≡◌, ℕ, zero, suc, Bool, true, false, List, [], ◌∷◌, ap, sym, subst, ◌∙◌, Option, Some, None, ℤ}
+use Rattle.pv_machine.specs.Machines.{Machine, Values, Step, done, trap}
 use Rattle.pv_claims.specs.declared.trace.Ending.{Ending}
-use Rattle.pv_claims.specs.declared.trace.Ending.TheVariants as ending
 use Rattle.pv_claims.specs.declared.trace.Trace.{Trace}
 use Rattle.pv_stretch.specs.declared.ends.StretchEnd.{StretchEnd}
 use Rattle.pv_stretch.specs.declared.ends.StretchEnd.TheVariants.{Fails, Stopped}
@@ -45,11 +44,11 @@ stretch-tells m P (i ∷ j ∷ inputs) s (suc good) end fails is =
 
 module _ (case : Case) (t : Trace) where
   pub start-is : (image : Option (List ℤ)) (start : StretchStart) → BeginsAt t image start → BeginsIn case image t → IsStart case start
-  start-is None (from.Params params) at begins = subst (λ (v : List ℤ). AreBetween case.facts.params.items v) (sym at) begins
+  start-is None (from.Params params) at begins = subst (λ (v : List ℤ). AreBetween case.facts.params v) (sym at) begins
   start-is None (from.Image values prev) at begins = absurd at
   start-is (Some image) (from.Params params) at begins = absurd at
   start-is (Some image) (from.Image values prev) at begins = (
-    subst (λ (v : List ℤ). AreBetween case.facts.image.items v) (sym at.0) begins.0,
+    subst (λ (v : List ℤ). AreBetween case.facts.image v) (sym at.0) begins.0,
     subst (λ (mark : Option Bool). MayFollow case.facts mark) (sym at.1) begins.1,
   )
 

@@ -1,5 +1,5 @@
 -- A right certificate of a decision can be written: its literals and its hints are none below the first.
-use Rattle.std.proofs.Common.{◌≡◌, ℕ, zero, suc, ◌≤◌, Bool, true, false, List, [], ◌∷◌, ◌++◌, refl, sym, subst, Option, Some, None, arith}
+use Rattle.std.proofs.Common.{◌≡◌, ℕ, zero, suc, ◌≤◌, true, false, List, [], ◌∷◌, ◌++◌, sym, subst, Option, Some, None, arith}
 use Rattle.std.specs.List.{AllByRecursion}
 use Rattle.std.proofs.lemmas.Bool.{or_parts}
 use Rattle.pv_cnf.specs.Clause.{has_outside}
@@ -14,11 +14,10 @@ use Rattle.pv_claims.specs.declared.claim.Claim.TheVariants.{Satisfied, Unreacha
 use Rattle.pv_cert.specs.declared.proof.Chain.{Chain}
 use Rattle.pv_cert.specs.declared.proof.Proof.{Proof}
 use Rattle.pv_cert.specs.ChainText.{HasChainText}
-use Rattle.pv_cert.specs.CertificateText.{no_reduction, asks_next, IsWritableProof, IsWritableNext}
+use Rattle.pv_cert.specs.CertificateText.{no_reduction, IsWritableProof, IsWritableNext}
 use Rattle.pv_cnf.specs.Clause.{Cnf}
 use Rattle.pv_valid.specs.Cases.{Case}
-use Rattle.pv_valid.specs.Claims.{expected}
-use Rattle.pv_valid.specs.Validity.{Refutes, AreProofs, Spends, AreSpent, HasBudget, HasNeed, IsNextLemma, ProofsBelong}
+use Rattle.pv_valid.specs.Validity.{Refutes, AreSpent, HasBudget, HasNeed, IsNextLemma, ProofsBelong}
 use Rattle.pv_valid.proofs.ForCallers.{all-push}
 
 -- ---- lines

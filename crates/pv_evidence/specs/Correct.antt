@@ -1,12 +1,10 @@
 -- What evidence says: a decision of a case as a certificate.
-use Rattle.std.specs.Prelude.{◌≡◌, ℕ, ◌≤◌, List, [], Option}
+use Rattle.std.specs.Prelude.{◌≡◌, ℕ, ◌≤◌, List, Option}
 use Rattle.pv_machine.specs.Queries.{MeetsBase, MeetsStep}
 use Rattle.pv_claims.specs.declared.trace.Ending.{Ending}
-use Rattle.pv_claims.specs.declared.trace.Trace.{Trace}
-use Rattle.pv_cert.specs.declared.proof.Query.{Query}
 use Rattle.pv_cert.specs.declared.proof.Proof.{Proof}
 use Rattle.pv_cert.specs.declared.certificate.Certificate.{Certificate}
-use Rattle.pv_cert.specs.CertificateText.{no_reduction, IsWritable}
+use Rattle.pv_cert.specs.CertificateText.{IsWritable}
 use Rattle.pv_kind.specs.declared.decision.Limits.{Limits}
 use Rattle.pv_kind.specs.declared.decision.End.{End}
 use Rattle.pv_kind.specs.Refinements.{Stage}
@@ -14,20 +12,7 @@ use Rattle.pv_kind.specs.Oracles.{Encoding}
 use Rattle.pv_kind.specs.Decisions.{Decides, IsUnspent, IsProvedBy, IsFailedBy}
 use Rattle.pv_valid.specs.Cases.{Case}
 use Rattle.pv_valid.specs.Validity.{ending_in, IsRight}
-use Rattle.pv_valid.specs.Deciding.{certificate_of, ShowsQuery}
-
--- the oracle makes nothing smaller, has the case's clauses and its limit on gates, and its traces are those that the case replays; the
--- limits are the case's
-pub record IsOracleFor (case : Case) (e : Encoding) (first : Stage) (limits : Limits) : Type 0 where
-  pub chain : first.chain ≡ no_reduction
-  pub abstracted : first.abstracted ≡ []
-  pub variables : (q : Query) → e.variables no_reduction q ≡ (case.formula q).variables
-  pub clauses : (q : Query) → e.clauses no_reduction q ≡ (case.formula q).clauses
-  pub passes : e.passes no_reduction ≡ case.passes
-  pub shows : (q : Query) (t : Trace) → e.shows q t → ShowsQuery case q t
-  pub depth : limits.depth ≡ case.facts.depth
-  pub lemmas : limits.lemmas ≡ case.facts.lemmas
-  pub words : limits.words ≡ case.facts.words
+use Rattle.pv_valid.specs.Deciding.{certificate_of}
 
 -- the certificate is that of a decision, whose trace ends so: it is right, and can be written
 pub record IsEvidence (case : Case) (e : Encoding) (first : Stage) (limits : Limits) (c : Certificate) (told : Option Ending) : Type 0 where

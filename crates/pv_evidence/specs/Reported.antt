@@ -1,5 +1,5 @@
 -- What is reported of a certificate whose trace ends so.
-use Rattle.std.specs.Prelude.{ℕ, List, [], ◌∷◌, reverse, Option, Some, None}
+use Rattle.std.specs.Prelude.{List, [], ◌∷◌, reverse, Option, Some, None}
 use Rattle.pv_claims.specs.declared.claim.Claim.{Claim}
 use Rattle.pv_claims.specs.declared.claim.Claim.TheVariants.{Satisfied, Unreachable, Violated, Trapped, Reached, Depth, Loop, Lemmas, Region}
 use Rattle.pv_claims.specs.declared.trace.Ending.{Ending}

@@ -1,7 +1,8 @@
 //! A case decided, with its evidence.
 ghost use Rattle.std.specs.Prelude.{◌≡◌, ◌≤◌, true, false, IfOk, OnOk};
 ghost use Rattle.pv_kind.specs.declared.told.TheConstants.{LAST_QUERY};
-ghost use Rattle.pv_evidence.specs.Correct.{IsOracleFor, IsEvidence};
+ghost use Rattle.pv_valid.specs.Deciding.{IsOracleFor};
+ghost use Rattle.pv_evidence.specs.Correct.{IsEvidence};
 
 use crate::evidence::{Evidence, evidence_of};
 use pv_cert::Query;

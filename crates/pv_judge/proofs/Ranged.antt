@@ -98,7 +98,7 @@ found-last ends at count ranged good told e =
 
 module _ (case : Case) (claim : Claim) (at : ℕ) (s : Values) (inputs : List Values) (good : ℕ) where
   abbrev ranged : ℕ
-  ranged = in_range case.facts.input.items inputs
+  ranged = in_range case.facts.input inputs
 
   abbrev found : Option StretchEnd → Option Fault
   found end = scans_found (ends_as claim) at (length inputs) ranged good end

@@ -78,10 +78,10 @@ module _ (ends : Ending → Bool) where
 
   module _ (case : Case) where
     abbrev ranged_in : List Values → ℕ
-    ranged_in inputs = in_range case.facts.input.items inputs
+    ranged_in inputs = in_range case.facts.input inputs
 
     -- the first scan's values aren't in range: no scan was tried
-    first-out : (at : ℕ) (s i : Values) (inputs : List Values) → are_between case.facts.input.items i ≡ false
+    first-out : (at : ℕ) (s i : Values) (inputs : List Values) → are_between case.facts.input i ≡ false
         → scans_fault case ends at s (i ∷ inputs) ≡ Some (Line at kind.WrongQuery)
     first-out at s i [] out =
         ap (λ (b : Bool). or_else (unless b at kind.WrongQuery)
@@ -102,10 +102,10 @@ module _ (ends : Ending → Bool) where
     last_part at s i = unless (case.machine.fails s i && ends (ending_of (case.machine.step s i))) at kind.TraceDiffers
 
     -- the first scan's values are in range
-    in-one : (at : ℕ) (s i : Values) → are_between case.facts.input.items i ≡ true → scans_fault case ends at s (i ∷ []) ≡ last_part at s i
+    in-one : (at : ℕ) (s i : Values) → are_between case.facts.input i ≡ true → scans_fault case ends at s (i ∷ []) ≡ last_part at s i
     in-one at s i within = ap (λ (b : Bool). or_else (unless b at kind.WrongQuery) (last_part at s i)) within
 
-    in-more : (at : ℕ) (s i j : Values) (inputs : List Values) → are_between case.facts.input.items i ≡ true
+    in-more : (at : ℕ) (s i j : Values) (inputs : List Values) → are_between case.facts.input i ≡ true
         → scans_fault case ends at s (i ∷ j ∷ inputs) ≡ going at (j ∷ inputs) (good_left case.machine s i)
     in-more at s i j inputs within =
         ap (λ (b : Bool). or_else (unless b at kind.WrongQuery) (going at (j ∷ inputs) (good_left case.machine s i))) within
@@ -133,7 +133,7 @@ module _ (ends : Ending → Bool) where
 
     -- the first scan ends the stretch
     first-ends : (inputs : List Values) (at : ℕ) (s i : Values) (ranged : ℕ) (end : StretchEnd)
-        → are_between case.facts.input.items i ≡ true → EndsStretch case.machine s i end
+        → are_between case.facts.input i ≡ true → EndsStretch case.machine s i end
         → scans_fault case ends at s (i ∷ inputs) ≡ scans_found ends at (suc (length inputs)) ranged 0 (Some end)
     first-ends [] at s i ranged (Fails told) within is =
         in-one at s i within
@@ -156,7 +156,7 @@ module _ (ends : Ending → Bool) where
 
     -- the first scan is good, and these are after it
     first-good : (inputs : List Values) (at : ℕ) (s i t : Values) (good : ℕ) (end : Option StretchEnd)
-        → are_between case.facts.input.items i ≡ true → IsGoodScan case.machine s i t
+        → are_between case.facts.input i ≡ true → IsGoodScan case.machine s i t
         → IsStretch case.machine t (take (ranged_in inputs) inputs) good end → Behind inputs (suc at) t good end
         → scans_fault case ends at s (i ∷ inputs) ≡ scans_found ends at (suc (length inputs)) (suc (ranged_in inputs)) (suc good) end
     first-good [] at s i t zero None within scan is behind =
@@ -170,7 +170,7 @@ module _ (ends : Ending → Bool) where
         ∙ (behind ∙ more at (suc (length inputs)) (ranged_in (j ∷ inputs)) good end (omega arith))))
 
     by-range : (inputs : List Values) (at : ℕ) (s i : Values) (good : ℕ) (end : Option StretchEnd) (b : Bool)
-        → are_between case.facts.input.items i ≡ b
+        → are_between case.facts.input i ≡ b
         → ((t : Values) (later : ℕ) → IsStretch case.machine t (take (ranged_in inputs) inputs) later end → Behind inputs (suc at) t later end)
         → IsStretch case.machine s (take (cond b (suc (ranged_in inputs)) 0) (i ∷ inputs)) good end
         → scans_fault case ends at s (i ∷ inputs)
@@ -190,4 +190,4 @@ module _ (ends : Ending → Bool) where
     found-is [] at s zero (Some end) is = absurd is
     found-is [] at s (suc good) end is = absurd is
     found-is (i ∷ inputs) at s good end is =
-        by-range inputs at s i good end (are_between case.facts.input.items i) refl (λ t later. found-is inputs (suc at) t later end) is
+        by-range inputs at s i good end (are_between case.facts.input i) refl (λ t later. found-is inputs (suc at) t later end) is

@@ -102,23 +102,23 @@ may-follow : (facts : Facts) (prev : Option Bool) → may_follow facts prev ≡ 
 may-follow facts None e = tt
 may-follow facts (Some mark) e = e
 
-pub params-start : (facts : Facts) (t : Trace) → begin_fault facts None t ≡ None → AreBetween facts.params.items t.params
-params-start facts t e = between-are facts.params.items t.params (params-in (are_between facts.params.items t.params) e)
+pub params-start : (facts : Facts) (t : Trace) → begin_fault facts None t ≡ None → AreBetween facts.params t.params
+params-start facts t e = between-are facts.params t.params (params-in (are_between facts.params t.params) e)
 
 pub image-start : (facts : Facts) (image : List ℤ) (t : Trace) → begin_fault facts (Some image) t ≡ None
-    → AreBetween facts.image.items image × MayFollow facts t.prev
+    → AreBetween facts.image image × MayFollow facts t.prev
 image-start facts image t e =
-    let parts = image-in (are_between facts.image.items image) (may_follow facts t.prev) e in
-    (between-are facts.image.items image parts.0, may-follow facts t.prev parts.1)
+    let parts = image-in (are_between facts.image image) (may_follow facts t.prev) e in
+    (between-are facts.image image parts.0, may-follow facts t.prev parts.1)
 
 module _ (case : Case) (claim : Claim) (t : Trace) where
   abbrev scans_part : Option (List ℤ) → Option Fault
   scans_part o = scans_fault case (ends_as claim) (scans_line o) (first_state case o t) t.inputs
 
   begun-is : (o : Option (List ℤ)) → begun_fault case (ends_as claim) o t ≡ begun_by (begin_fault case.facts o t) (scans_part o)
-  begun-is None = by-params (are_between case.facts.params.items t.params) (scans_part None)
+  begun-is None = by-params (are_between case.facts.params t.params) (scans_part None)
   begun-is (Some image) =
-      by-image (are_between case.facts.image.items image) (may_follow case.facts t.prev) (scans_part (Some image))
+      by-image (are_between case.facts.image image) (may_follow case.facts t.prev) (scans_part (Some image))
 
   -- the trace doesn't begin as one of the case
   pub wrong-begin : (at : ℕ) (fault : Fault) → begin_fault case.facts t.image t ≡ Some at → fault ≡ Line at kind.WrongQuery

@@ -66,9 +66,9 @@ FindsFrom case claim at s inputs (Err fault) = scans_fault case (ends_as claim) 
 
 -- the line of params, of an image or of a mark that isn't one of the case
 abbrev pub begin_fault : Facts → Option (List ℤ) → Trace → Option ℕ
-begin_fault facts None t = if are_between facts.params.items t.params then None else Some 3
+begin_fault facts None t = if are_between facts.params t.params then None else Some 3
 begin_fault facts (Some image) t =
-    if are_between facts.image.items image then (if may_follow facts t.prev then None else Some 4) else Some 3
+    if are_between facts.image image then (if may_follow facts t.prev then None else Some 4) else Some 3
 
 -- how many inputs have their values in range, before the first that hasn't
 abbrev pub in_range : List Bounds → List Values → ℕ

@@ -60,6 +60,16 @@ past NoMemory f c e many gates = absurd (let no : Gates ≡ oracle.NoMemory = sy
 pub within : (c : Circuit) → gate_count c.nodes ≤ MAX_BUILT_GATES → passes_limit c ≡ false
 within c few = le-ltb MAX_BUILT_GATES (gate_count c.nodes) few
 
+abbrev gate_fault_of : {T : Type 0} → Result T GateFault → GateFault
+gate_fault_of (Ok x) = NoMemory
+gate_fault_of (Err f) = f
+
+pub same_gate_fault : {T : Type 0} (f g : GateFault) → ◌≡◌ {A = Result T GateFault} (Err f) (Err g) → f ≡ g
+same_gate_fault f g e = ap gate_fault_of e
+
+pub over_limit : (c : Circuit) → MAX_BUILT_GATES < gate_count c.nodes → passes_limit c ≡ true
+over_limit c many = lt-ltb MAX_BUILT_GATES (gate_count c.nodes) many
+
 -- ---- no cell is abstracted
 
 pub nothing_back : (chain : Chain) (cells : List ℕ) → chain ≡ no_reduction → stage_of chain ≡ put_back cells (stage_of chain)

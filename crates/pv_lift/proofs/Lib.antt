@@ -4,3 +4,6 @@ mod Kept
 mod Told
 mod Deciding
 mod Exact
+mod Scanned
+mod Showing
+mod Known

@@ -4,3 +4,8 @@ pub mod Lifts
 pub mod Stages
 pub mod Sound
 pub mod Decided
+pub mod Facts
+pub mod Cases
+pub mod CaseSound
+-- what private clauses cite
+pub mod Groups

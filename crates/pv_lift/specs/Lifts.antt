@@ -9,6 +9,7 @@ use Rattle.pv_pattern.specs.declared.pattern.Pattern.{Pattern}
 use Rattle.pv_pattern.specs.declared.pattern.Pattern.TheVariants.{Invariant, Forbidden, Implication, Within, Between, Reach}
 use Rattle.pv_pattern.specs.Found.{IsPatternOf}
 use Rattle.pv_pattern.specs.Sources.{machine_of}
+use Rattle.pv_valid.specs.declared.facts.Facts.{Facts}
 use Rattle.pv_replay.specs.declared.replay.Replay.{Replay}
 use Rattle.pv_replay.specs.Replays.{IsReplayOf, cells_of}
 
@@ -21,9 +22,9 @@ looks_back_of (Within a b) = false
 looks_back_of (Between a b c) = true
 looks_back_of (Reach a) = false
 
--- what no call of a lift changes: its machine, its cells, and whether its pattern looks back
-abbrev pub fixed_of : {M : Type 0} → M → Replay → Pattern → M × List Cell × Bool
-fixed_of machine replay pattern = (machine, cells_of replay, looks_back_of pattern)
+-- what no call of a lift changes: its machine, its cells, whether its pattern looks back, and what is known of its case
+abbrev pub fixed_of : {M : Type 0} → M → Replay → Pattern → Facts → M × List Cell × Bool × Facts
+fixed_of machine replay pattern facts = (machine, cells_of replay, looks_back_of pattern, facts)
 
 -- the replay and the pattern are those of a source, whose machine is the same as this one
 pub record IsLifted (m : Machine) (replay : Replay) (pattern : Pattern) : Type 0 where

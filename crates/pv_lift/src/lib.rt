@@ -2,6 +2,8 @@
 //! that values of their formulas stand for.
 #![tactic(auto)]
 
+mod facts;
+mod judged;
 pub mod laws;
 mod lift;
 mod once;

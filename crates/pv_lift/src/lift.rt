@@ -7,19 +7,28 @@ ghost use Rattle.pv_circuit.specs.Steps.{widths};
 ghost use Rattle.pv_cert.specs.CertificateText.{no_reduction};
 ghost use Rattle.pv_queries.specs.Built.{IsBuilt};
 ghost use Rattle.pv_queries.specs.declared.built.TheConstants.{MAX_BUILT_GATES, MAX_BUILT_BITS};
-ghost use Rattle.pv_lift.specs.Lifts.{fixed_of, IsLifted};
-ghost use Rattle.pv_lift.specs.Stages.{oracle_fault};
+ghost use Rattle.pv_kind.specs.declared.told.TheConstants.{LAST_QUERY};
+ghost use Rattle.pv_replay.specs.Replays.{cells_of};
+ghost use Rattle.pv_stretch.specs.Judged.{is_goal};
+ghost use Rattle.pv_valid.specs.Deciding.{IsOracleFor};
+ghost use Rattle.pv_lift.specs.Lifts.{fixed_of, looks_back_of, IsLifted};
+ghost use Rattle.pv_lift.specs.Stages.{oracle_fault, stage_of, encoding_of};
+ghost use Rattle.pv_lift.specs.Facts.{facts_of, limits_in};
+ghost use Rattle.pv_lift.specs.Cases.{case_of};
 
+use crate::facts::{facts_of, looks_back};
 use crate::once;
 use pv_cert::{Chain, Query};
 use pv_circuit::StepSource;
 use pv_cnf::{Clauses, PushFault, Values};
 use pv_gate::GateFault;
-use pv_kind::{Oracle, OracleFault, Told};
+use pv_kind::{Limits, Oracle, OracleFault, Told};
 use pv_log::Numbers;
 use pv_pattern::Pattern;
 use pv_queries::{Built, CircuitMachine};
 use pv_replay::Replay;
+use pv_stretch::asks_for_goal;
+use pv_valid::Facts;
 use std::alloc::{AllocError, Global};
 
 /// Which reductions are made before queries are asked. None is built yet, and a lift makes none.
@@ -37,9 +46,14 @@ pub struct Reduce {
 #[derive(Drop)]
 pub struct Lift<'a, C: StepSource> {
     pub(crate) alloc: Global,
-    pub(crate) machine: CircuitMachine<'a, C>,
-    pub(crate) replay: Replay<'a>,
-    pub(crate) pattern: &'a Pattern,
+    /// The machine that is asked of.
+    pub machine: CircuitMachine<'a, C>,
+    /// Replays of the source.
+    pub replay: Replay<'a>,
+    /// The source's pattern.
+    pub pattern: &'a Pattern,
+    /// What is known of the case by which certificates are judged.
+    pub facts: Facts,
     chain: Chain,
     pub(crate) built: Option<Built>,
     ghost plain: { chain ≡ no_reduction } by { Prim.hlevel props },
@@ -47,24 +61,42 @@ pub struct Lift<'a, C: StepSource> {
     ghost is_built: { IfSome built (IsBuilt (C.step machine.circuits.now) (C.start machine.circuits.now)) } by { Prim.hlevel props },
     ghost within: { IfSome built (λ _. gate_count (C.step machine.circuits.now).nodes ≤ MAX_BUILT_GATES) } by { Prim.hlevel props },
     ghost lifted: { ∥ IsLifted (C.machine machine.circuits.now) replay pattern.now ∥₁ },
+    ghost known: { facts ≡ facts_of (cells_of replay) (is_goal pattern.now) (looks_back_of pattern.now) (limits_in facts) } by { Prim.hlevel props },
+    ghost few_queries: { facts.depth ≤ LAST_QUERY },
 }
 
 /// The queries on the machine of the replay's source and the pattern, which the circuits' machine is the same as. A state and an input
-/// of it have at most `MAX_BUILT_BITS` bits together. No reduction is made, whichever are named.
+/// of it have at most `MAX_BUILT_BITS` bits together. No reduction is made, whichever are named. The limits are those of the case by which
+/// certificates are judged.
 pub fn make<'a, C: StepSource>(
     alloc: Global,
     circuits: &'a C,
     replay: Replay<'a>,
     pattern: &'a Pattern,
     reduce: &Reduce,
+    limits: &Limits,
 ) -> Result<Lift<'a, C>, AllocError>
     requires lifted { IsLifted (C.machine circuits.now) replay pattern.now }
     requires few { widths (C.form circuits.now).state + widths (C.form circuits.now).input ≤ MAX_BUILT_BITS }
+    requires depth { limits.now.depth ≤ LAST_QUERY }
     ensures circuits { IfOk result (λ lift. lift.machine.circuits.now ≡ circuits.now) }
     ensures replay { IfOk result (λ lift. lift.replay ≡ replay.entry) }
     ensures pattern { IfOk result (λ lift. lift.pattern.now ≡ pattern.now) }
+    ensures facts { IfOk result (λ lift. lift.facts
+        ≡ facts_of (cells_of replay.entry) (is_goal pattern.now) (looks_back_of pattern.now) limits.now) }
+    ensures alike { IfOk result (λ lift. IsOracleFor
+        (case_of (C.machine circuits.now) (C.step circuits.now) (C.start circuits.now) lift.facts)
+        (encoding_of (C.machine circuits.now) (C.step circuits.now) (C.start circuits.now) (cells_of replay.entry)
+        (looks_back_of pattern.now)) (stage_of lift.chain) limits.now) }
 {
     let _ = reduce;
+    let facts = facts_of(
+        alloc,
+        replay.cells(),
+        asks_for_goal(pattern),
+        looks_back(pattern),
+        limits,
+    )?;
     Ok(Lift {
         alloc,
         machine: CircuitMachine { circuits },
@@ -75,6 +107,7 @@ pub fn make<'a, C: StepSource>(
             havoc: Numbers::new(alloc),
             cone: false,
         },
+        facts,
         built: None,
     })
 }
@@ -90,8 +123,8 @@ impl<'a, C: StepSource> Lift<'a, C> {
         ensures limit { result ≡ Err GateFault.Limit
             → MAX_BUILT_GATES < gate_count (C.step self.old.machine.circuits.now).nodes }
         ensures kept { IsTrue (is_some self.old.built) → IsTrue (is_some self.new.built) }
-        ensures fixed { fixed_of self.new.machine self.new.replay self.new.pattern.now
-            ≡ fixed_of self.old.machine self.old.replay self.old.pattern.now }
+        ensures fixed { fixed_of self.new.machine self.new.replay self.new.pattern.now self.new.facts
+            ≡ fixed_of self.old.machine self.old.replay self.old.pattern.now self.old.facts }
         ensures chain { self.new.chain ≡ self.old.chain }
     {
         if self.built.is_some() {
@@ -121,15 +154,16 @@ impl<'a, C: StepSource> Oracle for Lift<'a, C> {
     ghost use Rattle.std.specs.Option.{is_some};
     ghost use Rattle.pv_mean.specs.declared.cell.Cell.{Cell};
     ghost use Rattle.pv_queries.specs.declared.machine.CircuitMachine.{CircuitMachine as A_machine};
+    ghost use Rattle.pv_valid.specs.declared.facts.Facts.{Facts};
     ghost use Rattle.pv_lift.specs.Lifts.{fixed_of};
     ghost use Rattle.pv_lift.specs.Stages.{stage_of, encoding_of};
     ghost use Rattle.pv_lift.specs.Sound.{sound_of};
 
     type Source = CircuitMachine<'a, C>;
 
-    ghost Fixed = { A_machine C × List Cell × Bool };
+    ghost Fixed = { A_machine C × List Cell × Bool × Facts };
 
-    ghost fixed = { λ o. fixed_of o.machine o.replay o.pattern.now };
+    ghost fixed = { λ o. fixed_of o.machine o.replay o.pattern.now o.facts };
 
     ghost source = { λ f. f.0 };
 

@@ -1,5 +1,5 @@
 //! The queries on a circuit that is built once.
-ghost use Rattle.std.specs.Prelude.{◌≡◌, ◌≢◌, ◌≤◌, ℕ, List, [], length, IsTrue, IfOk, IfSome};
+ghost use Rattle.std.specs.Prelude.{◌≡◌, ◌≢◌, ◌<◌, ◌≤◌, ◌^◌, ℕ, List, [], length, IsTrue, IfOk, IfSome};
 ghost use Rattle.pv_circuit.specs.Steps.{widths};
 ghost use Rattle.pv_mean.specs.Frames.{image_len};
 ghost use Rattle.pv_frames.specs.Pushing.{Pushes};
@@ -8,11 +8,13 @@ ghost use Rattle.pv_frames.specs.Runs.{run_of};
 ghost use Rattle.pv_queries.specs.Built.{circuit_of, starts_of};
 ghost use Rattle.pv_queries.specs.Numbers.{form_with, numbers_of};
 ghost use Rattle.pv_lift.specs.Traces.{trace_of};
+ghost use Rattle.pv_lift.specs.Cases.{formula_of};
 
 use crate::trace::trace_told;
 use pv_cert::Query;
 use pv_claims::Trace;
-use pv_cnf::{Clauses, PushFault, Values};
+use pv_cnf::{Clauses, Formula, PushFault, Values};
+use pv_gate::GateFault;
 use pv_kind::OracleFault;
 use pv_mean::Cell;
 use pv_queries::Built;
@@ -53,6 +55,36 @@ pub(crate) fn push<D: Clauses>(
     match built {
         Some(built) => built.push(alloc, query, into),
         None => Err(PushFault::NoMemory),
+    }
+}
+
+/// The formula of a query by the circuit.
+fn formula_by(built: &Built, alloc: Global, query: Query) -> Result<Formula, GateFault>
+    requires { IsAsked query }
+    ensures formula { IfOk result (λ f. f
+        ≡ formula_of (circuit_of built.now) (starts_of built.now) query) }
+    ensures few { IfOk result (λ f. f.variables < 2 ^ 31) }
+    ensures cause { result ≢ Err GateFault.Limit }
+{
+    let formula = built.formula(alloc, query)?;
+    Ok(formula)
+}
+
+/// The formula of a query, once there is a circuit.
+pub(crate) fn formula(
+    built: &Option<Built>,
+    alloc: Global,
+    query: Query,
+) -> Result<Formula, GateFault>
+    requires { IsAsked query }
+    ensures formula { IfSome built.now (λ b. IfOk result (λ f. f
+        ≡ formula_of (circuit_of b) (starts_of b) query)) }
+    ensures few { IfOk result (λ f. f.variables < 2 ^ 31) }
+    ensures cause { result ≢ Err GateFault.Limit }
+{
+    match built {
+        Some(built) => formula_by(built, alloc, query),
+        None => Err(GateFault::NoMemory),
     }
 }
 

@@ -28,7 +28,7 @@ fn stored_count(cells: &[Cell]) -> usize
 }
 
 /// Whether the cell is a parameter that no binding gives its value.
-fn is_free(cell: &Cell) -> bool
+pub(crate) fn is_free(cell: &Cell) -> bool
     ensures { result ≡ is_free cell.now.role cell.now.bound }
 {
     match cell.role {

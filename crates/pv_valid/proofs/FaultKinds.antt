@@ -132,24 +132,24 @@ module _ (case : Case) where
   scans ends [] at s = tt
   scans ends (i ∷ []) at s =
       let last = case.machine.fails s i && ends (ending_of (case.machine.step s i)) in
-      both (unless (are_between case.facts.input.items i) at kind.WrongQuery) (unless last at kind.TraceDiffers)
-      (one (are_between case.facts.input.items i) at kind.WrongQuery tt) (one last at kind.TraceDiffers tt)
+      both (unless (are_between case.facts.input i) at kind.WrongQuery) (unless last at kind.TraceDiffers)
+      (one (are_between case.facts.input i) at kind.WrongQuery tt) (one last at kind.TraceDiffers tt)
   scans ends (i ∷ j ∷ inputs) at s =
       let go : Values → Option Fault = λ t. scans_fault case ends (suc at) t (j ∷ inputs) in
-      both (unless (are_between case.facts.input.items i) at kind.WrongQuery)
+      both (unless (are_between case.facts.input i) at kind.WrongQuery)
       (elim (good_left case.machine s i) as (λ _. Option Fault) [ None ↦ Some (Line at kind.TraceDiffers) | Some t ↦ go t ])
-      (one (are_between case.facts.input.items i) at kind.WrongQuery tt)
+      (one (are_between case.facts.input i) at kind.WrongQuery tt)
       (on (good_left case.machine s i) at go (λ t. scans ends (j ∷ inputs) (suc at) t))
 
   begun : (ends : Ending → Bool) (o : Option (List ℤ)) (t : Trace) → AreContents (begun_fault case ends o t)
-  begun ends None t = both (unless (are_between case.facts.params.items t.params) 3 kind.WrongQuery)
+  begun ends None t = both (unless (are_between case.facts.params t.params) 3 kind.WrongQuery)
       (scans_fault case ends 4 (case.machine.start t.params) t.inputs)
-      (one (are_between case.facts.params.items t.params) 3 kind.WrongQuery tt) (scans ends t.inputs 4 (case.machine.start t.params))
+      (one (are_between case.facts.params t.params) 3 kind.WrongQuery tt) (scans ends t.inputs 4 (case.machine.start t.params))
   begun ends (Some image) t =
       let mark_part = unless (may_follow case.facts t.prev) 4 kind.WrongQuery in
       let scans_part = scans_fault case ends 5 (case.state_at image t.prev) t.inputs in
-      both (unless (are_between case.facts.image.items image) 3 kind.WrongQuery) (or_else mark_part scans_part)
-      (one (are_between case.facts.image.items image) 3 kind.WrongQuery tt)
+      both (unless (are_between case.facts.image image) 3 kind.WrongQuery) (or_else mark_part scans_part)
+      (one (are_between case.facts.image image) 3 kind.WrongQuery tt)
       (both mark_part scans_part (one (may_follow case.facts t.prev) 4 kind.WrongQuery tt)
       (scans ends t.inputs 5 (case.state_at image t.prev)))
 

@@ -74,7 +74,7 @@ is-good m s i t good = ap (λ (b : Bool). cond b None (left_by (m.step s i))) go
 
 module _ (case : Case) (ends : Ending → Bool) where
   abbrev in_range : ℕ → Values → Option Fault
-  in_range at i = unless (are_between case.facts.input.items i) at kind.WrongQuery
+  in_range at i = unless (are_between case.facts.input i) at kind.WrongQuery
 
   abbrev Fails : Values → List Values → Type 0
   Fails s inputs = FailsAtLastAs case.machine (λ told. ends told ≡ true) s inputs
@@ -86,14 +86,14 @@ module _ (case : Case) (ends : Ending → Bool) where
   scans-are [] at s e = absurd cc
   scans-are (i ∷ []) at s e =
       let parts = both-none (in_range at i) (unless (fails_so s i) at kind.TraceDiffers) e in
-      let within = between-are case.facts.input.items i (is-so (are_between case.facts.input.items i) at kind.WrongQuery parts.0) in
+      let within = between-are case.facts.input i (is-so (are_between case.facts.input i) at kind.WrongQuery parts.0) in
       let last = and_parts (case.machine.fails s i) (ends (ending_of (case.machine.step s i)))
       (is-so (fails_so s i) at kind.TraceDiffers parts.1) in
       ((within, tt), last)
   scans-are (i ∷ j ∷ inputs) at s e =
       let go : Values → Option Fault = λ t. scans_fault case ends (suc at) t (j ∷ inputs) in
       let parts = both-none (in_range at i) (goes (good_left case.machine s i) at go) e in
-      let within = between-are case.facts.input.items i (is-so (are_between case.facts.input.items i) at kind.WrongQuery parts.0) in
+      let within = between-are case.facts.input i (is-so (are_between case.facts.input i) at kind.WrongQuery parts.0) in
       let left = goes-none (good_left case.machine s i) at go parts.1 in
       let rest = scans-are (j ∷ inputs) (suc at) left.0 left.2 in
       ((within, rest.0), (left.0, good-is case.machine s i left.0 left.1, rest.1))
@@ -102,13 +102,13 @@ module _ (case : Case) (ends : Ending → Bool) where
   are-scans [] at s are fails = absurd fails
   are-scans (i ∷ []) at s are fails =
       none-both (in_range at i) (unless (fails_so s i) at kind.TraceDiffers)
-      (so-is (are_between case.facts.input.items i) at kind.WrongQuery (are-between case.facts.input.items i are.0))
+      (so-is (are_between case.facts.input i) at kind.WrongQuery (are-between case.facts.input i are.0))
       (so-is (fails_so s i) at kind.TraceDiffers
       (and_from (case.machine.fails s i) (ends (ending_of (case.machine.step s i))) fails.0 fails.1))
   are-scans (i ∷ j ∷ inputs) at s are fails =
       let go : Values → Option Fault = λ t. scans_fault case ends (suc at) t (j ∷ inputs) in
       none-both (in_range at i) (goes (good_left case.machine s i) at go)
-      (so-is (are_between case.facts.input.items i) at kind.WrongQuery (are-between case.facts.input.items i are.0))
+      (so-is (are_between case.facts.input i) at kind.WrongQuery (are-between case.facts.input i are.0))
       (none-goes (good_left case.machine s i) at go fails.0 (is-good case.machine s i fails.0 fails.1)
       (are-scans (j ∷ inputs) (suc at) fails.0 are.1 fails.2))
 
@@ -125,21 +125,21 @@ module _ (case : Case) (ends : Ending → Bool) where
   begun-is : (o : Option (List ℤ)) (t : Trace) → begun_fault case ends o t ≡ None
       → BeginsIn case o t × AreInputs case t.inputs × Fails (first_state case o t) t.inputs
   begun-is None t e =
-      let parts = both-none (unless (are_between case.facts.params.items t.params) 3 kind.WrongQuery)
+      let parts = both-none (unless (are_between case.facts.params t.params) 3 kind.WrongQuery)
       (scans_fault case ends 4 (case.machine.start t.params) t.inputs) e in
       let scans = scans-are t.inputs 4 (case.machine.start t.params) parts.1 in (
-        between-are case.facts.params.items t.params (is-so (are_between case.facts.params.items t.params) 3 kind.WrongQuery parts.0),
+        between-are case.facts.params t.params (is-so (are_between case.facts.params t.params) 3 kind.WrongQuery parts.0),
         scans.0,
         scans.1,
       )
   begun-is (Some image) t e =
       let scans_part = scans_fault case ends 5 (case.state_at image t.prev) t.inputs in
       let mark_part = unless (may_follow case.facts t.prev) 4 kind.WrongQuery in
-      let parts = both-none (unless (are_between case.facts.image.items image) 3 kind.WrongQuery) (or_else mark_part scans_part) e in
+      let parts = both-none (unless (are_between case.facts.image image) 3 kind.WrongQuery) (or_else mark_part scans_part) e in
       let rest = both-none mark_part scans_part parts.1 in
       let scans = scans-are t.inputs 5 (case.state_at image t.prev) rest.1 in (
         (
-          between-are case.facts.image.items image (is-so (are_between case.facts.image.items image) 3 kind.WrongQuery parts.0),
+          between-are case.facts.image image (is-so (are_between case.facts.image image) 3 kind.WrongQuery parts.0),
           follow-is case.facts t.prev (is-so (may_follow case.facts t.prev) 4 kind.WrongQuery rest.0),
         ),
         scans.0,
@@ -149,15 +149,15 @@ module _ (case : Case) (ends : Ending → Bool) where
   is-begun : (o : Option (List ℤ)) (t : Trace) → BeginsIn case o t → AreInputs case t.inputs → Fails (first_state case o t) t.inputs
       → begun_fault case ends o t ≡ None
   is-begun None t begins are fails =
-      none-both (unless (are_between case.facts.params.items t.params) 3 kind.WrongQuery)
+      none-both (unless (are_between case.facts.params t.params) 3 kind.WrongQuery)
       (scans_fault case ends 4 (case.machine.start t.params) t.inputs)
-      (so-is (are_between case.facts.params.items t.params) 3 kind.WrongQuery (are-between case.facts.params.items t.params begins))
+      (so-is (are_between case.facts.params t.params) 3 kind.WrongQuery (are-between case.facts.params t.params begins))
       (are-scans t.inputs 4 (case.machine.start t.params) are fails)
   is-begun (Some image) t begins are fails =
       let scans_part = scans_fault case ends 5 (case.state_at image t.prev) t.inputs in
       let mark_part = unless (may_follow case.facts t.prev) 4 kind.WrongQuery in
-      none-both (unless (are_between case.facts.image.items image) 3 kind.WrongQuery) (or_else mark_part scans_part)
-      (so-is (are_between case.facts.image.items image) 3 kind.WrongQuery (are-between case.facts.image.items image begins.0))
+      none-both (unless (are_between case.facts.image image) 3 kind.WrongQuery) (or_else mark_part scans_part)
+      (so-is (are_between case.facts.image image) 3 kind.WrongQuery (are-between case.facts.image image begins.0))
       (none-both mark_part scans_part (so-is (may_follow case.facts t.prev) 4 kind.WrongQuery (is-follow case.facts t.prev begins.1))
       (are-scans t.inputs 5 (case.state_at image t.prev) are fails))
 

@@ -43,10 +43,10 @@ IsTrapped (over place) = ⊥
 pub record IsSound (case : Case) : Type 0 where
   pub lawful : IsLawful case.machine
   -- the ranges are the machine's
-  pub params : map range_between case.facts.params.items ≡ case.machine.params
-  pub input : map range_between case.facts.input.items ≡ case.machine.input
+  pub params : map range_between case.facts.params ≡ case.machine.params
+  pub input : map range_between case.facts.input ≡ case.machine.input
   -- an image of values in range is a state with each mark that the case has
-  pub states : (image : List ℤ) (prev : Option Bool) → AreBetween case.facts.image.items image → MayFollow case.facts prev
+  pub states : (image : List ℤ) (prev : Option Bool) → AreBetween case.facts.image image → MayFollow case.facts prev
       → IsState case.machine (case.state_at image prev)
   -- a trap is no failing where a goal is asked for
   pub traps : case.facts.goal ≡ true → (s i : Values) → IsState case.machine s → IsInput case.machine i

@@ -66,3 +66,15 @@ pub record IsOracleOf (case : Case) (e : Encoding) (first : Stage) (limits : Lim
   pub depth : limits.depth ≡ case.facts.depth
   pub lemmas : limits.lemmas ≡ case.facts.lemmas
   pub words : limits.words ≡ case.facts.words
+
+-- The same of an oracle whose circuit may pass the limit on gates: it passes it exactly where the case's does.
+pub record IsOracleFor (case : Case) (e : Encoding) (first : Stage) (limits : Limits) : Type 0 where
+  pub chain : first.chain ≡ no_reduction
+  pub abstracted : first.abstracted ≡ []
+  pub variables : (q : Query) → e.variables no_reduction q ≡ (case.formula q).variables
+  pub clauses : (q : Query) → e.clauses no_reduction q ≡ (case.formula q).clauses
+  pub passes : e.passes no_reduction ≡ case.passes
+  pub shows : (q : Query) (t : Trace) → e.shows q t → ShowsQuery case q t
+  pub depth : limits.depth ≡ case.facts.depth
+  pub lemmas : limits.lemmas ≡ case.facts.lemmas
+  pub words : limits.words ≡ case.facts.words

@@ -6,8 +6,8 @@ use Rattle.pv_valid.specs.Cases.{Case, AreBetween, MayFollow}
 
 -- at the start with parameters in range, or at an image in range with a mark that the case has
 abbrev pub IsStart : Case → StretchStart → Type 0
-IsStart case (from.Params params) = AreBetween case.facts.params.items params.now
-IsStart case (from.Image image prev) = AreBetween case.facts.image.items image.now × MayFollow case.facts prev
+IsStart case (from.Params params) = AreBetween case.facts.params params.now
+IsStart case (from.Image image prev) = AreBetween case.facts.image image.now × MayFollow case.facts prev
 
 abbrev pub state_from : Case → StretchStart → Values
 state_from case (from.Params params) = case.machine.start params.now

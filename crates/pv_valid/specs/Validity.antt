@@ -25,12 +25,12 @@ use Rattle.pv_valid.specs.Claims.{Belongs, ends_as, expected}
 
 -- the scans' values are in range
 abbrev pub AreInputs : Case → List (List ℤ) → Type 0
-AreInputs case inputs = AllByRecursion (AreBetween case.facts.input.items) inputs
+AreInputs case inputs = AllByRecursion (AreBetween case.facts.input) inputs
 
 -- a run with these parameters, or what goes on from this image and mark
 abbrev pub BeginsIn : Case → Option (List ℤ) → Trace → Type 0
-BeginsIn case None t = AreBetween case.facts.params.items t.params
-BeginsIn case (Some image) t = AreBetween case.facts.image.items image × MayFollow case.facts t.prev
+BeginsIn case None t = AreBetween case.facts.params t.params
+BeginsIn case (Some image) t = AreBetween case.facts.image image × MayFollow case.facts t.prev
 
 abbrev pub first_state : Case → Option (List ℤ) → Trace → List ℤ
 first_state case None t = case.machine.start t.params

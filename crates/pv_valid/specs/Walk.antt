@@ -56,10 +56,10 @@ good_left m s i = if m.fails s i then None else left_by (m.step s i)
 abbrev pub scans_fault : Case → (Ending → Bool) → ℕ → Values → List Values → Option Fault
 scans_fault case ends at s [] = Some (Line at kind.TraceDiffers)
 scans_fault case ends at s (i ∷ []) =
-    or_else (unless (are_between case.facts.input.items i) at kind.WrongQuery)
+    or_else (unless (are_between case.facts.input i) at kind.WrongQuery)
     (unless (case.machine.fails s i && ends (ending_of (case.machine.step s i))) at kind.TraceDiffers)
 scans_fault case ends at s (i ∷ j ∷ inputs) =
-    or_else (unless (are_between case.facts.input.items i) at kind.WrongQuery)
+    or_else (unless (are_between case.facts.input i) at kind.WrongQuery)
     (elim (good_left case.machine s i) [
       | None ↦ Some (Line at kind.TraceDiffers)
       | Some t ↦ scans_fault case ends (suc at) t (j ∷ inputs)
@@ -73,10 +73,10 @@ may_follow facts (Some mark) = facts.looks_back
 -- params stand in line 3, or an image does, with the mark in line 4
 abbrev pub begun_fault : Case → (Ending → Bool) → Option (List ℤ) → Trace → Option Fault
 begun_fault case ends None t =
-    or_else (unless (are_between case.facts.params.items t.params) 3 kind.WrongQuery)
+    or_else (unless (are_between case.facts.params t.params) 3 kind.WrongQuery)
     (scans_fault case ends 4 (case.machine.start t.params) t.inputs)
 begun_fault case ends (Some image) t =
-    or_else (unless (are_between case.facts.image.items image) 3 kind.WrongQuery)
+    or_else (unless (are_between case.facts.image image) 3 kind.WrongQuery)
     (or_else (unless (may_follow case.facts t.prev) 4 kind.WrongQuery)
     (scans_fault case ends 5 (case.state_at image t.prev) t.inputs))
 

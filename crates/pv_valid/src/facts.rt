@@ -1,4 +1,35 @@
 //! What is known of a case when certificates are judged.
+ghost use Rattle.std.specs.Prelude.{◌≡◌, ℤ, List};
+
+use std::marker::Model;
+
+/// The least and the greatest value of each of some cells, in the order of the cells.
+#[derive(Drop)]
+pub struct CellRanges {
+    items: Vec<(i128, i128)>,
+}
+
+impl Model for CellRanges {
+    ghost Value = { List (ℤ × ℤ) };
+
+    ghost view = { λ r. r.items.items };
+}
+
+impl CellRanges {
+    /// These ranges, in the memory that they lie in.
+    pub fn from_vec(items: Vec<(i128, i128)>) -> Self
+        ensures { result ≡ items.items }
+    {
+        CellRanges { items }
+    }
+
+    /// The ranges in order.
+    pub fn as_slice(&self) -> &[(i128, i128)]
+        ensures { result.now ≡ self.now }
+    {
+        self.items.as_slice()
+    }
+}
 
 /// What is known of a case when certificates are judged. A range is the least and the greatest value of a cell.
 #[derive(Drop)]
@@ -14,9 +45,9 @@ pub struct Facts {
     /// The words that a query's variables, clauses and lemmas may take.
     pub words: u64,
     /// The ranges of the parameters that no binding gives a value, in the order of the table.
-    pub params: Vec<(i128, i128)>,
+    pub params: CellRanges,
     /// The ranges of the input cells, in the order of the table.
-    pub input: Vec<(i128, i128)>,
+    pub input: CellRanges,
     /// The ranges of the kept cells and the parameters, in the order of the table; that of a bound parameter is its value alone.
-    pub image: Vec<(i128, i128)>,
+    pub image: CellRanges,
 }

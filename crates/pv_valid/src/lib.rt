@@ -11,6 +11,6 @@ mod fault;
 mod judged;
 pub mod laws;
 
-pub use facts::Facts;
+pub use facts::{CellRanges, Facts};
 pub use fault::{Fault, Kind, Verdict};
 pub use judged::Judged;

@@ -5,4 +5,4 @@ use Rattle.pv_bool_judged.proofs.case.taken_ranges.Goals as goal
 
 pub returns : goal.returns
 returns c =
-    subst (λ (n : ℕ). IfOk c.ranges-2.result (λ ranges. ranges.items ≡ replicate n bit_bounds)) c.taken_count.ensures c.ranges-2.ensures
+    subst (λ (n : ℕ). IfOk c.ranges-2.result (λ ranges. ranges ≡ replicate n bit_bounds)) c.taken_count.ensures c.ranges-2.ensures

@@ -8,3 +8,6 @@ returns-clause-fits g c = c.decide_case.ensures.fits
 
 pub returns-clause-gates : goal.returns-clause-gates
 returns-clause-gates g c = c.decide_case.ensures.gates
+
+pub returns-clause-kept : goal.returns-clause-kept
+returns-clause-kept g c = c.decide_case.ensures.kept

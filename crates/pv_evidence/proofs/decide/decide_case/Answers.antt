@@ -1,8 +1,6 @@
-use Rattle.std.proofs.Common.{◌≡◌, ℕ, ◌≤◌, List, Option, ap, sym, subst, ◌∙◌}
+use Rattle.std.proofs.Common.{◌≡◌, ℕ, ◌≤◌, ap, sym, subst, ◌∙◌}
 use Rattle.pv_machine.specs.Machines.{Machine}
 use Rattle.pv_machine.specs.Queries.{MeetsBase, MeetsStep}
-use Rattle.pv_claims.specs.declared.trace.Ending.{Ending}
-use Rattle.pv_cert.specs.declared.certificate.Certificate.{Certificate}
 use Rattle.pv_kind.specs.Oracles.{Encoding}
 use Rattle.pv_kind.specs.Decisions.{IsUnspent, IsProvedBy, IsFailedBy}
 use Rattle.pv_valid.specs.Cases.{Case}

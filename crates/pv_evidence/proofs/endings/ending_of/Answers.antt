@@ -1,4 +1,4 @@
-use Rattle.std.proofs.Common.{◌≡◌, ℕ, true, List, sym, subst, ◌∙◌}
+use Rattle.std.proofs.Common.{◌≡◌, true, List, sym, subst, ◌∙◌}
 use Rattle.pv_machine.specs.Machines.{Values}
 use Rattle.pv_claims.specs.declared.claim.Claim.TheVariants as claim
 use Rattle.pv_valid.specs.Shown.{IsStretch}

@@ -14,13 +14,13 @@ pub shown-requires-clause-good : goal.shown-requires-clause-good
 shown-requires-clause-good g c =
     let case = g.J.Judged.case c.args.case.now in
     let inputs = c.args.inputs.now in
-    let ranges = case.facts.input.items in
+    let ranges = case.facts.input in
     let s = state_from case c.args.start in
     let good = c.stretch-stretch.result.good in
     let end = c.stretch-stretch.result.ending in
     let is : c.in_range-ranged.result ≡ in_range ranges inputs =
     c.in_range-ranged.ensures.counted
-    ∙ ap (λ (rs : List Bounds). in_range rs inputs) (c.as_slice.ensures.value ∙ ap (λ (f : Facts). f.input.items) c.facts.ensures) in
+    ∙ ap (λ (rs : List Bounds). in_range rs inputs) (c.as_slice.ensures ∙ ap (λ (f : Facts). f.input) c.facts.ensures) in
     let are = subst (λ (n : ℕ). AllByRecursion (AreBetween ranges) (take n inputs)) (sym is) (all-ranged ranges inputs) in
     let stretch = c.stretch-stretch.ensures.stretch c.requires.start are in
     let most = few-good case.machine (take c.in_range-ranged.result inputs) s good end stretch in
@@ -31,13 +31,13 @@ pub returns-clause-finds : goal.returns-clause-finds
 returns-clause-finds g c =
     let case = g.J.Judged.case c.args.case.now in
     let inputs = c.args.inputs.now in
-    let ranges = case.facts.input.items in
+    let ranges = case.facts.input in
     let s = state_from case c.args.start in
     let good = c.stretch-stretch.result.good in
     let end = c.stretch-stretch.result.ending in
     let is : c.in_range-ranged.result ≡ in_range ranges inputs =
     c.in_range-ranged.ensures.counted
-    ∙ ap (λ (rs : List Bounds). in_range rs inputs) (c.as_slice.ensures.value ∙ ap (λ (f : Facts). f.input.items) c.facts.ensures) in
+    ∙ ap (λ (rs : List Bounds). in_range rs inputs) (c.as_slice.ensures ∙ ap (λ (f : Facts). f.input) c.facts.ensures) in
     let are = subst (λ (n : ℕ). AllByRecursion (AreBetween ranges) (take n inputs)) (sym is) (all-ranged ranges inputs) in
     let stretch = c.stretch-stretch.ensures.stretch c.requires.start are in
     found-from case c.args.claim c.args.first s inputs good end c.shown.result
