@@ -56,7 +56,7 @@ var-found project test (var name section ty start place ∷ more) key first v is
     lead behind false false k e = behind first e
 
 -- what is found is behind the first cell
-laid-behind : (project : ProjectTree) (test : Section → Bool) (vars : List VarTree) (key : List ℕ) (first : ℕ) (laid : Laid)
+pub laid-behind : (project : ProjectTree) (test : Section → Bool) (vars : List VarTree) (key : List ℕ) (first : ℕ) (laid : Laid)
     → laid_among project test vars key first ≡ Some laid → first ≤ laid.first
 laid-behind project test [] key first laid is = absurd (none-some laid is)
 laid-behind project test (var name section ty start place ∷ more) key first laid is =

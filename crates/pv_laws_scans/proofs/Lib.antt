@@ -1,5 +1,6 @@
 pub mod Images
 pub mod Assigning
+pub mod Stored
 pub mod Passing
 pub mod Untouched
 pub mod Areas
@@ -7,6 +8,8 @@ pub mod Ends
 pub mod Stepping
 pub mod LaidOut
 pub mod Naming
+pub mod Fields
+pub mod Walked
 pub mod Tables
 pub mod Bytes
 pub mod Stopping

@@ -1,6 +1,6 @@
 -- A cell that an activation leaves has its value behind it. What statements and instructions do is handed in, as the laws of `pv_mean` say
 -- it; here are the calls.
-use Rattle.std.proofs.Common.{◌≡◌, ℕ, zero, suc, ℤ, pos, List, [], ◌∷◌, get_or, Option, Some, None, refl, subst, ◌∙◌, arith}
+use Rattle.std.proofs.Common.{◌≡◌, ℕ, zero, suc, ℤ, pos, List, [], ◌∷◌, get_or, Option, Some, None, refl, subst, ◌∙◌}
 use Rattle.std.specs.Prelude.{IfSome}
 use Rattle.std.specs.List.{AllByRecursion}
 use Rattle.pv_tree.specs.Tree.{ArgTree, OperandTree, InstrTree, StmtTrees, BodyTree, scl, stl, starts}
@@ -9,7 +9,7 @@ use Rattle.pv_tree.specs.Parts.{operand_of}
 use Rattle.pv_mean.specs.Sources.{Source}
 use Rattle.pv_mean.specs.Frames.{Frame, visible_value}
 use Rattle.pv_mean.specs.Endings.{Tried, got, trap, Ended, ended, trapped, over, Ending, normal, at_exit, at_continue, at_return, by_trap, by_over, and_then, end_of, and_end, body_end}
-use Rattle.pv_mean.specs.Spots.{visible, read_spot, write_spot}
+use Rattle.pv_mean.specs.Spots.{read_spot, write_spot}
 use Rattle.pv_mean.specs.Activations.{Activation, scope_in}
 use Rattle.pv_mean.specs.Values.{value, locate}
 use Rattle.pv_mean.specs.Statements.{Returned, Calls, run_stmts}

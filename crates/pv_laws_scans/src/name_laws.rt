@@ -1,11 +1,15 @@
 //! Which cells the declared names have.
-ghost use Rattle.std.specs.Prelude.{◌≡◌, ◌≢◌, ◌<◌, ◌≤◌, ◌+◌, ℕ, List, Contains, Bool, true, false, length, Some};
-ghost use Rattle.pv_types.specs.Tree.{VarTree};
+ghost use Rattle.std.specs.Prelude.{◌≡◌, ◌≢◌, ◌<◌, ◌≤◌, ◌+◌, ℕ, ℤ, int_le, List, Contains, Bool, true, false, length, Some};
+ghost use Rattle.pv_place.specs.declared.place.Place.{Place};
+ghost use Rattle.pv_types.specs.Tree.{TypeTree, array, VarTree};
 ghost use Rattle.pv_types.specs.View.{section_of, declared_type_of};
 ghost use Rattle.pv_tree.specs.declared.expr.Area.{Area};
-ghost use Rattle.pv_tree.specs.Tree.{OperandTree, BlockTree};
-ghost use Rattle.pv_tree.specs.Scopes.{ProjectTree, is_fb, is_const, is_of_instance, first_block, first_var};
-ghost use Rattle.pv_mean.specs.Layout.{Laid, size_among, is_db, data_type, is_brief_in, entry_size, data_size};
+ghost use Rattle.pv_tree.specs.Tree.{OperandTree, StepTrees, BlockTree};
+ghost use Rattle.pv_tree.specs.Scopes.{ProjectTree, Scope, is_fb, is_const, is_of_instance, first_block, first_var};
+ghost use Rattle.pv_tree.specs.Things.{part, field_of_type, thing_behind};
+ghost use Rattle.pv_tree.specs.Types.{are_indexed};
+ghost use Rattle.pv_tree.specs.Rules.{KeepsRules};
+ghost use Rattle.pv_mean.specs.Layout.{Laid, size_in, size_among, field_laid, element_laid, laid_behind, is_db, data_type, is_brief_in, entry_size, data_size};
 ghost use Rattle.pv_mean.specs.AreaBytes.{bytes_of};
 ghost use Rattle.pv_mean.specs.Cells.{View};
 ghost use Rattle.pv_mean.specs.Sources.{Source, source_of, byte_number};
@@ -13,7 +17,7 @@ ghost use Rattle.pv_mean.specs.Frames.{visible_len};
 ghost use Rattle.pv_mean.specs.Activations.{Activation, in_visible, in_brief, value_number, word_begins, block_begins};
 ghost use Rattle.pv_mean.specs.Scans.{entry_activation};
 ghost use Rattle.pv_laws_scans.specs.Areas.{numbers_in};
-ghost use Rattle.pv_laws_scans.specs.Naming.{LiesIn, AreApart};
+ghost use Rattle.pv_laws_scans.specs.Naming.{LiesIn, AreApart, NamesTypesOf, HasLiteralIndexes};
 
 use pv_mean::laws::tables_are_laid_out;
 
@@ -87,4 +91,35 @@ pub fn names_have_cells_of_their_own()
     ensures byte { (source : Source) (area other : Area) (n m : ℕ)
         → Contains (numbers_in source.bytes area) n → Contains (numbers_in source.bytes other) m
         → byte_number source area n ≡ byte_number source other m → (area ≡ other) × (n ≡ m) }
+{}
+
+/// A field that a structure or an instance has by types has cells of its type among those of what it
+/// is a field of, in a project that keeps the rules, whose blocks declare what they name; and so has
+/// an element of an array at an index within its bounds; so what steps with such literal indexes lead
+/// to has its cells among those of where they begin. The types of variables, of what data blocks hold
+/// and of such fields name only types that the project's blocks name.
+pub fn fields_and_elements_have_cells()
+    ensures field { (scope : Scope) (laid : Laid) (key : List ℕ) (place : Place) (ty : TypeTree)
+        → KeepsRules scope.project → NamesTypesOf scope.project laid.ty
+        → field_of_type scope laid.ty key place ≡ part ty
+        → (field : Laid) × (field_laid scope.project laid key ≡ Some field) × (field.ty ≡ ty)
+        × LiesIn scope.project laid.first (size_in scope.project laid.ty) field
+        × NamesTypesOf scope.project ty }
+    ensures element { (project : ProjectTree) (low high : ℤ) (of : TypeTree) (place : Place)
+        (first : ℕ) (i : ℤ) → int_le low i ≡ true → int_le i high ≡ true
+        → (element : Laid)
+        × (element_laid project (record { ty = array low high of place; first = first }) i
+        ≡ Some element)
+        × (element.ty ≡ of) × LiesIn project first (size_in project (array low high of place)) element }
+    ensures steps { (scope : Scope) (laid : Laid) (last : Place) (more : StepTrees) (ty : TypeTree)
+        → KeepsRules scope.project → NamesTypesOf scope.project laid.ty → HasLiteralIndexes more
+        → are_indexed scope last (part laid.ty) more ≡ true
+        → thing_behind scope last (part laid.ty) more ≡ part ty
+        → (behind : Laid) × (laid_behind scope.project (Some laid) more ≡ Some behind)
+        × (behind.ty ≡ ty) × LiesIn scope.project laid.first (size_in scope.project laid.ty) behind }
+    ensures variable { (project : ProjectTree) (block : BlockTree) (key : List ℕ) (v : VarTree)
+        → Contains project.blocks block → first_var block.vars key ≡ Some v
+        → NamesTypesOf project (declared_type_of v) }
+    ensures data { (project : ProjectTree) (block : BlockTree) → Contains project.blocks block
+        → NamesTypesOf project (data_type block) }
 {}

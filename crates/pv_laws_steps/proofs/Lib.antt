@@ -1,0 +1,4 @@
+pub mod Jumping
+pub mod Labels
+pub mod Running
+pub mod Kept

@@ -1,0 +1,12 @@
+pub mod CellTypes
+pub mod Standing
+pub mod Tables
+pub mod Locating
+pub mod Rooted
+pub mod Spotted
+pub mod Valued
+pub mod Kept
+pub mod Assigned
+pub mod Entered
+pub mod Called
+pub mod ForCallers

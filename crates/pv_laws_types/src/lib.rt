@@ -1,0 +1,6 @@
+//! Values lie in their types.
+//!
+//! The definitions stand in `specs/`; each law is the contract of a function that does nothing.
+#![tactic(auto)]
+
+pub mod laws;
