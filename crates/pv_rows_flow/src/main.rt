@@ -1,22 +1,25 @@
-//! Reads rows, each an automaton with loops and a bound, and prints what becomes of it when each turn is a copy, a line a row.
+//! Reads rows, each an automaton with loops and a bound, and prints what becomes of it when each turn is a copy, a line a row; or each the
+//! spots and loops of a layout, of which it prints the parts.
 //!
 //! The crate's README has the form of the rows.
 #![tactic(auto)]
 
+mod laying;
 mod parts;
 mod telling;
 
+use laying::layout_of;
 use parts::parts_of;
 use pv_flow::Parts;
 use pv_rows_form::{Calls, Row, Told, last, show_all};
 use pv_unroll::copy_loops;
 use std::io::{self, BufReader};
-use telling::{tell_fault, tell_parts};
+use telling::{tell_calls, tell_fault, tell_loops, tell_parts};
 
 /// What may stand at the beginning of a line that is no row.
 const NAMES: [&str; 2] = ["#", "show"];
 
-/// What answers a row: copying loops.
+/// What answers a row: copying loops, or laying spots.
 struct Copying;
 
 /// The row's field of this number as a text.
@@ -44,13 +47,31 @@ fn tell_row(numbers: &str, loops: &str, edges: &str, ends: &str, whole: bool, to
     }
 }
 
+/// Tells the parts of a layout of these texts.
+fn tell_layout(done: &str, loops: &str, spots: &str, told: &mut Told) {
+    match layout_of(told.alloc(), done, loops, spots) {
+        Ok(parts) => {
+            tell_parts(&parts, true, told);
+            tell_loops(parts.loops.as_slice(), told);
+            tell_calls(parts.calls.as_slice(), told);
+            drop(parts);
+        }
+        Err(_) => told.lose(),
+    }
+}
+
 impl Calls for Copying {
     fn answer(&self, row: Row<'_>, told: &mut Told) {
         let numbers = said(row, 0, told);
         let loops = said(row, 1, told);
         let edges = said(row, 2, told);
         let ends = said(row, 3, told);
-        let whole = last(row.head, "show") == Some("edges");
+        let shown = last(row.head, "show");
+        if shown == Some("layout") {
+            tell_layout(numbers.as_str(), loops.as_str(), edges.as_str(), told);
+            return;
+        }
+        let whole = shown == Some("edges");
         tell_row(
             numbers.as_str(),
             loops.as_str(),

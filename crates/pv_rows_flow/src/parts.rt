@@ -5,7 +5,7 @@ use pv_place::{Place, TrapKind};
 use std::alloc::{AllocError, Global};
 
 /// The number of the word that stands there, or 0.
-fn number_at(said: &str, at: usize) -> u32 {
+pub fn number_at(said: &str, at: usize) -> u32 {
     for (i, word) in said.split(' ').enumerate() {
         if i == at {
             return word.parse::<u32>().unwrap_or(0);
@@ -15,7 +15,7 @@ fn number_at(said: &str, at: usize) -> u32 {
 }
 
 /// A place that tells what it is of.
-fn place_of(number: u32) -> Place {
+pub fn place_of(number: u32) -> Place {
     Place {
         file: 0,
         offset: number,

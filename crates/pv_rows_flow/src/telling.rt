@@ -1,6 +1,6 @@
 //! What is told of copies.
 
-use pv_flow::{Edge, OverEnd, Parts, TrapEnd};
+use pv_flow::{CallEdge, Edge, Loop, OverEnd, Parts, TrapEnd};
 use pv_rows_form::Told;
 use pv_unroll::TooLarge;
 
@@ -53,6 +53,39 @@ pub fn tell_parts(parts: &Parts, whole: bool, told: &mut Told) {
     told.text(" locations");
     if whole {
         tell_lists(parts, told);
+    }
+}
+
+fn tell_turns(turns: &[u32], told: &mut Told) {
+    for turn in turns {
+        told.text(" ");
+        told.number(*turn as i128);
+    }
+}
+
+/// The loops with their turn edges.
+pub fn tell_loops(loops: &[Loop], told: &mut Told) {
+    told.text("; loops");
+    for one in loops {
+        told.text(" ");
+        told.number(one.first as i128);
+        told.text("-");
+        told.number(one.last as i128);
+        told.text(":");
+        tell_turns(one.turns.as_slice(), told);
+    }
+}
+
+/// The call edges with their blocks.
+pub fn tell_calls(calls: &[CallEdge], told: &mut Told) {
+    told.text("; calls");
+    for call in calls {
+        told.text(" ");
+        told.number(call.from as i128);
+        told.text(">");
+        told.number(call.to as i128);
+        told.text("/");
+        told.number(call.block as i128);
     }
 }
 

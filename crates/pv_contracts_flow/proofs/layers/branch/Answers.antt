@@ -1,0 +1,7 @@
+use Rattle.pv_contracts_flow.proofs.layers.branch.Goals as goal
+
+pub returns-clause-terms : goal.returns-clause-terms
+returns-clause-terms c = c.branch-layer.ensures.terms
+
+pub returns-clause-stands : goal.returns-clause-stands
+returns-clause-stands c = c.branch-layer.ensures.stands

@@ -1,0 +1,11 @@
+pub mod Appended
+pub mod Guarded
+pub mod Edged
+pub mod Opened
+pub mod Turned
+pub mod Pushed
+pub mod Acted
+pub mod Branched
+pub mod Entered
+pub mod Layers
+pub mod Finished

@@ -1,0 +1,3 @@
+pub mod Making
+pub mod Standing
+pub mod Finished
