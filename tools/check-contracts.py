@@ -27,7 +27,7 @@ EQUATIONS = {"Finds", "Gives", "Leaves", "Pops"}
 
 NEAREST = "its clause is that of `wrong_condition`, the nearest place of a rule; `check` of pv_rules, which is tested, is proved from it"
 READING = "`parse` of pv_scl_parse and of pv_stl_parse and `expression`, which are tested, say the same of their languages and are proved from it"
-COPYING = "it says by equations what stands in the vector after the call, or what each field of the answer is; no crate calls it yet"
+COPYING = "it says by equations what stands in the vector after the call, or what each field of the answer is; `inline` of pv_inline, which is tested, is proved from it"
 LEARNING = "`solve` of pv_solver, which is tested, is proved from it"
 EXCEPTIONS = {
     "pv_call_terms::Places::of_callee": COPYING,

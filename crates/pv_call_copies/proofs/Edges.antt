@@ -18,11 +18,11 @@ use Rattle.pv_call_copies.proofs.Levels.{IsCalled, is_run, found_called, size_is
 use Rattle.pv_call_copies.proofs.Counting.{summed, summed_alike, summed_plus, summed_one, summed_edges, summed_calls, first_call, no_calls, ends_are_ends}
 
 -- how many edges lead out
-abbrev outs : Option Aim → ℕ
-outs None = 0
-outs (Some aim) = 1
+abbrev pub outs_of : Option Aim → ℕ
+outs_of None = 0
+outs_of (Some aim) = 1
 
-outs_long : (out : Option Aim) (here : ℕ) → length (edges_out out here) ≡ outs out
+pub outs_long : (out : Option Aim) (here : ℕ) → length (edges_out out here) ≡ outs_of out
 outs_long None here = refl
 outs_long (Some aim) here = refl
 
@@ -117,13 +117,13 @@ alone sizes p out l c n w off at e =
 -- the copy of a called block leads out
 abbrev HasSizes : Blocks → (ℕ → ℕ) → (ℕ → Body → List Drawn) → ℕ → Type 0
 HasSizes blocks sizes inner c =
-    (body : Body) → block_at blocks c ≡ Some body.work.parts → length (inner c body) ≡ sizes c + outs body.out
+    (body : Body) → block_at blocks c ≡ Some body.work.parts → length (inner c body) ≡ sizes c + outs_of body.out
 
 drawn_here : (blocks : Blocks) (sizes : ℕ → ℕ) (inner : ℕ → Body → List Drawn) (body : Body) (l : ℕ)
     → IsWellMade body.work.parts
     → ((c : ℕ) → IsCalled body.work.parts.calls c → HasSizes blocks sizes inner c)
     → ((c : ℕ) → IsCalled body.work.parts.calls c → block_at blocks c ≡ None → ⊥)
-    → length (drawn_by blocks inner body l (end_at body.work.parts l)) ≡ counted sizes body.work.parts (outs body.out) l
+    → length (drawn_by blocks inner body l (end_at body.work.parts l)) ≡ counted sizes body.work.parts (outs_of body.out) l
 drawn_here blocks sizes inner body l w sized there = by (body.work.parts.done == l) refl
   where
     p : Parts
@@ -139,33 +139,33 @@ drawn_here blocks sizes inner body l w sized there = by (body.work.parts.done ==
     is_rest off = ap (λ (b : Bool). cond b (Some done) rest) off
 
     called : (p.done == l) ≡ false → (c : Numbered) → call_from l 0 p.calls ≡ Some c → (o : Option Parts) → block_at blocks c.call.block ≡ o
-        → length (drawn_call blocks inner body l c o) ≡ counted sizes p (outs body.out) l
+        → length (drawn_call blocks inner body l c o) ≡ counted sizes p (outs_of body.out) l
     called off c at None e = absurd (there c.call.block (found_called l 0 p.calls c at) e)
-    called off c at (Some q) e = alone sizes p (outs body.out) l c (length (drawn_call blocks inner body l c (Some q))) w off at
+    called off c at (Some q) e = alone sizes p (outs_of body.out) l c (length (drawn_call blocks inner body l c (Some q))) w off at
         (ap suc (sized c.call.block (found_called l 0 p.calls c at) (callee_body blocks body l c q) e))
 
     from : (p.done == l) ≡ false → (o : Option Numbered) → call_from l 0 p.calls ≡ o
-        → length (drawn_from blocks inner body l o) ≡ counted sizes p (outs body.out) l
+        → length (drawn_from blocks inner body l o) ≡ counted sizes p (outs_of body.out) l
     from off None at = length-map (edges_from l p.edges) (drawn_edge blocks body)
-        ∙ total (length (edges_from l p.edges)) (size_by_calls sizes (calls_from l p.calls)) (cond (p.done == l) (outs body.out) 0)
+        ∙ total (length (edges_from l p.edges)) (size_by_calls sizes (calls_from l p.calls)) (cond (p.done == l) (outs_of body.out) 0)
         (ap (λ (calls : List CallEdge). size_by_calls sizes calls) (no_calls l 0 p.calls at))
-        (ap (λ (b : Bool). cond b (outs body.out) 0) off)
+        (ap (λ (b : Bool). cond b (outs_of body.out) 0) off)
       where
         total : (a b c : ℕ) → b ≡ 0 → c ≡ 0 → a ≡ a + (b + c)
         total a b c f g = omega (arith, f, g)
     from off (Some c) at = called off c at (block_at blocks c.call.block) refl
 
-    otherwise : (p.done == l) ≡ false → (end : Option End) → rest ≡ end → long end ≡ counted sizes p (outs body.out) l
+    otherwise : (p.done == l) ≡ false → (end : Option End) → rest ≡ end → long end ≡ counted sizes p (outs_of body.out) l
     otherwise off None e = from off (call_from l 0 p.calls) refl
     otherwise off (Some done) e = absurd (not_done l p.traps p.overs (trap_at l p.traps) refl e)
     otherwise off (Some (trap kind place)) e =
-        nothing_else sizes p (outs body.out) l false 0 w (ends_are_ends p l (trap kind place) (is_rest off ∙ e)) off refl
+        nothing_else sizes p (outs_of body.out) l false 0 w (ends_are_ends p l (trap kind place) (is_rest off ∙ e)) off refl
     otherwise off (Some (over place)) e =
-        nothing_else sizes p (outs body.out) l false 0 w (ends_are_ends p l (over place) (is_rest off ∙ e)) off refl
+        nothing_else sizes p (outs_of body.out) l false 0 w (ends_are_ends p l (over place) (is_rest off ∙ e)) off refl
 
-    by : (b : Bool) → (p.done == l) ≡ b → long (end_at p l) ≡ counted sizes p (outs body.out) l
+    by : (b : Bool) → (p.done == l) ≡ b → long (end_at p l) ≡ counted sizes p (outs_of body.out) l
     by true on = ap long (ap (λ (b : Bool). cond b (Some done) rest) on)
-        ∙ nothing_else sizes p (outs body.out) l true (long (Some done)) w
+        ∙ nothing_else sizes p (outs_of body.out) l true (long (Some done)) w
         (ends_are_ends p l done (ap (λ (b : Bool). cond b (Some done) rest) on)) on (outs_long body.out (number_in blocks body l))
     by false off = ap long (is_rest off) ∙ otherwise off rest refl
 
@@ -218,15 +218,15 @@ pub block_sums : (blocks : Blocks) (sizes : ℕ → ℕ) (inner : ℕ → Body �
     → ((c : ℕ) → IsCalled body.work.parts.calls c → HasSizes blocks sizes inner c)
     → ((c : ℕ) → IsCalled body.work.parts.calls c → block_at blocks c ≡ None → ⊥)
     → length (drawn_below blocks inner body body.work.parts.locations)
-    ≡ (length body.work.parts.edges + size_by_calls sizes body.work.parts.calls) + outs body.out
+    ≡ (length body.work.parts.edges + size_by_calls sizes body.work.parts.calls) + outs_of body.out
 block_sums blocks sizes inner body f w sized there =
     below_sums blocks inner body n
-    ∙ (summed_alike (λ l. length (drawn_by blocks inner body l (end_at p l))) (λ l. counted sizes p (outs body.out) l) n
+    ∙ (summed_alike (λ l. length (drawn_by blocks inner body l (end_at p l))) (λ l. counted sizes p (outs_of body.out) l) n
     (λ l lt. drawn_here blocks sizes inner body l w sized there)
-    ∙ (summed_plus (λ l. length (edges_from l p.edges)) (λ l. size_by_calls sizes (calls_from l p.calls) + cond (p.done == l) (outs body.out) 0) n
+    ∙ (summed_plus (λ l. length (edges_from l p.edges)) (λ l. size_by_calls sizes (calls_from l p.calls) + cond (p.done == l) (outs_of body.out) 0) n
     ∙ all (summed_edges n p.edges below.edges)
-    (summed_plus (λ l. size_by_calls sizes (calls_from l p.calls)) (λ l. cond (p.done == l) (outs body.out) 0) n)
-    (summed_calls sizes n p.calls below.calls) (summed_one p.done (outs body.out) n below.is_done)))
+    (summed_plus (λ l. size_by_calls sizes (calls_from l p.calls)) (λ l. cond (p.done == l) (outs_of body.out) 0) n)
+    (summed_calls sizes n p.calls below.calls) (summed_one p.done (outs_of body.out) n below.is_done)))
   where
     p : Parts
     p = body.work.parts
@@ -266,7 +266,7 @@ pub sound_at : (blocks : Blocks) → AreSound blocks → (b : ℕ) (p : Parts) �
 sound_at blocks sound b p at = subst (λ (o : Option Parts). IfSome o IsSound) at (sound b)
 
 -- the copy of a block, in the order of calls
-copy_long : (blocks : Blocks) → AreFitting blocks → AreSound blocks → (b : ℕ) → HasSizes blocks (inlined_size blocks) (drawn blocks) b
+pub copy_long : (blocks : Blocks) → AreFitting blocks → AreSound blocks → (b : ℕ) → HasSizes blocks (inlined_size blocks) (drawn blocks) b
 copy_long blocks fit sound b =
     deep (λ n c. HasSizes blocks (inlined_size blocks) (drawn blocks) c) blocks fit
     (λ n c none body at. absurd (none-some body.work.parts (sym none ∙ at))) step b
@@ -279,7 +279,7 @@ copy_long blocks fit sound b =
         ap (λ (ds : List Drawn). length ds) (drawn_is blocks fit c body at)
         ∙ (block_sums blocks (inlined_size blocks) (drawn blocks) body s.faultless s.well_made
         (λ d any. below d (is_run blocks c body.work.parts at d any)) (there_of blocks fit c body.work.parts at)
-        ∙ ap (λ (m : ℕ). m + outs body.out)
+        ∙ ap (λ (m : ℕ). m + outs_of body.out)
         (sym (size_is blocks fit c ∙ ap (λ (o : Option Parts). size_in (inlined_size blocks) o) at)))
 
 pub edges_long : (next : ℕ) (ds : List Drawn) → length (edges_of next ds) ≡ length ds

@@ -131,7 +131,7 @@ copies_ordered place m k (n ∷ nodes) ordered =
     next : (m k : ℕ) → m + suc k ≡ suc (m + k)
     next m k = omega arith
 
-ordered_joined : (k : ℕ) (a b : List Node) → are_ordered k a ≡ true → are_ordered (k + length a) b ≡ true → are_ordered k (a ++ b) ≡ true
+pub ordered_joined : (k : ℕ) (a b : List Node) → are_ordered k a ≡ true → are_ordered (k + length a) b ≡ true → are_ordered k (a ++ b) ≡ true
 ordered_joined k [] b first rest = subst (λ (i : ℕ). are_ordered i b ≡ true) (none k) rest
   where
     none : (k : ℕ) → k + 0 ≡ k

@@ -19,28 +19,28 @@ use Rattle.pv_call_terms.proofs.Copied.{operand_copied}
 
 -- ---- what deeds mean, by what is seen of them
 
-abbrev plain_guard : List Term → Option Plain → Term
+abbrev pub plain_guard : List Term → Option Plain → Term
 plain_guard terms None = false_term
 plain_guard terms (Some deed) = term_at terms deed.guard
 
-abbrev plain_sets : List Term → Option Plain → List Set
+abbrev pub plain_sets : List Term → Option Plain → List Set
 plain_sets terms None = []
 plain_sets terms (Some deed) = map (set_of terms) deed.sets
 
-abbrev seen_in : Option Deed → Option Plain
+abbrev pub seen_in : Option Deed → Option Plain
 seen_in None = None
 seen_in (Some deed) = Some (deed_seen deed)
 
-seen_at : (deeds : List Deed) (n : ℕ) → seen_in (slice_get deeds n) ≡ slice_get (map deed_seen deeds) n
+pub seen_at : (deeds : List Deed) (n : ℕ) → seen_in (slice_get deeds n) ≡ slice_get (map deed_seen deeds) n
 seen_at [] n = refl
 seen_at (deed ∷ deeds) zero = refl
 seen_at (deed ∷ deeds) (suc n) = seen_at deeds n
 
-guard_seen : (terms : List Term) (o : Option Deed) → guard_of terms o ≡ plain_guard terms (seen_in o)
+pub guard_seen : (terms : List Term) (o : Option Deed) → guard_of terms o ≡ plain_guard terms (seen_in o)
 guard_seen terms None = refl
 guard_seen terms (Some deed) = refl
 
-sets_seen : (terms : List Term) (o : Option Deed) → sets_of terms o ≡ plain_sets terms (seen_in o)
+pub sets_seen : (terms : List Term) (o : Option Deed) → sets_of terms o ≡ plain_sets terms (seen_in o)
 sets_seen terms None = refl
 sets_seen terms (Some deed) = refl
 
@@ -85,7 +85,7 @@ none_below n h = absurd (omega (arith, h))
 before_last : (n k : ℕ) → suc n < suc k → n < k
 before_last n k h = omega (arith, h)
 
-guards_mean : (place : ℕ → ℕ) (old block : List Term) (m : ℕ) (deeds : List Deed) (n : ℕ) → m ≡ length old → m + length block ≤ MOST
+pub guards_mean : (place : ℕ → ℕ) (old block : List Term) (m : ℕ) (deeds : List Deed) (n : ℕ) → m ≡ length old → m + length block ≤ MOST
     → list_all (has_terms (length block)) deeds ≡ true → n < length deeds
     → plain_guard (old ++ map (renamed place) block) (slice_get (map (deed_at place m) (map deed_seen deeds)) n)
     ≡ renamed place (guard_of block (slice_get deeds n))
@@ -98,7 +98,7 @@ guards_mean place old block m (deed ∷ deeds) (suc n) is most has lt =
     let both = and_parts (has_terms (length block) deed) (list_all (has_terms (length block)) deeds) has in
     guards_mean place old block m deeds n is most both.1 (before_last n (length deeds) lt)
 
-sets_mean : (place : ℕ → ℕ) (old block : List Term) (m : ℕ) (deeds : List Deed) (n : ℕ) → m ≡ length old → m + length block ≤ MOST
+pub sets_mean : (place : ℕ → ℕ) (old block : List Term) (m : ℕ) (deeds : List Deed) (n : ℕ) → m ≡ length old → m + length block ≤ MOST
     → list_all (has_terms (length block)) deeds ≡ true → n < length deeds
     → plain_sets (old ++ map (renamed place) block) (slice_get (map (deed_at place m) (map deed_seen deeds)) n)
     ≡ renamed_sets place (sets_of block (slice_get deeds n))
@@ -123,13 +123,13 @@ deeds_are_copied place old block before deeds all n has most lt are = (
 
 -- ---- numbers of terms
 
-abbrev values_below : ℕ → List CodeSet → Bool
+abbrev pub values_below : ℕ → List CodeSet → Bool
 values_below k sets = list_all (λ (set : CodeSet). nat_lt set.value k) sets
 
-abbrev plain_has : ℕ → Plain → Bool
+abbrev pub plain_has : ℕ → Plain → Bool
 plain_has k deed = nat_lt deed.guard k && values_below k deed.sets
 
-all_seen : (k : ℕ) (deeds : List Deed) → list_all (has_terms k) deeds ≡ list_all (plain_has k) (map deed_seen deeds)
+pub all_seen : (k : ℕ) (deeds : List Deed) → list_all (has_terms k) deeds ≡ list_all (plain_has k) (map deed_seen deeds)
 all_seen k [] = refl
 all_seen k (deed ∷ deeds) = ap (λ (b : Bool). has_terms k deed && b) (all_seen k deeds)
 
@@ -162,7 +162,7 @@ values_later place m k (set ∷ sets) has =
     and_from (nat_lt (narrow (m + set.value)) (m + k)) (values_below (m + k) (map (set_at place m) sets)) (later m set.value k both.0)
     (values_later place m k sets both.1)
 
-all_later : (place : ℕ → ℕ) (m k : ℕ) (deeds : List Plain) → list_all (plain_has k) deeds ≡ true
+pub all_later : (place : ℕ → ℕ) (m k : ℕ) (deeds : List Plain) → list_all (plain_has k) deeds ≡ true
     → list_all (plain_has (m + k)) (map (deed_at place m) deeds) ≡ true
 all_later place m k [] has = refl
 all_later place m k (deed ∷ deeds) has =

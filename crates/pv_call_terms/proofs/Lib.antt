@@ -1,3 +1,4 @@
+pub mod ForCallers
 pub mod Small
 pub mod Lying
 pub mod Copied

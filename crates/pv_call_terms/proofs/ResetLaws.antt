@@ -42,7 +42,7 @@ sets_of_table terms sets = map (set_of terms) sets
 
 -- one variable, by whether it begins anew, and those after it
 sets_step : (p : Parts) (own : ℕ → ℕ) (place : ℕ → ℕ) (x : ℕ) (v : CodeVariable) (vars : List CodeVariable) (terms : List Term) (b : Bool)
-    (rest : List Term) → place x ≡ own x → length terms + 1 ≤ MOST
+    (rest : List Term) → place x ≡ own x → length terms + length (terms_by b v) ≤ MOST
     → ((ts : List Term) → ts ≡ terms ++ terms_by b v → sets_of_table (ts ++ rest) (reset_sets place p.bound p.shared (length ts) (suc x) vars)
     ≡ resets_from p own (suc x) (map variable_of vars))
     → sets_of_table (terms ++ (terms_by b v ++ rest))
@@ -79,27 +79,46 @@ sets_step p own place x v vars terms false rest same most go =
     none : (n : ℕ) → n + 0 ≡ n
     none n = omega arith
 
-by_long : (b : Bool) (v : CodeVariable) → length (terms_by b v) ≤ 1
-by_long true v = omega arith
-by_long false v = omega arith
-
 sets_from : (p : Parts) (own place : ℕ → ℕ) (x : ℕ) (vars : List CodeVariable) (terms : List Term)
-    → ((y : ℕ) → y < x + length vars → place y ≡ own y) → length terms + length vars ≤ MOST
+    → ((y : ℕ) → y < x + length vars → place y ≡ own y) → length terms + length (reset_terms p.bound p.shared x vars) ≤ MOST
     → sets_of_table (terms ++ reset_terms p.bound p.shared x vars) (reset_sets place p.bound p.shared (length terms) x vars)
     ≡ resets_from p own x (map variable_of vars)
 sets_from p own place x [] terms same most = refl
 sets_from p own place x (v ∷ vars) terms same most =
     sets_step p own place x v vars terms (anew p.bound p.shared x v.role) (reset_terms p.bound p.shared (suc x) vars)
-    (same x (omega arith)) (omega (arith, most))
+    (same x (omega arith)) (first_part (length terms) (length (terms_by (anew p.bound p.shared x v.role) v))
+    (length (reset_terms p.bound p.shared (suc x) vars)) MOST room)
     (λ ts is. sets_from p own place (suc x) vars ts (λ y lt. same y (omega (arith, lt)))
     (enough ts is))
   where
-    enough : (ts : List Term) → ts ≡ terms ++ terms_by (anew p.bound p.shared x v.role) v → length ts + length vars ≤ MOST
-    enough ts is =
-        let long : length ts ≡ length terms + length (terms_by (anew p.bound p.shared x v.role) v) =
-        ap (λ (zs : List Term). length zs) is ∙ length-append terms (terms_by (anew p.bound p.shared x v.role) v) in
-        let one = by_long (anew p.bound p.shared x v.role) v in
-        omega (arith, long, one, most)
+    first_part : (a t r m : ℕ) → a + (t + r) ≤ m → a + t ≤ m
+    first_part a t r m le = omega (arith, le)
+
+    rest_too : (n a t r m : ℕ) → n ≡ a + t → a + (t + r) ≤ m → n + r ≤ m
+    rest_too n a t r m e le = omega (arith, e, le)
+
+    room : length terms + (length (terms_by (anew p.bound p.shared x v.role) v) + length (reset_terms p.bound p.shared (suc x) vars)) ≤ MOST
+    room = subst (λ (n : ℕ). length terms + n ≤ MOST)
+        (length-append (terms_by (anew p.bound p.shared x v.role) v) (reset_terms p.bound p.shared (suc x) vars)) most
+
+    enough : (ts : List Term) → ts ≡ terms ++ terms_by (anew p.bound p.shared x v.role) v
+        → length ts + length (reset_terms p.bound p.shared (suc x) vars) ≤ MOST
+    enough ts is = rest_too (length ts) (length terms) (length (terms_by (anew p.bound p.shared x v.role) v))
+        (length (reset_terms p.bound p.shared (suc x) vars)) MOST
+        (ap (λ (zs : List Term). length zs) is ∙ length-append terms (terms_by (anew p.bound p.shared x v.role) v)) room
+
+-- a term for each node
+as_many : (bound shared x : ℕ) (vars : List CodeVariable) → length (reset_terms bound shared x vars) ≡ length (reset_nodes bound shared x vars)
+as_many bound shared x [] = refl
+as_many bound shared x (v ∷ vars) =
+    length-append (terms_by (anew bound shared x v.role) v) (reset_terms bound shared (suc x) vars)
+    ∙ ap (λ (n : ℕ). length (terms_by (anew bound shared x v.role) v) + n) (as_many bound shared (suc x) vars)
+    ∙ ap (λ (n : ℕ). n + length (reset_nodes bound shared (suc x) vars)) (one (anew bound shared x v.role))
+    ∙ sym (length-append (nodes_by (anew bound shared x v.role) v) (reset_nodes bound shared (suc x) vars))
+  where
+    one : (b : Bool) → length (terms_by b v) ≡ length (nodes_by b v)
+    one true = refl
+    one false = refl
 
 pub resets_are_made : ResetsAreMade
 resets_are_made k place old vars seen same most =
@@ -109,5 +128,6 @@ resets_are_made k place old vars seen same most =
     ∙ ap (λ (n : ℕ). sets_of_table (terms_of old ++ reset_terms k.parts.bound k.parts.shared 0 vars)
     (reset_sets place k.parts.bound k.parts.shared n 0 vars)) (sym (terms_count old))
     ∙ sets_from k.parts k.place place 0 vars (terms_of old) (λ y lt. same y (omega (arith, lt)))
-    (subst (λ (n : ℕ). n + length vars ≤ MOST) (sym (terms_count old)) most)
+    (subst (λ (n : ℕ). n + length (reset_terms k.parts.bound k.parts.shared 0 vars) ≤ MOST) (sym (terms_count old))
+    (subst (λ (n : ℕ). length old + n ≤ MOST) (sym (as_many k.parts.bound k.parts.shared 0 vars)) most))
     ∙ ap (λ (vs : List Variable). resets_from k.parts k.place 0 vs) seen

@@ -72,6 +72,6 @@ DeedsStayTabled = (place : ℕ → ℕ) (old block : ℕ) (before deeds all : Li
 -- what is set there is what the call begins with, where variables lie as they do in the block at work
 abbrev pub ResetsAreMade : Type 0
 ResetsAreMade = (k : Work) (place : ℕ → ℕ) (old : List Node) (vars : List Variable) → map variable_of vars ≡ k.parts.vars
-    → ((x : ℕ) → x < length vars → place x ≡ k.place x) → length old + length vars ≤ MOST
+    → ((x : ℕ) → x < length vars → place x ≡ k.place x) → length old + length (reset_nodes k.parts.bound k.parts.shared 0 vars) ≤ MOST
     → map (set_of (terms_of (old ++ reset_nodes k.parts.bound k.parts.shared 0 vars)))
     (reset_sets place k.parts.bound k.parts.shared (length old) 0 vars) ≡ resets k

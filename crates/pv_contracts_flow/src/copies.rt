@@ -1,11 +1,16 @@
-//! The calls that count copies of called blocks.
-ghost use Rattle.std.specs.Prelude.{IfOk, IfErr};
+//! The calls that make copies of called blocks, and count them.
+ghost use Rattle.std.specs.Prelude.{◌<◌, ◌≤◌, IfOk, IfErr, OnOk};
+ghost use Rattle.pv_flow.specs.Calls.{block_at};
+ghost use Rattle.pv_flow.specs.Fitting.{AreFitting};
+ghost use Rattle.pv_call_copies.specs.Inlined.{inlined_size};
 ghost use Rattle.pv_inline.specs.Blocks.{blocks_of};
 ghost use Rattle.pv_inline.specs.Correct.{IsSizeOf, IsTooLarge};
+ghost use Rattle.pv_inline.specs.Inlining.{IsThere, IsInlinedAs, HasTheMachine, IsTooMany};
+ghost use Rattle.pv_inline.specs.declared.fault.TheConstants.{MAX_EDGES};
 ghost use Rattle.pv_contracts_flow.specs.Rows.{IsOneCall};
 
 use crate::parts::bare;
-use pv_flow::{Automaton, CallEdge, Parts};
+use pv_flow::{Automaton, CallEdge, Inlined, Parts};
 use pv_inline::TooLarge;
 use pv_place::Place;
 use std::alloc::{AllocError, Global};
@@ -16,6 +21,24 @@ pub fn inlined_size(blocks: &[Option<Automaton>], entry: u32) -> Result<u64, Too
     ensures large { IfErr result (IsTooLarge (blocks_of blocks.now) entry) }
 {
     pv_inline::inlined_size(blocks, entry)
+}
+
+/// [`pv_inline::inline`].
+pub fn inline(
+    alloc: Global,
+    blocks: &[Option<Automaton>],
+    entry: u32,
+    bound: u32,
+) -> Result<Inlined, TooLarge>
+    requires fitting { AreFitting (blocks_of blocks.now) }
+    requires entry { IsThere (block_at (blocks_of blocks.now) entry) }
+    requires bound { 0 < bound }
+    ensures copies { IfOk result (IsInlinedAs (blocks_of blocks.now) entry bound) }
+    ensures machine { IfOk result (HasTheMachine (blocks_of blocks.now) entry bound) }
+    ensures fits { OnOk result (inlined_size (blocks_of blocks.now) entry ≤ MAX_EDGES) }
+    ensures large { IfErr result (IsTooMany (blocks_of blocks.now) entry) }
+{
+    pv_inline::inline(alloc, blocks, entry, bound)
 }
 
 /// Two locations, and a call edge from the one to the other, which runs block 0.

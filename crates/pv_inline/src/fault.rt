@@ -1,5 +1,6 @@
 //! Why calls can't be copied.
 
+use std::alloc::AllocError;
 use thiserror::Error;
 
 /// The greatest number of edges that an automaton with copies may have.
@@ -16,4 +17,18 @@ pub enum TooLarge {
     /// The automaton with copies would have more than [`MAX_EDGES`] edges.
     #[error("an automaton would have too many edges")]
     Edges,
+    /// The allocator has no memory left.
+    #[error("out of memory")]
+    NoMemory,
+}
+
+impl From<AllocError> for TooLarge {
+    ghost use Rattle.std.specs.Prelude.{◌≡◌};
+    ghost use Rattle.pv_inline.specs.declared.fault.TooLarge.TheVariants.{NoMemory};
+
+    ghost from_gives = { λ _ fault. fault ≡ NoMemory };
+
+    fn from(_: AllocError) -> TooLarge {
+        TooLarge::NoMemory
+    }
 }

@@ -1,14 +1,18 @@
 //! How many edges there are once calls are copied, before anything is.
-ghost use Rattle.std.specs.Prelude.{◌≡◌, ◌+◌, ◌<◌, ◌≤◌, map, length, MatchOption, IfOk, IfErr, None, Some};
+ghost use Rattle.std.specs.Prelude.{◌≡◌, ◌+◌, ◌<◌, ◌≤◌, map, length, MatchOption, IfOk, OnOk, IfErr, None, Some};
 ghost use Rattle.pv_flow.specs.AutomatonView.{automaton_of};
 ghost use Rattle.pv_flow.specs.Calls.{block_at};
 ghost use Rattle.pv_flow.specs.View.{call_edge_of};
 ghost use Rattle.pv_inline.specs.Blocks.{blocks_of};
 ghost use Rattle.pv_inline.specs.Counts.{capped, size_after, calls_after};
+ghost use Rattle.pv_inline.specs.Tables.{copy_size};
+ghost use Rattle.pv_inline.specs.declared.fault.TheConstants.{BEYOND};
 ghost use Rattle.pv_inline.specs.Correct.{IsWithin, IsOver, IsSizeOf, IsTooLarge};
 
 use crate::fault::{BEYOND, MAX_EDGES, TooLarge};
+use pv_call_tables::add;
 use pv_flow::{Automaton, CallEdge};
+use std::alloc::AllocError;
 
 /// The number, as far as is counted.
 fn capped(n: u64) -> u64
@@ -69,6 +73,26 @@ fn calls_after(blocks: &[Option<Automaton>], levels: usize, calls: &[CallEdge], 
         all = size_after(blocks, levels, call.block, both);
     }
     capped(all)
+}
+
+/// A number of edges that was counted to its end.
+fn counted(size: u64) -> Result<u32, AllocError>
+    ensures number { IfOk result (λ n. n ≡ size) }
+    ensures few { OnOk result (size < BEYOND) }
+{
+    if size >= BEYOND {
+        Err(AllocError)
+    } else {
+        Ok(size as u32)
+    }
+}
+
+/// How many edges the copy of a called block has, that out included; more than there may be count as wanting memory.
+pub(crate) fn copy_size(blocks: &[Option<Automaton>], block: u32) -> Result<u32, AllocError>
+    ensures { IfOk result (λ n. n ≡ copy_size (blocks_of blocks.now) block) }
+{
+    let size = counted(size_after(blocks, blocks.len(), block, 0))?;
+    add(size, 1)
 }
 
 /// The number of edges, if there may be so many.

@@ -1,0 +1,7 @@
+pub mod ForCallers
+pub mod Lists
+pub mod Locations
+pub mod ChainLaws
+pub mod RankLaws
+pub mod SumLaws
+pub mod DrawLaws

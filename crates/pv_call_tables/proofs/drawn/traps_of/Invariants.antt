@@ -1,0 +1,6 @@
+use Rattle.std.proofs.Common.{◌≡◌, ◌++◌, drop}
+use Rattle.pv_call_tables.specs.Drawing.{traps_by}
+use Rattle.pv_call_tables.proofs.drawn.traps_of.Given as goal
+
+abbrev pub invariant-loop-d : goal.invariant-loop-d
+invariant-loop-d l = l.made.items ++ traps_by l.next (drop l.d-index l.drawn) ≡ traps_by l.first l.drawn

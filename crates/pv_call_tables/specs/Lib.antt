@@ -1,0 +1,9 @@
+-- what public clauses cite
+pub mod Numbers
+pub mod Standings
+pub mod Known
+pub mod Chains
+pub mod Seen
+pub mod Ranks
+pub mod Widths
+pub mod Drawing

@@ -1,0 +1,7 @@
+use Rattle.std.proofs.Common.{◌≡◌, ◌++◌, map, take}
+use Rattle.pv_flow.specs.View.{variable_of}
+use Rattle.pv_call_copies.specs.Inlined.{own_variable}
+use Rattle.pv_inline.proofs.variables.add_own.Given as goal
+
+abbrev pub invariant-loop-v : goal.invariant-loop-v
+invariant-loop-v l = map variable_of l.vars.items ≡ map variable_of l.fn.vars.items ++ map own_variable (map variable_of (take l.v-index l.own))

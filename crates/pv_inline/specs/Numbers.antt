@@ -1,0 +1,6 @@
+-- Numbers of 32 bits.
+use Rattle.std.specs.Prelude.{ℕ}
+
+-- the greatest
+abbrev pub MOST : ℕ
+MOST = 4294967295
