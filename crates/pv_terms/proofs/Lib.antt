@@ -1,0 +1,5 @@
+mod Pushing
+mod Constants
+mod Givens
+mod Values
+pub mod ForCallers

@@ -1,0 +1,11 @@
+use Rattle.std.proofs.lemmas.Result.{IfOk-weaker}
+use Rattle.pv_terms.proofs.Pushing.{keeps, grows_then, puts_then}
+use Rattle.pv_terms.proofs.Givens.{givens_keep}
+use Rattle.pv_terms.proofs.function.push_limit.Goals as goal
+
+pub returns : goal.returns
+returns c = λ ts table are.
+    let x = c.in_ok-greater.ensures ts table are in
+    let y = c.in_ok-most.ensures ts x.grows.table (givens_keep _ _ c.args.args.now ts x.grows are) in
+    IfOk-weaker c.push_lesser.result _ _ (λ n z. puts_then _ _ _ n _ (grows_then _ _ _ x.grows y.grows) z)
+    (c.push_lesser.ensures _ _ y.grows.table y.at (keeps _ _ _ _ y.grows x.at))

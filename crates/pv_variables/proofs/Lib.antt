@@ -1,0 +1,9 @@
+mod Placing
+mod Told
+mod Moving
+mod Counted
+mod Bounds
+mod Apart
+mod Numbering
+mod Filling
+mod Finding

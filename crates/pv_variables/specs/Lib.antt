@@ -1,0 +1,6 @@
+-- what public clauses cite
+pub mod Origins
+pub mod Variables
+pub mod Begun
+pub mod Numbered
+pub mod Correct
