@@ -10,7 +10,7 @@ use Rattle.pv_pattern.specs.Patterns.{Pattern}
 use Rattle.pv_cells.specs.declared.project_table.Table.{Table}
 use Rattle.pv_cells.specs.Named.{wide_bytes}
 use Rattle.pv_command_load.specs.declared.subject.Subject.{Subject}
-use Rattle.pv_command_load.specs.Held.{Counts}
+use Rattle.pv_command_load.specs.Held.{Counts, IsUnread}
 use Rattle.pv_command_load.specs.Subjects.{Given, texts_of, blocks_of, Entered, SubjectData}
 use Rattle.pv_command_load.specs.Reads.{ReadsTable, Reads}
 use Rattle.pv_command_load.specs.Stops.{text_tree}
@@ -18,9 +18,9 @@ use Rattle.pv_command_load.specs.Made.{IsCase, IsProjectOf, IsTableOf, IsFit, Is
 use Rattle.pv_bool_load.specs.declared.stop.FirstStop.{FirstStop}
 use Rattle.pv_bool_load.specs.declared.subject.FirstSubject.{FirstSubject}
 use Rattle.pv_bool_load.specs.Forms.{ReadsFirst}
-use Rattle.pv_bool_load.specs.Stops.{first_stop_status, StopsFirst}
+use Rattle.pv_bool_load.specs.Stops.{first_stop_status, first_stop_unread, StopsFirst}
 use Rattle.pv_bool_load.specs.Made.{IsFirstSubject, IsProgramOf}
-use Rattle.pv_bool_load.proofs.Working.{stays}
+use Rattle.pv_bool_load.proofs.Working.{stays, first_other}
 
 abbrev Made : Type 0
 Made = Result Program FirstStop
@@ -47,6 +47,12 @@ pub joined_counted : (made : Made) (r : Joined) (before after : ℕ) → IfErr m
 joined_counted made (Ok first) before after unread joined same = same
 joined_counted made (Err stop) before after unread joined same =
     stays (first_stop_status stop) before after (subst (λ (m : Made). IfErr m (λ e. first_stop_status e ≢ 6)) joined unread) same
+
+pub joined_named : (made : Made) (r : Joined) (last : Option (List ℕ)) → IfErr made (λ stop. first_stop_status stop ≢ 6)
+    → IfErr r (λ stop. made ≡ Err stop) → IfErr r (λ stop. IsUnread (first_stop_unread stop) last)
+joined_named made (Ok first) last unread joined = tt
+joined_named made (Err stop) last unread joined =
+    first_other stop last (subst (λ (m : Made). IfErr m (λ e. first_stop_status e ≢ 6)) joined unread)
 
 -- ---- all stages
 

@@ -10,15 +10,17 @@ use Rattle.pv_case.specs.declared.case.Symbol.{Symbol}
 use Rattle.pv_case.specs.Cases.{source_data, symbol_data, CaseData, data_of}
 use Rattle.pv_command_load.specs.declared.source.SourceStop.{SourceStop}
 use Rattle.pv_command_load.specs.declared.subject.SubjectStop.TheVariants.{Source as At_source}
-use Rattle.pv_command_load.specs.Held.{Counts}
+use Rattle.pv_command_load.specs.Held.{Counts, IsUnread}
 use Rattle.pv_command_load.specs.Subjects.{Given, blocks_of}
 use Rattle.pv_command_load.specs.Reads.{HoldsCase}
 use Rattle.pv_command_load.specs.Stops.{StopsSource}
+use Rattle.pv_command_load.proofs.ForCallers.{none_unread, subject_other}
 use Rattle.pv_bool_load.specs.declared.stop.FirstStop.{FirstStop}
+use Rattle.pv_bool_load.specs.declared.stop.FirstStop.TheVariants as first_stop
 use Rattle.pv_bool_case.specs.Forms.{IsFirstCase, IsFirstAlone}
 use Rattle.pv_bool_load.specs.Forms.{AreFirst}
 use Rattle.pv_bool_load.specs.Refusals.{StopsAsAny}
-use Rattle.pv_bool_load.specs.Stops.{first_stop_status}
+use Rattle.pv_bool_load.specs.Stops.{first_stop_status, first_stop_unread}
 
 -- ---- options and stops
 
@@ -61,6 +63,14 @@ stays status before after other same = record {
   stays = λ a b. same;
   never_falls = omega (arith, same);
 }
+
+-- ---- a stop with another status tells no file that can't be read
+
+pub first_other : (stop : FirstStop) (last : Option (List ℕ)) → first_stop_status stop ≢ 6 → IsUnread (first_stop_unread stop) last
+first_other (first_stop.Subject stop) last other = subject_other stop last other
+first_other (first_stop.CaseForm file) last other = none_unread last
+first_other (first_stop.SourceForm file) last other = none_unread last
+first_other first_stop.NoMemory last other = none_unread last
 
 -- ---- the sources
 

@@ -3,13 +3,13 @@ ghost use Rattle.std.specs.Prelude.{◌≡◌, ◌≢◌, ◌≤◌, ℕ, List, 
 ghost use Rattle.pv_edge.specs.Files.{FileMap};
 ghost use Rattle.pv_lex.specs.declared.lex.TheConstants.{MAX_SOURCE};
 ghost use Rattle.pv_case.specs.Cases.{data_of};
-ghost use Rattle.pv_command_load.specs.Held.{Counts};
+ghost use Rattle.pv_command_load.specs.Held.{Counts, IsUnread};
 ghost use Rattle.pv_command_load.specs.Subjects.{Given, blocks_of, SubjectData};
 ghost use Rattle.pv_command_load.specs.Reads.{HoldsCase, ReadsSources, Reads};
 ghost use Rattle.pv_command_load.specs.Made.{IsCase, AreGiven, IsProjectOf};
 ghost use Rattle.pv_bool_case.specs.Forms.{IsFirstCase, IsFirstAlone};
 ghost use Rattle.pv_bool_load.specs.Forms.{AreFirst, ReadsFirst};
-ghost use Rattle.pv_bool_load.specs.Stops.{first_stop_status, StopsFirst};
+ghost use Rattle.pv_bool_load.specs.Stops.{first_stop_status, first_stop_unread, StopsFirst};
 ghost use Rattle.pv_bool_load.specs.Made.{IsFirstSubject, IsProgramOf};
 
 use crate::stop::FirstStop;
@@ -38,6 +38,7 @@ fn first_case_in<F: Files>(alloc: Global, files: &mut F, case_file: &str) -> Res
     ensures counted { MatchResult result
         (λ case. F.read_faults files.new ≡ F.read_faults files.old)
         (λ stop. Counts (first_stop_status stop) (F.read_faults files.old) (F.read_faults files.new)) }
+    ensures named { IfErr result (λ stop. IsUnread (first_stop_unread stop) (F.unread files.new)) }
     ensures writes { F.write_faults files.new ≡ F.write_faults files.old }
 {
     let case = case_in(alloc, files, case_file)?;
@@ -142,6 +143,7 @@ pub fn first_subject_in<F: Files>(
     ensures counted { MatchResult result
         (λ made. F.read_faults files.new ≡ F.read_faults files.old)
         (λ stop. Counts (first_stop_status stop) (F.read_faults files.old) (F.read_faults files.new)) }
+    ensures named { IfErr result (λ stop. IsUnread (first_stop_unread stop) (F.unread files.new)) }
     ensures writes { F.write_faults files.new ≡ F.write_faults files.old }
 {
     let case = first_case_in(alloc, files, case_file)?;

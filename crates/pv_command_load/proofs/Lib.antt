@@ -7,6 +7,7 @@ mod ProjectLaws
 mod TableLaws
 mod FitLaws
 pub mod SubjectLaws
+pub mod Unread
 mod AsciiLaws
 mod SourceLaws
 mod Gathering

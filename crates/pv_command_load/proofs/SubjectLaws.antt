@@ -124,16 +124,16 @@ reads_kept told now file case kept same held has =
     reads_sources told file case has.read held (subst (λ t. HoldSources t 0 case.sources has.read) same has.held)
 
 -- no stop of a later stage is one at a file
-no_file_project : (stop : ProjectStop) → subject_status (stop_at.Project stop) ≡ 6 → ⊥
+pub no_file_project : (stop : ProjectStop) → subject_status (stop_at.Project stop) ≡ 6 → ⊥
 no_file_project (project_stop.Broken rule at) e = omega (arith, e)
 no_file_project project_stop.NoMemory e = omega (arith, e)
 
-no_file_table : (stop : TableStop) → subject_status (stop_at.Table stop) ≡ 6 → ⊥
+pub no_file_table : (stop : TableStop) → subject_status (stop_at.Table stop) ≡ 6 → ⊥
 no_file_table table_stop.NoEntry e = omega (arith, e)
 no_file_table table_stop.TooLarge e = omega (arith, e)
 no_file_table table_stop.NoMemory e = omega (arith, e)
 
-no_file_fit : (stop : FitStop) → subject_status (stop_at.Fit stop) ≡ 6 → ⊥
+pub no_file_fit : (stop : FitStop) → subject_status (stop_at.Fit stop) ≡ 6 → ⊥
 no_file_fit (fit_stop.NotAnInput field) e = omega (arith, e)
 no_file_fit (fit_stop.BoundRange field) e = omega (arith, e)
 no_file_fit (fit_stop.PatternText n) e = omega (arith, e)

@@ -19,3 +19,8 @@ pub record Counts (status before after : ℕ) : Type 0 where
   pub rises : status ≡ 6 → HasRisen before after
   pub stays : status ≢ 6 → status ≢ 9 → after ≡ before
   pub never_falls : before ≤ after
+
+-- where a call ends with a file told as one that can't be read, this is the file of the last read that failed, as far as the files tell
+-- that
+pub record IsUnread (file unread : Option (List ℕ)) : Type 0 where
+  pub last : IfSome file (λ told. IfSome unread (λ name. name ≡ told))

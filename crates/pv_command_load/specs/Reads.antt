@@ -1,12 +1,12 @@
 -- What the files hold for a command, and why that is refused, in the order of work: the case; its sources, one by one; the rules over
 -- all of them; the entered block and the count of its cells; the inputs and then the requirement.
-use Rattle.std.specs.Prelude.{ℕ, List, Option}
+use Rattle.std.specs.Prelude.{◌≡◌, ◌⊎◌, ℕ, List, Option}
 use Rattle.pv_edge.specs.Files.{FileMap}
 use Rattle.pv_tree.specs.Rules.{KeepsRules}
 use Rattle.pv_case.specs.Cases.{CaseData, IsCaseText, BreaksFirst, IsNoObject}
 use Rattle.pv_command_load.specs.Held.{HoldsBytes}
 use Rattle.pv_command_load.specs.Refusals.{CaseRefusal, not_json, broken, Refusal, of_case, of_source, of_project, of_table, of_fit}
-use Rattle.pv_command_load.specs.Sources.{HoldSources, AtOne, IsRefused}
+use Rattle.pv_command_load.specs.Sources.{HoldSources, AtOne, IsAsked, IsRefused}
 use Rattle.pv_command_load.specs.Subjects.{Given, project_of, RefusesProject, Entered, HasTable, RefusesTable, RefusesFit, SubjectData, IsFitted}
 
 -- ---- what is read
@@ -49,6 +49,12 @@ OfProject told file Is = (given : Given) × ReadsProject told file given × Is g
 abbrev pub OfTable : Option FileMap → List ℕ → (Given → Entered → Type 0) → Type 0
 OfTable told file Is =
     (given : Given) × (entered : Entered) × ReadsTable told file given entered × Is given entered
+
+-- ---- the files that are asked for, each where all before it is as it should be: the case's, and each source's
+
+abbrev pub AsksSubject : Option FileMap → List ℕ → List ℕ → Type 0
+AsksSubject told case_file file =
+    (file ≡ case_file) ⊎ OfCase told case_file (λ case. AtOne (IsAsked file) told 0 case.sources)
 
 -- ---- why it is refused
 

@@ -22,6 +22,12 @@ stopped_status status (unread file) = 6
 stopped_status status (refused r) = status r
 stopped_status status no_memory = 9
 
+-- the file that is told as one that can't be read
+abbrev pub stopped_unread : {R : Type 0} → Stopped R → Option (List ℕ)
+stopped_unread (unread file) = Some file
+stopped_unread (refused r) = None
+stopped_unread no_memory = None
+
 -- what is printed, none where memory ends
 abbrev pub stopped_text : {R : Type 0} → (R → List ℕ) → Stopped R → Option (List ℕ)
 stopped_text line (unread file) = Some (read_line file)

@@ -1,5 +1,5 @@
 -- Why a command stops before its second file, by the code's types: what each means, its status and its text.
-use Rattle.std.specs.Prelude.{◌≡◌, ℕ, List, Option, string_bytes}
+use Rattle.std.specs.Prelude.{◌≡◌, ℕ, List, Option, Some, None, string_bytes}
 use Rattle.pv_edge.specs.Files.{FileMap}
 use Rattle.pv_rules_decl.specs.Names.{rule_of}
 use Rattle.pv_case.specs.Cases.{SourceData, CaseData}
@@ -25,7 +25,7 @@ use Rattle.pv_command_load.specs.Refusals.{CaseRefusal, SourceRefusal, ProjectRe
 use Rattle.pv_command_load.specs.Sources.{RefusesSource, AtOne, IsAsked, IsRefused}
 use Rattle.pv_command_load.specs.Subjects.{Given, Entered, RefusesProject, RefusesTable, RefusesFit}
 use Rattle.pv_command_load.specs.Reads.{RefusesCase, OfCase, OfSources, OfProject, OfTable}
-use Rattle.pv_command_load.specs.Stopped.{Stopped, unread, refused, no_memory, StopsAt, asks_none, stopped_status, stopped_text}
+use Rattle.pv_command_load.specs.Stopped.{Stopped, unread, refused, no_memory, StopsAt, asks_none, stopped_status, stopped_unread, stopped_text}
 
 -- ---- the code's types as plain data
 
@@ -85,6 +85,18 @@ case_status stop = stopped_status (λ refusal. 4) (case_stopped stop)
 abbrev pub source_status : SourceStop → ℕ
 source_status stop = stopped_status (λ refusal. 3) (source_stopped stop)
 
+-- the file that each tells as one that can't be read
+
+abbrev pub read_unread : ReadStop → Option (List ℕ)
+read_unread (read_stop.Unread file) = Some (string_bytes file)
+read_unread read_stop.NoMemory = None
+
+abbrev pub case_unread : CaseStop → Option (List ℕ)
+case_unread stop = stopped_unread (case_stopped stop)
+
+abbrev pub source_unread : SourceStop → Option (List ℕ)
+source_unread stop = stopped_unread (source_stopped stop)
+
 abbrev pub StopsRead : List ℕ → ReadStop → Type 0
 StopsRead file (read_stop.Unread name) = string_bytes name ≡ file
 StopsRead file read_stop.NoMemory = Unit {0}
@@ -131,6 +143,14 @@ subject_status (subject_stop.Source stop) = stopped_status (λ refusal. 3) (sour
 subject_status (subject_stop.Project stop) = stopped_status (λ refusal. 3) (project_stopped stop)
 subject_status (subject_stop.Table stop) = stopped_status table_status (table_stopped stop)
 subject_status (subject_stop.Fit stop) = stopped_status (λ refusal. 4) (fit_stopped stop)
+
+-- the stages behind the sources ask for no file
+abbrev pub subject_unread : SubjectStop → Option (List ℕ)
+subject_unread (subject_stop.Case stop) = case_unread stop
+subject_unread (subject_stop.Source stop) = source_unread stop
+subject_unread (subject_stop.Project stop) = None
+subject_unread (subject_stop.Table stop) = None
+subject_unread (subject_stop.Fit stop) = None
 
 abbrev pub subject_text : SubjectStop → Option (List ℕ)
 subject_text (subject_stop.Case stop) = stopped_text case_refusal_line (case_stopped stop)

@@ -2,12 +2,12 @@
 ghost use Rattle.std.specs.Prelude.{◌≡◌, ◌≤◌, length, Some, IfOk, IfErr, MatchResult, string_bytes};
 ghost use Rattle.pv_case.specs.declared.case.TheConstants.{MAX_SOURCES};
 ghost use Rattle.pv_case.specs.Cases.{data_of};
-ghost use Rattle.pv_command_load.specs.Held.{Counts};
+ghost use Rattle.pv_command_load.specs.Held.{Counts, IsUnread};
 ghost use Rattle.pv_command_load.specs.Words.{kind_word};
 ghost use Rattle.pv_command_load.specs.Refusals.{case_line, case_refusal_line};
 ghost use Rattle.pv_command_load.specs.Reads.{HoldsCase};
 ghost use Rattle.pv_command_load.specs.Stopped.{stopped_text};
-ghost use Rattle.pv_command_load.specs.Stops.{StopsCase, case_stopped, case_status};
+ghost use Rattle.pv_command_load.specs.Stops.{StopsCase, case_stopped, case_status, case_unread};
 ghost use Rattle.pv_command_load.specs.declared.case.CaseStop.TheVariants.{NoMemory};
 
 use crate::reading::{ReadStop, read, read_line};
@@ -111,6 +111,7 @@ pub fn case_in<F: Files>(alloc: Global, files: &mut F, file: &str) -> Result<Cas
     ensures counted { MatchResult result
         (λ case. F.read_faults files.new ≡ F.read_faults files.old)
         (λ stop. Counts (case_status stop) (F.read_faults files.old) (F.read_faults files.new)) }
+    ensures named { IfErr result (λ stop. IsUnread (case_unread stop) (F.unread files.new)) }
     ensures writes { F.write_faults files.new ≡ F.write_faults files.old }
 {
     let bytes = read(alloc, files, file)?;

@@ -1,8 +1,8 @@
 //! Reading a file, the first step of a stage.
 ghost use Rattle.std.specs.Prelude.{◌≡◌, IfOk, IfErr, MatchResult, string_bytes};
-ghost use Rattle.pv_command_load.specs.Held.{Holds, Counts};
+ghost use Rattle.pv_command_load.specs.Held.{Holds, Counts, IsUnread};
 ghost use Rattle.pv_command_load.specs.Refusals.{read_line};
-ghost use Rattle.pv_command_load.specs.Stops.{StopsRead, read_status};
+ghost use Rattle.pv_command_load.specs.Stops.{StopsRead, read_status, read_unread};
 ghost use Rattle.pv_command_load.specs.declared.reading.ReadStop.TheVariants.{NoMemory};
 
 use pv_edge::{FileFault, Files};
@@ -35,6 +35,7 @@ pub fn read<F: Files>(alloc: Global, files: &mut F, name: &str) -> Result<Vec<u8
     ensures counted { MatchResult result
         (λ bytes. F.read_faults files.new ≡ F.read_faults files.old)
         (λ stop. Counts (read_status stop) (F.read_faults files.old) (F.read_faults files.new)) }
+    ensures named { IfErr result (λ stop. IsUnread (read_unread stop) (F.unread files.new)) }
     ensures writes { F.write_faults files.new ≡ F.write_faults files.old }
 {
     match files.read(alloc, name) {

@@ -3,8 +3,8 @@ ghost use Rattle.std.specs.Prelude.{◌≡◌, ◌<◌, ◌≤◌, ◌++◌, ℕ
 ghost use Rattle.pv_case.specs.declared.case.TheConstants.{MAX_SOURCES};
 ghost use Rattle.pv_case.specs.Cases.{source_data, data_of};
 ghost use Rattle.pv_tree.specs.View.{block_trees};
-ghost use Rattle.pv_command_load.specs.Held.{Holds, Counts};
-ghost use Rattle.pv_command_load.specs.Stops.{text_tree, source_status, StopsSource};
+ghost use Rattle.pv_command_load.specs.Held.{Holds, Counts, IsUnread};
+ghost use Rattle.pv_command_load.specs.Stops.{text_tree, source_status, source_unread, StopsSource};
 ghost use Rattle.pv_command_load.specs.Gathered.{HasSources, HasOneMore, StopsAtOne};
 
 use crate::position::SourceText;
@@ -45,12 +45,13 @@ fn text_in<F: Files>(
     source: &Source,
 ) -> Result<SourceText, SourceStop>
     ensures files { F.told files.new ≡ F.told files.old }
-    ensures named { IfOk result (λ text. string_bytes text.file ≡ string_bytes source.now.file) }
+    ensures file_named { IfOk result (λ text. string_bytes text.file ≡ string_bytes source.now.file) }
     ensures held { IfOk result (λ text. Holds (F.told files.old) (string_bytes source.now.file) text.bytes.items) }
     ensures stopped { (number : ℕ) → IfErr result (StopsAtOne (F.told files.old) number (source_data source.now)) }
     ensures counted { MatchResult result
         (λ text. F.read_faults files.new ≡ F.read_faults files.old)
         (λ stop. Counts (source_status stop) (F.read_faults files.old) (F.read_faults files.new)) }
+    ensures named { IfErr result (λ stop. IsUnread (source_unread stop) (F.unread files.new)) }
     ensures writes { F.write_faults files.new ≡ F.write_faults files.old }
 {
     let bytes = read(alloc, files, source.file.as_str())?;
@@ -81,6 +82,7 @@ fn add_source<F: Files>(
     ensures counted { MatchResult result
         (λ done. F.read_faults files.new ≡ F.read_faults files.old)
         (λ stop. Counts (source_status stop) (F.read_faults files.old) (F.read_faults files.new)) }
+    ensures named { IfErr result (λ stop. IsUnread (source_unread stop) (F.unread files.new)) }
     ensures writes { F.write_faults files.new ≡ F.write_faults files.old }
 {
     let text = text_in(alloc, files, source)?;
@@ -104,6 +106,7 @@ pub fn sources_in<F: Files>(
     ensures counted { MatchResult result
         (λ sources. F.read_faults files.new ≡ F.read_faults files.old)
         (λ stop. Counts (source_status stop) (F.read_faults files.old) (F.read_faults files.new)) }
+    ensures named { IfErr result (λ stop. IsUnread (source_unread stop) (F.unread files.new)) }
     ensures writes { F.write_faults files.new ≡ F.write_faults files.old }
 {
     let mut sources = Sources {

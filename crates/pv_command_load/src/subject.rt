@@ -1,10 +1,10 @@
 //! What a command works on, by all its stages up to that.
 ghost use Rattle.std.specs.Prelude.{◌≡◌, Some, IfOk, IfErr, MatchResult, string_bytes};
 ghost use Rattle.pv_case.specs.Cases.{CaseData};
-ghost use Rattle.pv_command_load.specs.Held.{Counts};
+ghost use Rattle.pv_command_load.specs.Held.{Counts, IsUnread};
 ghost use Rattle.pv_command_load.specs.Subjects.{SubjectData};
 ghost use Rattle.pv_command_load.specs.Reads.{Reads};
-ghost use Rattle.pv_command_load.specs.Stops.{StopsSubject, subject_status, subject_text};
+ghost use Rattle.pv_command_load.specs.Stops.{StopsSubject, subject_status, subject_unread, subject_text};
 ghost use Rattle.pv_command_load.specs.Made.{IsCase, IsSubject};
 ghost use Rattle.pv_command_load.specs.declared.subject.SubjectStop.TheVariants.{Case as AtCase, Source as AtSource, Project as AtProject, Table as AtTable, Fit as AtFit};
 
@@ -143,6 +143,7 @@ pub fn subject_in<F: Files>(
     ensures counted { MatchResult result
         (λ s. F.read_faults files.new ≡ F.read_faults files.old)
         (λ stop. Counts (subject_status stop) (F.read_faults files.old) (F.read_faults files.new)) }
+    ensures named { IfErr result (λ stop. IsUnread (subject_unread stop) (F.unread files.new)) }
     ensures writes { F.write_faults files.new ≡ F.write_faults files.old }
 {
     let mut case = case_in(alloc, files, case_file)?;

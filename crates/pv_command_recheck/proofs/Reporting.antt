@@ -8,7 +8,7 @@ use Rattle.pv_bool.specs.Programs.{program_tree}
 use Rattle.pv_pattern.specs.Patterns.{invariant}
 use Rattle.pv_pattern.specs.Sources.{IsSatisfied}
 use Rattle.pv_recheck.specs.Validity.{IsValid}
-use Rattle.pv_command_load.specs.Held.{Counts}
+use Rattle.pv_command_load.specs.Held.{Counts, IsUnread}
 use Rattle.pv_command_load.specs.Subjects.{Given, SubjectData, source_in}
 use Rattle.pv_command_recheck.specs.declared.certificate.CertificateStop.{CertificateStop}
 use Rattle.pv_command_recheck.specs.declared.recheck.Rechecked.{Rechecked}
@@ -17,7 +17,7 @@ use Rattle.pv_command_recheck.specs.declared.recheck.RecheckStop.TheVariants as 
 use Rattle.pv_command_recheck.specs.declared.subject.FirstSubject.{FirstSubject}
 use Rattle.pv_command_recheck.specs.Forms.{ReadsFirst, program_of}
 use Rattle.pv_command_recheck.specs.Certificates.{HoldsAnswer, HoldsProof, StopsCertificate}
-use Rattle.pv_command_recheck.specs.Rechecks.{IsReported, SaysRecheck, recheck_status}
+use Rattle.pv_command_recheck.specs.Rechecks.{IsReported, SaysRecheck, recheck_stop_unread, recheck_status, recheck_unread}
 use Rattle.pv_command_recheck.specs.Made.{IsSubjectOf}
 
 -- what the law on valid certificates says
@@ -76,3 +76,8 @@ err_counted (Ok x) stop before between after is same counts = absurd is
 err_counted (Err e) stop before between after is same counts =
     subst (λ x. Counts (recheck_status (Err x)) before after) (sym is)
     (subst (λ n. Counts (recheck_status (Err stop)) n after) same counts)
+
+pub err_told : (r : Result Rechecked RecheckStop) (stop : RecheckStop) (last : Option (List ℕ)) → IsErrAnd r (λ e. e ≡ stop)
+    → IsUnread (recheck_stop_unread stop) last → IsUnread (recheck_unread r) last
+err_told (Ok x) stop last is named = absurd is
+err_told (Err e) stop last is named = subst (λ x. IsUnread (recheck_stop_unread x) last) (sym is) named

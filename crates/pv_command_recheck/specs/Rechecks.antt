@@ -9,13 +9,13 @@ use Rattle.pv_recheck.specs.declared.fault.RecheckFault.{RecheckFault}
 use Rattle.pv_recheck.specs.declared.fault.RecheckFault.TheVariants.{Unbuilt, TooManyGates, Fault}
 use Rattle.pv_command_load.specs.Refusals.{form_line}
 use Rattle.pv_command_load.specs.Subjects.{SubjectData, source_in}
-use Rattle.pv_command_load.specs.Stopped.{stopped_status, stopped_text}
-use Rattle.pv_command_load.specs.Stops.{subject_status, subject_text}
+use Rattle.pv_command_load.specs.Stopped.{stopped_status, stopped_unread, stopped_text}
+use Rattle.pv_command_load.specs.Stops.{subject_status, subject_unread, subject_text}
 use Rattle.pv_command_recheck.specs.declared.recheck.Rechecked.{Rechecked}
 use Rattle.pv_command_recheck.specs.declared.recheck.RecheckStop.{RecheckStop}
 use Rattle.pv_command_recheck.specs.declared.recheck.RecheckStop.TheVariants as recheck_stop
 use Rattle.pv_command_recheck.specs.Forms.{ReadsFirst, program_of}
-use Rattle.pv_command_recheck.specs.Refusals.{RecheckRefusal, case_form, source_form, recheck_refusal_status, recheck_refusal_line, RefusesRecheck, StopsAsAny}
+use Rattle.pv_command_recheck.specs.Refusals.{RecheckRefusal, case_form, source_form, recheck_refusal_status, recheck_refusal_line, RefusesRecheck, AsksAsAny, StopsAsAny}
 use Rattle.pv_command_recheck.specs.Certificates.{HoldsAnswer, HoldsProof, gates_line, fault_line, certificate_status, certificate_line, certificate_stopped, StopsCertificate}
 
 -- ---- what it does
@@ -49,6 +49,12 @@ pub record IsReported (told : Option FileMap) (case_file file : List ℕ) (r : R
   pub name : string_bytes r.case ≡ subject.given.case.name
   pub depth : r.k ≡ 0
 
+-- a recheck asks for this file: one that it asks for as any command does, or behind these its certificate's
+abbrev pub AsksRecheck : Option FileMap → List ℕ → List ℕ → List ℕ → Type 0
+AsksRecheck told case_file file asked =
+    AsksAsAny told case_file asked
+    ⊎ (((s : SubjectData) × (a : ExprTree) × ReadsFirst told case_file s a) × (asked ≡ file))
+
 -- why it stops: what it stops at is at fault, and all before is as it should be
 abbrev pub StopsRecheck : Option FileMap → List ℕ → List ℕ → RecheckStop → Type 0
 StopsRecheck told case_file file (recheck_stop.Subject stop) = StopsAsAny told case_file stop
@@ -77,6 +83,19 @@ recheck_stop_status recheck_stop.NoMemory = 9
 abbrev pub recheck_status : Result Rechecked RecheckStop → ℕ
 recheck_status (Ok r) = 0
 recheck_status (Err stop) = recheck_stop_status stop
+
+-- the file that is told as one that can't be read
+abbrev pub recheck_stop_unread : RecheckStop → Option (List ℕ)
+recheck_stop_unread (recheck_stop.Subject stop) = subject_unread stop
+recheck_stop_unread (recheck_stop.CaseForm file) = None
+recheck_stop_unread (recheck_stop.SourceForm file) = None
+recheck_stop_unread (recheck_stop.Certificate stop) =
+    stopped_unread (certificate_stopped stop)
+recheck_stop_unread recheck_stop.NoMemory = None
+
+abbrev pub recheck_unread : Result Rechecked RecheckStop → Option (List ℕ)
+recheck_unread (Ok r) = None
+recheck_unread (Err stop) = recheck_stop_unread stop
 
 -- what is printed, none where memory ends
 abbrev pub recheck_stop_text : RecheckStop → Option (List ℕ)

@@ -9,7 +9,7 @@ use Rattle.pv_bool_form.specs.FirstForm.{IsFirstExpr}
 use Rattle.pv_command_load.specs.declared.subject.SubjectStop.{SubjectStop}
 use Rattle.pv_command_load.specs.declared.subject.SubjectStop.TheVariants as subject_stop
 use Rattle.pv_command_load.specs.Refusals.{Refusal, of_case, of_source, of_project, of_table, of_fit, refusal_status, refusal_line, form_line}
-use Rattle.pv_command_load.specs.Sources.{AtOne, IsRefused}
+use Rattle.pv_command_load.specs.Sources.{AtOne, IsAsked, IsRefused}
 use Rattle.pv_command_load.specs.Subjects.{blocks_of, RefusesProject, RefusesTable, RefusesFit, SubjectData}
 use Rattle.pv_command_load.specs.Reads.{OfCase, OfSources, OfProject, OfTable, RefusesCase, Reads}
 use Rattle.pv_command_load.specs.Stops.{StopsCase, StopsSource, StopsProject, StopsTable, StopsFit}
@@ -74,6 +74,13 @@ RefusesRecheck told file (as_any r) = RefusesAny told file r
 RefusesRecheck told file (case_form name) =
     (name ≡ file) × (HoldsOtherCase told file ⊎ HoldsOtherRequirement told file)
 RefusesRecheck told file (source_form name) = HoldsOtherProject told file name
+
+-- ---- the files that are asked for as any command does, each where all before it is as it should be: the case's, and each source's
+
+abbrev pub AsksAsAny : Option FileMap → List ℕ → List ℕ → Type 0
+AsksAsAny told case_file file =
+    (file ≡ case_file)
+    ⊎ OfCase told case_file (λ case. IsFirstCase case × AtOne (IsAsked file) told 0 case.sources)
 
 -- ---- why a command stops there as any does: what it stops at is at fault, and all before is as it should be
 

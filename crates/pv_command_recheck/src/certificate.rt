@@ -2,9 +2,9 @@
 ghost use Rattle.std.specs.Prelude.{◌≡◌, ◌≤◌, length, Some, Ok, IfOk, IfErr, OnOk, MatchResult, string_bytes};
 ghost use Rattle.pv_types.specs.declared.layout.TheConstants.{MAX_LEAVES};
 ghost use Rattle.pv_bool.specs.Programs.{program_tree};
-ghost use Rattle.pv_command_load.specs.Held.{Counts};
+ghost use Rattle.pv_command_load.specs.Held.{Counts, IsUnread};
 ghost use Rattle.pv_command_load.specs.Refusals as refusals;
-ghost use Rattle.pv_command_load.specs.Stopped.{stopped_status, stopped_text};
+ghost use Rattle.pv_command_load.specs.Stopped.{stopped_status, stopped_unread, stopped_text};
 ghost use Rattle.pv_command_recheck.specs.Certificates as certificates;
 ghost use Rattle.pv_command_recheck.specs.Certificates.{HoldsAnswer, certificate_status, certificate_line, certificate_stopped, StopsCertificate};
 ghost use Rattle.pv_command_recheck.specs.declared.certificate.CertificateStop.TheVariants.{NoMemory};
@@ -121,6 +121,7 @@ pub(crate) fn proof_in<F: Files>(
     ensures counted { MatchResult result
         (λ done. F.read_faults files.new ≡ F.read_faults files.old)
         (λ stop. Counts (stopped_status certificate_status (certificate_stopped stop)) (F.read_faults files.old) (F.read_faults files.new)) }
+    ensures named { IfErr result (λ stop. IsUnread (stopped_unread (certificate_stopped stop)) (F.unread files.new)) }
     ensures writes { F.write_faults files.new ≡ F.write_faults files.old }
 {
     let bytes = read(alloc, files, file)?;

@@ -1,8 +1,8 @@
 //! The command `recheck CASE CERTIFICATE`.
 ghost use Rattle.std.specs.Prelude.{◌≡◌, Some, IfOk, string_bytes};
-ghost use Rattle.pv_command_load.specs.Held.{Counts};
+ghost use Rattle.pv_command_load.specs.Held.{Counts, IsUnread};
 ghost use Rattle.pv_command_load.specs.declared.subject.SubjectStop.TheVariants as subject_stop;
-ghost use Rattle.pv_command_recheck.specs.Rechecks.{satisfied_text, SaysRecheck, recheck_stop_status, recheck_status, recheck_stop_text};
+ghost use Rattle.pv_command_recheck.specs.Rechecks.{satisfied_text, SaysRecheck, recheck_stop_status, recheck_status, recheck_unread, recheck_stop_text};
 ghost use Rattle.pv_command_recheck.specs.declared.recheck.RecheckStop.TheVariants.{Subject as At_subject, Certificate as At_certificate, NoMemory};
 
 use crate::certificate::{CertificateStop, form_line, proof_in};
@@ -148,6 +148,7 @@ pub fn recheck_in<F: Files>(
     ensures files { F.told files.new ≡ F.told files.old }
     ensures says { SaysRecheck (F.told files.old) case_file.now certificate_file.now result }
     ensures counted { Counts (recheck_status result) (F.read_faults files.old) (F.read_faults files.new) }
+    ensures named { IsUnread (recheck_unread result) (F.unread files.new) }
     ensures writes { F.write_faults files.new ≡ F.write_faults files.old }
 {
     valid_certificates_satisfy();

@@ -3,13 +3,13 @@ ghost use Rattle.std.specs.Prelude.{◌≡◌, ◌≢◌, ◌≤◌, ℕ, List, 
 ghost use Rattle.pv_edge.specs.Files.{FileMap};
 ghost use Rattle.pv_lex.specs.declared.lex.TheConstants.{MAX_SOURCE};
 ghost use Rattle.pv_case.specs.Cases.{data_of};
-ghost use Rattle.pv_command_load.specs.Held.{Counts};
+ghost use Rattle.pv_command_load.specs.Held.{Counts, IsUnread};
 ghost use Rattle.pv_command_load.specs.Subjects.{Given, blocks_of};
 ghost use Rattle.pv_command_load.specs.Reads.{HoldsCase, ReadsSources, ReadsProject};
 ghost use Rattle.pv_command_load.specs.Made.{IsCase, AreGiven, IsProjectOf};
 ghost use Rattle.pv_bool_case.specs.Forms.{IsFirstAlone};
 ghost use Rattle.pv_command_recheck.specs.Forms.{IsFirstCase, AreFirst};
-ghost use Rattle.pv_command_recheck.specs.Rechecks.{recheck_stop_status, StopsRecheck};
+ghost use Rattle.pv_command_recheck.specs.Rechecks.{recheck_stop_status, recheck_stop_unread, StopsRecheck};
 ghost use Rattle.pv_command_recheck.specs.Made.{IsProgramOf, IsSubjectOf};
 
 use crate::form::is_rechecked_case;
@@ -44,6 +44,7 @@ fn first_case_in<F: Files>(
     ensures counted { MatchResult result
         (λ case. F.read_faults files.new ≡ F.read_faults files.old)
         (λ stop. Counts (recheck_stop_status stop) (F.read_faults files.old) (F.read_faults files.new)) }
+    ensures named { IfErr result (λ stop. IsUnread (recheck_stop_unread stop) (F.unread files.new)) }
     ensures writes { F.write_faults files.new ≡ F.write_faults files.old }
 {
     let case = case_in(alloc, files, case_file)?;
@@ -125,6 +126,7 @@ pub(crate) fn first_subject_in<F: Files>(
     ensures counted { MatchResult result
         (λ made. F.read_faults files.new ≡ F.read_faults files.old)
         (λ stop. Counts (recheck_stop_status stop) (F.read_faults files.old) (F.read_faults files.new)) }
+    ensures named { IfErr result (λ stop. IsUnread (recheck_stop_unread stop) (F.unread files.new)) }
     ensures writes { F.write_faults files.new ≡ F.write_faults files.old }
 {
     let case = first_case_in(alloc, files, case_file)?;

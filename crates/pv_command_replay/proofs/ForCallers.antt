@@ -3,3 +3,4 @@ pub use Rattle.pv_command_replay.proofs.Exactly.{Laws, Came, ends, by_stop, by_r
 pub use Rattle.pv_command_replay.proofs.TraceLaws.{one_trace_held, has_values}
 pub use Rattle.pv_command_replay.proofs.Starts.{subject_starts}
 pub use Rattle.pv_command_replay.proofs.Saying.{reported_as, all_read}
+pub use Rattle.pv_command_replay.proofs.Unread.{end_never_six, stop_tells, replay_tells}

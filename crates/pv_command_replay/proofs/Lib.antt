@@ -6,4 +6,5 @@ pub mod Starts
 pub mod TraceLaws
 pub mod Saying
 pub mod Exactly
+pub mod Unread
 pub mod ForCallers

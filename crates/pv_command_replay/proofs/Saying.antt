@@ -8,7 +8,7 @@ use Rattle.pv_claims.specs.declared.trace.Trace.{Trace}
 use Rattle.pv_command_load.specs.declared.subject.Subject.{Subject}
 use Rattle.pv_command_load.specs.Subjects.{SubjectData, source_in}
 use Rattle.pv_command_load.specs.Reads.{Reads}
-use Rattle.pv_command_load.specs.Held.{Counts}
+use Rattle.pv_command_load.specs.Held.{Counts, IsUnread}
 use Rattle.pv_command_load.specs.Stops.{text_tree}
 use Rattle.pv_command_load.specs.Made.{IsSubject}
 use Rattle.pv_command_replay.specs.declared.end.End.{End}
@@ -20,7 +20,7 @@ use Rattle.pv_command_replay.specs.declared.replay.ReplayStop.TheVariants as rep
 use Rattle.pv_command_replay.specs.Ends.{IsEnd}
 use Rattle.pv_command_replay.specs.Traces.{HoldsTrace, StopsTrace}
 use Rattle.pv_command_replay.specs.Judged.{HasValuesOf}
-use Rattle.pv_command_replay.specs.Replays.{IsReplayed, IsRan, IsReportOf, StopsReplay, stop_status, SaysReplay, replay_status}
+use Rattle.pv_command_replay.specs.Replays.{IsReplayed, IsRan, IsReportOf, StopsReplay, stop_status, stop_unread, SaysReplay, replay_status, replay_unread}
 use Rattle.pv_command_replay.proofs.TraceLaws.{has_values}
 
 module _ (told again : Option FileMap) (case_file trace_file : List ℕ) (subject : Subject) (s : SubjectData) where
@@ -82,6 +82,11 @@ pub err_kept : (r : Result Replayed ReplayStop) (stop : ReplayStop) (before afte
     → Counts (stop_status stop) before after → Counts (replay_status r) before after
 err_kept (Ok x) stop before after is counts = absurd is
 err_kept (Err e) stop before after is counts = subst (λ x. Counts (stop_status x) before after) (sym is) counts
+
+pub err_told : (r : Result Replayed ReplayStop) (stop : ReplayStop) (last : Option (List ℕ)) → IsErrAnd r (λ e. e ≡ stop)
+    → IsUnread (stop_unread stop) last → IsUnread (replay_unread r) last
+err_told (Ok x) stop last is named = absurd is
+err_told (Err e) stop last is named = subst (λ x. IsUnread (stop_unread x) last) (sym is) named
 
 -- memory ends behind the reads
 pub all_read : (before after : ℕ) → after ≡ before → Counts 9 before after

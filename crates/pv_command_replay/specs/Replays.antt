@@ -1,13 +1,13 @@
 -- What the command `replay CASE TRACE` says.
-use Rattle.std.specs.Prelude.{◌≡◌, ◌↔◌, ℕ, List, map, Option, Some, None, Result, Ok, Err, string_bytes}
+use Rattle.std.specs.Prelude.{◌≡◌, ◌⊎◌, ◌↔◌, ℕ, List, map, Option, Some, None, Result, Ok, Err, string_bytes}
 use Rattle.pv_edge.specs.Files.{FileMap}
 use Rattle.pv_mean.specs.Runs.{run}
 use Rattle.pv_claims.specs.declared.trace.Trace.{Trace}
 use Rattle.pv_command_load.specs.Refusals.{Refusal, refusal_status, refusal_line}
 use Rattle.pv_command_load.specs.Subjects.{texts_of, SubjectData, source_in}
-use Rattle.pv_command_load.specs.Reads.{Reads, Refuses}
-use Rattle.pv_command_load.specs.Stopped.{stopped_status, stopped_text}
-use Rattle.pv_command_load.specs.Stops.{text_tree, StopsSubject, subject_status, subject_text}
+use Rattle.pv_command_load.specs.Reads.{Reads, Refuses, AsksSubject}
+use Rattle.pv_command_load.specs.Stopped.{stopped_status, stopped_unread, stopped_text}
+use Rattle.pv_command_load.specs.Stops.{text_tree, StopsSubject, subject_status, subject_unread, subject_text}
 use Rattle.pv_command_load.specs.Made.{IsSubject}
 use Rattle.pv_command_replay.specs.declared.end.End.{End}
 use Rattle.pv_command_replay.specs.declared.replay.Ran.{Ran}
@@ -50,6 +50,12 @@ pub record IsReportOf (s : SubjectData) (r : Replayed) : Type 0 where
   pub kind : r.kind ≡ s.given.case.kind
   pub texts : map text_tree r.sources.items ≡ texts_of s.given
 
+-- a replay asks for this file: one that any command asks for, or behind these its trace's
+abbrev pub AsksReplay : Option FileMap → List ℕ → List ℕ → List ℕ → Type 0
+AsksReplay told case_file trace_file file =
+    AsksSubject told case_file file
+    ⊎ (((s : SubjectData) × Reads told case_file s) × (file ≡ trace_file))
+
 -- what it stops at is at fault, and all before is as it should be
 abbrev pub StopsReplay : Option FileMap → List ℕ → List ℕ → ReplayStop → Type 0
 StopsReplay told case_file trace_file (replay_stop.Subject stop) = StopsSubject told case_file stop
@@ -61,6 +67,12 @@ abbrev pub stop_status : ReplayStop → ℕ
 stop_status (replay_stop.Subject stop) = subject_status stop
 stop_status (replay_stop.Trace stop) = stopped_status (λ line. 8) (trace_stopped stop)
 stop_status replay_stop.NoMemory = 9
+
+-- the file that is told as one that can't be read
+abbrev pub stop_unread : ReplayStop → Option (List ℕ)
+stop_unread (replay_stop.Subject stop) = subject_unread stop
+stop_unread (replay_stop.Trace stop) = stopped_unread (trace_stopped stop)
+stop_unread replay_stop.NoMemory = None
 
 -- what is printed where it stops, none where memory ends
 abbrev pub stop_text : ReplayStop → Option (List ℕ)
@@ -77,6 +89,10 @@ SaysReplay told case_file trace_file (Err stop) = StopsReplay told case_file tra
 abbrev pub replay_status : Result Replayed ReplayStop → ℕ
 replay_status (Ok r) = end_status r.end
 replay_status (Err stop) = stop_status stop
+
+abbrev pub replay_unread : Result Replayed ReplayStop → Option (List ℕ)
+replay_unread (Ok r) = None
+replay_unread (Err stop) = stop_unread stop
 
 abbrev pub replay_text : Result Replayed ReplayStop → Option (List ℕ)
 replay_text (Ok r) =

@@ -1,8 +1,8 @@
 //! The command `replay CASE TRACE`.
 ghost use Rattle.std.specs.Prelude.{◌≡◌, Ok, Some, IfOk, IfErr, MatchResult, string_bytes};
-ghost use Rattle.pv_command_load.specs.Held.{Counts};
+ghost use Rattle.pv_command_load.specs.Held.{Counts, IsUnread};
 ghost use Rattle.pv_command_load.specs.Subjects.{SubjectData};
-ghost use Rattle.pv_command_replay.specs.Replays.{IsRan, StopsReplay, stop_status, stop_text, SaysReplay, replay_status, replay_text};
+ghost use Rattle.pv_command_replay.specs.Replays.{IsRan, StopsReplay, stop_status, stop_unread, stop_text, SaysReplay, replay_status, replay_unread, replay_text};
 ghost use Rattle.pv_command_replay.specs.declared.replay.ReplayStop.TheVariants.{Subject as AtSubject, Trace as AtTrace, NoMemory};
 
 use crate::end::End;
@@ -158,6 +158,7 @@ pub fn run_in<F: Files>(
     ensures counted { MatchResult result
         (λ ran. F.read_faults files.new ≡ F.read_faults files.old)
         (λ stop. Counts (stop_status stop) (F.read_faults files.old) (F.read_faults files.new)) }
+    ensures named { IfErr result (λ stop. IsUnread (stop_unread stop) (F.unread files.new)) }
     ensures writes { F.write_faults files.new ≡ F.write_faults files.old }
 {
     let subject = subject_in(alloc, files, case_file)?;
@@ -180,6 +181,7 @@ pub fn replay_in<F: Files>(
     ensures files { F.told files.new ≡ F.told files.old }
     ensures says { SaysReplay (F.told files.old) case_file.now trace_file.now result }
     ensures counted { Counts (replay_status result) (F.read_faults files.old) (F.read_faults files.new) }
+    ensures named { IsUnread (replay_unread result) (F.unread files.new) }
     ensures writes { F.write_faults files.new ≡ F.write_faults files.old }
 {
     let ran = run_in(alloc, files, case_file, trace_file)?;

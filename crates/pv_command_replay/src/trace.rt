@@ -2,10 +2,10 @@
 ghost use Rattle.std.specs.Prelude.{◌≡◌, map, IfOk, IfErr, MatchResult, Some, string_bytes};
 ghost use Rattle.pv_mean.specs.Sources.{Source};
 ghost use Rattle.pv_mean.specs.Frames.{is_free, free_cells, input_cells};
-ghost use Rattle.pv_command_load.specs.Held.{Counts};
+ghost use Rattle.pv_command_load.specs.Held.{Counts, IsUnread};
 ghost use Rattle.pv_command_load.specs.Stopped.{stopped_text};
 ghost use Rattle.pv_command_replay.specs.Traces.{HoldsTrace, StopsTrace, trace_stopped, trace_line};
-ghost use Rattle.pv_command_replay.specs.Passing.{type_bounds, trace_status};
+ghost use Rattle.pv_command_replay.specs.Passing.{type_bounds, trace_status, trace_unread};
 ghost use Rattle.pv_command_replay.specs.declared.trace.TraceStop.TheVariants.{NoMemory};
 
 use pv_claims::{CertFault, Trace};
@@ -142,6 +142,7 @@ pub fn trace_in<F: Files>(
     ensures counted { MatchResult result
         (λ trace. F.read_faults files.new ≡ F.read_faults files.old)
         (λ stop. Counts (trace_status stop) (F.read_faults files.old) (F.read_faults files.new)) }
+    ensures named { IfErr result (λ stop. IsUnread (trace_unread stop) (F.unread files.new)) }
     ensures writes { F.write_faults files.new ≡ F.write_faults files.old }
 {
     let bytes = read(alloc, files, file)?;

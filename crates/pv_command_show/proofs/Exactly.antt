@@ -1,13 +1,15 @@
 -- From what a show came to, to what the files decide.
-use Rattle.std.proofs.Common.{◌≡◌, ◌≢◌, ℕ, List, Some, Result, Ok, Err, map, string_bytes, refl, ap, ◌∙◌}
+use Rattle.std.proofs.Common.{◌≡◌, ◌≢◌, ℕ, List, Option, Some, Result, Ok, Err, map, string_bytes, refl, ap, ◌∙◌}
 use Rattle.pv_edge.specs.Files.{FileMap}
 use Rattle.pv_command_load.specs.Subjects.{SubjectData, source_in}
 use Rattle.pv_command_load.specs.Stops.{text_tree}
 use Rattle.pv_command_replay.specs.declared.replay.ReplayStop.{ReplayStop}
-use Rattle.pv_command_replay.proofs.ForCallers.{Came, ends, by_stop, end_never_five, stop_never_five}
+use Rattle.pv_command_load.proofs.ForCallers.{TellsUnread}
+use Rattle.pv_command_replay.specs.Replays.{AsksReplay}
+use Rattle.pv_command_replay.proofs.ForCallers.{Came, ends, by_stop, end_never_five, stop_never_five, end_never_six, stop_tells}
 use Rattle.pv_command_show.specs.declared.show.Shown.{Shown}
 use Rattle.pv_command_show.specs.Texts.{shown_scans, show_text}
-use Rattle.pv_command_show.specs.Shows.{show_of, IsShown, SaysShow, show_status, shown_text}
+use Rattle.pv_command_show.specs.Shows.{show_of, IsShown, SaysShow, show_status, show_unread, shown_text}
 
 printed : (files : FileMap) (case_file trace_file : List ℕ) (s : SubjectData) (r : Shown)
     (is : IsShown (Some files) case_file trace_file s r)
@@ -31,3 +33,11 @@ by_show files case_file trace_file (Err stop) h readable roomy = by_stop show_of
 pub show_never_five : (result : Result Shown ReplayStop) → show_status result ≡ 5 → ⊥
 show_never_five (Ok r) e = end_never_five r.replayed.end e
 show_never_five (Err stop) e = stop_never_five stop e
+
+-- ---- a show with the status of a file that can't be read tells one that it asks for
+
+pub show_tells : (told : Option FileMap) (case_file trace_file : List ℕ) (result : Result Shown ReplayStop)
+    → SaysShow told case_file trace_file result → show_status result ≡ 6
+    → TellsUnread (AsksReplay told case_file trace_file) (show_unread result) (shown_text result)
+show_tells told case_file trace_file (Ok r) says six = absurd (end_never_six r.replayed.end six)
+show_tells told case_file trace_file (Err stop) says six = stop_tells told case_file trace_file stop says six

@@ -1,2 +1,2 @@
 -- What proofs of the crates above take from here: what the files hold decides a show.
-pub use Rattle.pv_command_show.proofs.Exactly.{by_show, show_never_five}
+pub use Rattle.pv_command_show.proofs.Exactly.{by_show, show_never_five, show_tells}

@@ -4,18 +4,18 @@ use Rattle.std.specs.Prelude.{IfOk}
 use Rattle.std.specs.Result.{IsErrAnd}
 use Rattle.pv_edge.specs.Files.{FileMap}
 use Rattle.pv_mean.specs.Runs.{run}
-use Rattle.pv_command_load.specs.Held.{Counts}
+use Rattle.pv_command_load.specs.Held.{Counts, IsUnread}
 use Rattle.pv_command_load.specs.Subjects.{SubjectData, source_in}
 use Rattle.pv_command_replay.specs.declared.replay.Ran.{Ran}
 use Rattle.pv_command_replay.specs.declared.replay.ReplayStop.{ReplayStop}
 use Rattle.pv_command_replay.specs.Ends.{IsEnd}
 use Rattle.pv_command_replay.specs.Traces.{HoldsTrace}
 use Rattle.pv_command_replay.specs.Judged.{HasValuesOf}
-use Rattle.pv_command_replay.specs.Replays.{IsRan, StopsReplay, stop_status}
+use Rattle.pv_command_replay.specs.Replays.{IsRan, StopsReplay, stop_status, stop_unread}
 use Rattle.pv_command_replay.proofs.ForCallers.{has_values, reported_as}
 use Rattle.pv_command_show.specs.declared.show.Shown.{Shown}
 use Rattle.pv_command_show.specs.Texts.{shown_scans}
-use Rattle.pv_command_show.specs.Shows.{SaysShow, show_status}
+use Rattle.pv_command_show.specs.Shows.{SaysShow, show_status, show_unread}
 
 -- the trace that is run has its values
 pub ran_values : (told : Option FileMap) (case_file trace_file : List ℕ) (s : SubjectData) (ran : Ran) → IsRan told case_file trace_file s ran
@@ -55,6 +55,11 @@ pub err_kept : (r : Result Shown ReplayStop) (stop : ReplayStop) (before after :
     → Counts (stop_status stop) before after → Counts (show_status r) before after
 err_kept (Ok x) stop before after is counts = absurd is
 err_kept (Err e) stop before after is counts = subst (λ x. Counts (stop_status x) before after) (sym is) counts
+
+pub err_told : (r : Result Shown ReplayStop) (stop : ReplayStop) (last : Option (List ℕ)) → IsErrAnd r (λ e. e ≡ stop)
+    → IsUnread (stop_unread stop) last → IsUnread (show_unread r) last
+err_told (Ok x) stop last is named = absurd is
+err_told (Err e) stop last is named = subst (λ x. IsUnread (stop_unread x) last) (sym is) named
 
 -- what is said of an answer
 pub ok_map : {A E : Type 0} (P Q : A → Type 0) (r : Result A E) → ((x : A) → P x → Q x) → IfOk r P → IfOk r Q

@@ -1,5 +1,5 @@
 -- What the command `show CASE TRACE` says.
-use Rattle.std.specs.Prelude.{◌≡◌, ℕ, List, map, Option, Some, Result, Ok, Err, string_bytes}
+use Rattle.std.specs.Prelude.{◌≡◌, ℕ, List, map, Option, Some, None, Result, Ok, Err, string_bytes}
 use Rattle.pv_edge.specs.Files.{FileMap}
 use Rattle.pv_claims.specs.declared.trace.Trace.{Trace}
 use Rattle.pv_command_load.specs.Subjects.{texts_of, SubjectData, source_in}
@@ -7,7 +7,7 @@ use Rattle.pv_command_load.specs.Stops.{text_tree}
 use Rattle.pv_command_replay.specs.declared.end.End.{End}
 use Rattle.pv_command_replay.specs.declared.replay.ReplayStop.{ReplayStop}
 use Rattle.pv_command_replay.specs.Reports.{end_status}
-use Rattle.pv_command_replay.specs.Replays.{IsReplayed, IsReportOf, StopsReplay, stop_status, stop_text}
+use Rattle.pv_command_replay.specs.Replays.{IsReplayed, IsReportOf, StopsReplay, stop_status, stop_unread, stop_text}
 use Rattle.pv_command_show.specs.declared.show.Shown.{Shown}
 use Rattle.pv_command_show.specs.Texts.{shown_scans, show_text}
 
@@ -30,6 +30,11 @@ SaysShow told case_file trace_file (Err stop) = StopsReplay told case_file trace
 abbrev pub show_status : Result Shown ReplayStop → ℕ
 show_status (Ok r) = end_status r.replayed.end
 show_status (Err stop) = stop_status stop
+
+-- the file that is told as one that can't be read
+abbrev pub show_unread : Result Shown ReplayStop → Option (List ℕ)
+show_unread (Ok r) = None
+show_unread (Err stop) = stop_unread stop
 
 -- what is printed, none where memory ends
 abbrev pub shown_text : Result Shown ReplayStop → Option (List ℕ)

@@ -1,7 +1,7 @@
 //! The command `show CASE TRACE`.
 ghost use Rattle.std.specs.Prelude.{◌≡◌, Ok, Some, IfOk};
-ghost use Rattle.pv_command_load.specs.Held.{Counts};
-ghost use Rattle.pv_command_show.specs.Shows.{SaysShow, show_status, shown_text};
+ghost use Rattle.pv_command_load.specs.Held.{Counts, IsUnread};
+ghost use Rattle.pv_command_show.specs.Shows.{SaysShow, show_status, show_unread, shown_text};
 
 use crate::scans::scans_of;
 use pv_command_load::Status;
@@ -51,6 +51,7 @@ pub fn show_in<F: Files>(
     ensures files { F.told files.new ≡ F.told files.old }
     ensures says { SaysShow (F.told files.old) case_file.now trace_file.now result }
     ensures counted { Counts (show_status result) (F.read_faults files.old) (F.read_faults files.new) }
+    ensures named { IsUnread (show_unread result) (F.unread files.new) }
     ensures writes { F.write_faults files.new ≡ F.write_faults files.old }
 {
     let ran = run_in(alloc, files, case_file, trace_file)?;

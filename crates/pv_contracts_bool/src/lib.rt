@@ -12,9 +12,9 @@ ghost use Rattle.pv_bool_form.specs.Programs.{first_source, pattern_program};
 ghost use Rattle.pv_bool_form.specs.Requirements.{pattern_tree};
 ghost use Rattle.pv_bool_load.specs.Forms.{ReadsFirst};
 ghost use Rattle.pv_bool_load.specs.Made.{IsFirstSubject};
-ghost use Rattle.pv_bool_load.specs.Stops.{first_stop_status, StopsFirst};
+ghost use Rattle.pv_bool_load.specs.Stops.{first_stop_status, first_stop_unread, StopsFirst};
 ghost use Rattle.pv_case.specs.Cases.{SourceData, data_of};
-ghost use Rattle.pv_command_load.specs.Held.{Counts};
+ghost use Rattle.pv_command_load.specs.Held.{Counts, IsUnread};
 ghost use Rattle.pv_command_load.specs.Subjects.{SubjectData};
 ghost use Rattle.pv_lex.specs.declared.lex.TheConstants.{MAX_SOURCE};
 ghost use Rattle.pv_mean.specs.ProjectSizes.{project_tree};
@@ -122,6 +122,7 @@ pub fn first_subject_in<F: Files>(
     ensures counted { MatchResult result
         (λ made. F.read_faults files.new ≡ F.read_faults files.old)
         (λ stop. Counts (first_stop_status stop) (F.read_faults files.old) (F.read_faults files.new)) }
+    ensures named { IfErr result (λ stop. IsUnread (first_stop_unread stop) (F.unread files.new)) }
     ensures writes { F.write_faults files.new ≡ F.write_faults files.old }
 {
     pv_bool_load::first_subject_in(alloc, files, case_file)

@@ -5,11 +5,11 @@
 //! that of memory's end.
 #![tactic(auto)]
 
-ghost use Rattle.pv_command_load.specs.Held.{Counts};
-ghost use Rattle.pv_command_recheck.specs.Rechecks.{SaysRecheck, recheck_status};
+ghost use Rattle.pv_command_load.specs.Held.{Counts, IsUnread};
+ghost use Rattle.pv_command_recheck.specs.Rechecks.{SaysRecheck, recheck_status, recheck_unread};
 ghost use Rattle.pv_command_load.specs.Subjects.{SubjectData};
-ghost use Rattle.pv_command_replay.specs.Replays.{IsRan, SaysReplay, StopsReplay, replay_status, stop_status};
-ghost use Rattle.pv_command_show.specs.Shows.{SaysShow, show_status};
+ghost use Rattle.pv_command_replay.specs.Replays.{IsRan, SaysReplay, StopsReplay, replay_status, replay_unread, stop_status, stop_unread};
+ghost use Rattle.pv_command_show.specs.Shows.{SaysShow, show_status, show_unread};
 ghost use Rattle.pv_top.specs.Calls.{Promises};
 ghost use Rattle.std.specs.Prelude.{IfErr, IfOk, MatchResult, map, string_bytes, ◌≡◌};
 
@@ -33,6 +33,7 @@ pub fn run_in<F: Files>(
     ensures counted { MatchResult result
         (λ ran. F.read_faults files.new ≡ F.read_faults files.old)
         (λ stop. Counts (stop_status stop) (F.read_faults files.old) (F.read_faults files.new)) }
+    ensures named { IfErr result (λ stop. IsUnread (stop_unread stop) (F.unread files.new)) }
     ensures writes { F.write_faults files.new ≡ F.write_faults files.old }
 {
     pv_command_replay::run_in(alloc, files, case_file, trace_file)
@@ -48,6 +49,7 @@ pub fn show_in<F: Files>(
     ensures files { F.told files.new ≡ F.told files.old }
     ensures says { SaysShow (F.told files.old) case_file.now trace_file.now result }
     ensures counted { Counts (show_status result) (F.read_faults files.old) (F.read_faults files.new) }
+    ensures named { IsUnread (show_unread result) (F.unread files.new) }
     ensures writes { F.write_faults files.new ≡ F.write_faults files.old }
 {
     pv_command_show::show_in(alloc, files, case_file, trace_file)
@@ -63,6 +65,7 @@ pub fn replay_in<F: Files>(
     ensures files { F.told files.new ≡ F.told files.old }
     ensures says { SaysReplay (F.told files.old) case_file.now trace_file.now result }
     ensures counted { Counts (replay_status result) (F.read_faults files.old) (F.read_faults files.new) }
+    ensures named { IsUnread (replay_unread result) (F.unread files.new) }
     ensures writes { F.write_faults files.new ≡ F.write_faults files.old }
 {
     pv_command_replay::replay_in(alloc, files, case_file, trace_file)
@@ -78,6 +81,7 @@ pub fn recheck_in<F: Files>(
     ensures files { F.told files.new ≡ F.told files.old }
     ensures says { SaysRecheck (F.told files.old) case_file.now certificate_file.now result }
     ensures counted { Counts (recheck_status result) (F.read_faults files.old) (F.read_faults files.new) }
+    ensures named { IsUnread (recheck_unread result) (F.unread files.new) }
     ensures writes { F.write_faults files.new ≡ F.write_faults files.old }
 {
     pv_command_recheck::recheck_in(alloc, files, case_file, certificate_file)
@@ -93,18 +97,21 @@ pub fn run<F: Files, S: Sink>(
 ) -> Status
     ensures files { F.told files.new ≡ F.told files.old }
     ensures kept { kept.new ≡ kept.old }
-    ensures promises { Promises (record {
+    ensures promises { Promises S.call (record {
       words = map string_bytes words.now;
       told = F.told files.old;
       status = result;
       reads = F.read_faults files.old;
       reads_after = F.read_faults files.new;
+      unread_after = F.unread files.new;
       writes = F.write_faults files.old;
       writes_after = F.write_faults files.new;
       sink = S.faults out.old;
       sink_after = S.faults out.new;
       taken = S.taken out.old;
       taken_after = S.taken out.new;
+      out = out.old;
+      out_after = out.new;
     }) }
 {
     pv_top::run(alloc, words, files, out, kept)

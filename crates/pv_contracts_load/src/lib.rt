@@ -6,12 +6,12 @@
 
 ghost use Rattle.pv_case.specs.Cases.{data_of};
 ghost use Rattle.pv_command_load.specs.Gathered.{HasSources};
-ghost use Rattle.pv_command_load.specs.Held.{Counts, Holds};
+ghost use Rattle.pv_command_load.specs.Held.{Counts, Holds, IsUnread};
 ghost use Rattle.pv_command_load.specs.Made.{AreGiven, IsCase, IsFit, IsProjectOf, IsSubject, IsTableOf, view_tree};
 ghost use Rattle.pv_command_load.specs.Passing.{source_named};
 ghost use Rattle.pv_command_load.specs.Reads.{HoldsCase, Reads};
 ghost use Rattle.pv_command_load.specs.Sources.{ReadsAs};
-ghost use Rattle.pv_command_load.specs.Stops.{StopsAtSource, StopsCase, StopsFit, StopsProject, StopsRead, StopsSource, StopsSubject, StopsTable, case_status, read_status, source_status, subject_status};
+ghost use Rattle.pv_command_load.specs.Stops.{StopsAtSource, StopsCase, StopsFit, StopsProject, StopsRead, StopsSource, StopsSubject, StopsTable, case_status, case_unread, read_status, read_unread, source_status, source_unread, subject_status, subject_unread};
 ghost use Rattle.pv_command_load.specs.Subjects.{Entered, Given, SubjectData};
 ghost use Rattle.pv_mean.specs.Cells.{with_view};
 ghost use Rattle.pv_pattern.specs.Patterns.{Pattern as Said};
@@ -41,6 +41,7 @@ pub fn read<F: Files>(alloc: Global, files: &mut F, name: &str) -> Result<Vec<u8
     ensures counted { MatchResult result
         (λ bytes. F.read_faults files.new ≡ F.read_faults files.old)
         (λ stop. Counts (read_status stop) (F.read_faults files.old) (F.read_faults files.new)) }
+    ensures named { IfErr result (λ stop. IsUnread (read_unread stop) (F.unread files.new)) }
     ensures writes { F.write_faults files.new ≡ F.write_faults files.old }
 {
     pv_command_load::read(alloc, files, name)
@@ -55,6 +56,7 @@ pub fn case_in<F: Files>(alloc: Global, files: &mut F, file: &str) -> Result<Cas
     ensures counted { MatchResult result
         (λ case. F.read_faults files.new ≡ F.read_faults files.old)
         (λ stop. Counts (case_status stop) (F.read_faults files.old) (F.read_faults files.new)) }
+    ensures named { IfErr result (λ stop. IsUnread (case_unread stop) (F.unread files.new)) }
     ensures writes { F.write_faults files.new ≡ F.write_faults files.old }
 {
     pv_command_load::case_in(alloc, files, file)
@@ -87,6 +89,7 @@ pub fn sources_in<F: Files>(
     ensures counted { MatchResult result
         (λ sources. F.read_faults files.new ≡ F.read_faults files.old)
         (λ stop. Counts (source_status stop) (F.read_faults files.old) (F.read_faults files.new)) }
+    ensures named { IfErr result (λ stop. IsUnread (source_unread stop) (F.unread files.new)) }
     ensures writes { F.write_faults files.new ≡ F.write_faults files.old }
 {
     pv_command_load::sources_in(alloc, files, case)
@@ -154,6 +157,7 @@ pub fn subject_in<F: Files>(
     ensures counted { MatchResult result
         (λ s. F.read_faults files.new ≡ F.read_faults files.old)
         (λ stop. Counts (subject_status stop) (F.read_faults files.old) (F.read_faults files.new)) }
+    ensures named { IfErr result (λ stop. IsUnread (subject_unread stop) (F.unread files.new)) }
     ensures writes { F.write_faults files.new ≡ F.write_faults files.old }
 {
     pv_command_load::subject_in(alloc, files, case_file)

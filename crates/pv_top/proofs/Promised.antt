@@ -3,36 +3,39 @@
 -- A generic command over `Files` and `Sink` proves with almost no file if each small call says what it leaves (`files`, `counted`,
 -- `writes`) and why it stops; the record of promises is then found field by field. A `format!` gives its pieces nested to the right:
 -- write the definition as `a ++ (b ++ (c ++ d))`, and no lemma is needed.
-use Rattle.std.proofs.Common.{◌≡◌, ◌≢◌, ◌⊎◌, inl, inr, ℕ, List, Option, Some, Result, Ok, Err, refl, sym, subst, ◌∙◌, arith}
+use Rattle.std.proofs.Common.{◌≡◌, ◌≢◌, ◌⊎◌, inl, inr, ℕ, List, [], Option, Some, Result, Ok, Err, refl, sym, subst, ◌∙◌, arith}
 use Rattle.std.specs.Prelude.{codes}
 use Rattle.pv_edge.specs.Faults.{HasRisen}
 use Rattle.pv_edge.specs.Files.{FileMap}
-use Rattle.pv_edge.specs.Sink.{Takes, TakesLess}
+use Rattle.pv_edge.specs.Sink.{Takes, TakesLess, Offered, StopsOffering}
+use Rattle.pv_edge.specs.declared.outside.SinkFault.{SinkFault}
 use Rattle.pv_command_load.specs.declared.subject.SubjectStop.{SubjectStop}
 use Rattle.pv_command_load.specs.declared.subject.SubjectStop.TheVariants as subject_stop
-use Rattle.pv_command_load.specs.Held.{Counts}
-use Rattle.pv_command_load.specs.Refusals.{TableRefusal, no_entry, too_many_cells, table_status}
+use Rattle.pv_command_load.specs.Held.{Counts, IsUnread}
+use Rattle.pv_command_load.specs.Refusals.{TableRefusal, no_entry, too_many_cells, table_status, read_line}
 use Rattle.pv_command_load.specs.Stopped.{Stopped, unread, refused, no_memory, stopped_status}
 use Rattle.pv_command_load.specs.Stops.{case_stopped, source_stopped, project_stopped, table_stopped, fit_stopped, subject_status}
+use Rattle.pv_command_load.proofs.ForCallers.{TellsUnread, tells_of}
 use Rattle.pv_command_replay.specs.declared.replay.ReplayStop.{ReplayStop}
 use Rattle.pv_command_replay.specs.declared.replay.Replayed.{Replayed}
-use Rattle.pv_command_replay.specs.Replays.{report_of, SaysReplay, replay_status, replay_text, ReplaysExactly}
-use Rattle.pv_command_replay.proofs.ForCallers.{Laws as ReplayLaws, Came, by_result, one_came, replays_exactly, never_five}
+use Rattle.pv_command_replay.specs.Replays.{report_of, AsksReplay, SaysReplay, replay_status, replay_text, ReplaysExactly}
+use Rattle.pv_command_replay.proofs.ForCallers.{Laws as ReplayLaws, Came, by_result, one_came, replays_exactly, never_five, replay_tells}
 use Rattle.pv_command_recheck.specs.declared.recheck.RecheckStop.{RecheckStop}
 use Rattle.pv_command_recheck.specs.declared.recheck.RecheckStop.TheVariants as recheck_stop
 use Rattle.pv_command_recheck.specs.declared.recheck.Rechecked.{Rechecked}
 use Rattle.pv_command_recheck.specs.Certificates.{CertificateRefusal, unbuilt, too_many_gates, faulty, certificate_status, certificate_stopped}
 use Rattle.pv_command_recheck.specs.Correct.{FilesDecideOneRecheck}
-use Rattle.pv_command_recheck.specs.Rechecks.{HoldsSatisfied, SaysRecheck, recheck_stop_status, recheck_status, recheck_text, RechecksExactly}
+use Rattle.pv_command_recheck.specs.Rechecks.{HoldsSatisfied, AsksRecheck, SaysRecheck, recheck_stop_status, recheck_status, recheck_text, RechecksExactly}
+use Rattle.pv_command_recheck.proofs.ForCallers.{recheck_tells}
 use Rattle.pv_command_show.specs.declared.show.Shown.{Shown}
 use Rattle.pv_command_show.specs.Shows.{show_of, SaysShow, show_status, shown_text}
-use Rattle.pv_command_show.proofs.ForCallers.{by_show, show_never_five}
+use Rattle.pv_command_show.proofs.ForCallers.{by_show, show_never_five, show_tells}
 use Rattle.pv_top.specs.declared.outcome.Outcome.{Outcome}
 use Rattle.pv_top.specs.declared.outcome.Outcome.TheVariants.{NoCommand, Replay, Recheck, Show}
-use Rattle.pv_top.specs.Outcomes.{status_of, text_of}
-use Rattle.pv_top.specs.Calls.{Call, IsReplay, IsRecheck, IsShow, IsCommand, Says, Delivers, whole, part, silent, IsSettled, IsTakenIn, Promises}
+use Rattle.pv_top.specs.Outcomes.{status_of, unread_of, text_of}
+use Rattle.pv_top.specs.Calls.{Call, IsReplay, IsRecheck, IsShow, IsCommand, Asks, Says, fault_status, Offers, to_end, stopped, Delivers, whole, part, silent, IsSettled, IsTakenIn, NamesUnread, Promises}
 use Rattle.pv_top.proofs.WordsLemmas.{other_word, no_show, show_apart, second_word, third_word}
-use Rattle.pv_top.proofs.Rechecks.{RecheckSaid, one_said, said_recheck, rechecks_exactly}
+use Rattle.pv_top.proofs.Rechecks.{same_some, RecheckSaid, one_said, said_recheck, rechecks_exactly}
 
 -- ---- what is said of other words for the same command
 
@@ -134,7 +137,34 @@ zero_settled status e = record {
   roomy = λ h. (let no : 0 ≡ 9 = sym e ∙ h in omega (arith, no));
 }
 
+-- ---- a file that can't be read
+
+asks_of : (told : Option FileMap) (words : List (List ℕ)) (outcome : Outcome) → Says told words outcome → status_of outcome ≡ 6
+    → TellsUnread (Asks told words) (unread_of outcome) (text_of outcome)
+asks_of told words NoCommand says six = absurd (omega (arith, six))
+asks_of told words (Replay result) says six =
+    tells_of (AsksReplay told says.0 says.1) (Asks told words) _ _ (λ name asked. (says.0, says.1, inl (inl says.2, asked)))
+    (replay_tells told says.0 says.1 result says.3 six)
+asks_of told words (Recheck result) says six =
+    tells_of (AsksRecheck told says.0 says.1) (Asks told words) _ _ (λ name asked. (says.0, says.1, inr (says.2, asked)))
+    (recheck_tells told says.0 says.1 result says.3 six)
+asks_of told words (Show result) says six =
+    tells_of (AsksReplay told says.0 says.1) (Asks told words) _ _ (λ name asked. (says.0, says.1, inl (inr says.2, asked)))
+    (show_tells told says.0 says.1 result says.3 six)
+
 -- ---- delivery
+
+pub offers_whole : {S : Type 0} (call : List ℕ → Result ℕ SinkFault → S → S → Type 0) (outcome : Outcome) (status : ℕ) (text bytes : List ℕ)
+    (old new : S) → text_of outcome ≡ Some text → bytes ≡ text → status ≡ status_of outcome → Offered call bytes old [] new
+    → Offers call outcome status old new
+offers_whole call outcome status text bytes old new is same code offered =
+    let P : List ℕ → Type 0 = λ b. Offered call b old [] new in to_end text is code (subst P same offered)
+
+pub offers_stopped : {S : Type 0} (call : List ℕ → Result ℕ SinkFault → S → S → Type 0) (outcome : Outcome) (status : ℕ) (text bytes : List ℕ)
+    (fault : SinkFault) (old new : S) → text_of outcome ≡ Some text → bytes ≡ text → status ≡ fault_status fault
+    → StopsOffering call bytes old fault new → Offers call outcome status old new
+offers_stopped call outcome status text bytes fault old new is same code stops =
+    let P : List ℕ → Type 0 = λ b. StopsOffering call b old fault new in stopped text fault is code (subst P same stops)
 
 pub delivers_whole : (outcome : Outcome) (status : ℕ) (text bytes : List ℕ) (taken taken_after : Option (List ℕ))
     → text_of outcome ≡ Some text → bytes ≡ text → status ≡ status_of outcome → Takes bytes taken taken_after
@@ -274,8 +304,8 @@ recheck_exactly laws files words x y (Show result) text IsTaken is says read roo
 
 -- ---- the promises
 
-module _ (call : Call) (outcome : Outcome) (says : Says call.told call.words outcome)
-    (counted : Counts (status_of outcome) call.reads call.reads_after)
+module _ (S : Type 0) (call : Call S) (outcome : Outcome) (says : Says call.told call.words outcome)
+    (counted : Counts (status_of outcome) call.reads call.reads_after) (named : IsUnread (unread_of outcome) call.unread_after)
     (delivers : Delivers outcome call.status call.taken call.taken_after) where
   whole_is : IsSettled call.status → IsWhole outcome call.status call.taken call.taken_after
   whole_is is = settled outcome call.status call.taken call.taken_after is delivers
@@ -302,39 +332,58 @@ module _ (call : Call) (outcome : Outcome) (says : Says call.told call.words out
       lead (part text of (inr h) takes) = let six : 6 ≡ 9 = sym e ∙ h in absurd (omega (arith, six))
       lead (silent h same) = let six : 6 ≡ 9 = sym e ∙ h in absurd (omega (arith, six))
 
-pub promised : Laws → (call : Call) (outcome : Outcome) → Says call.told call.words outcome
-    → Counts (status_of outcome) call.reads call.reads_after → Delivers outcome call.status call.taken call.taken_after
+  names : TellsUnread (Asks call.told call.words) (unread_of outcome) (text_of outcome) → (text : List ℕ) → text_of outcome ≡ Some text
+      → IsTakenIn call text → NamesUnread call
+  names tells text of takes =
+      let same : text ≡ read_line tells.file = same_some text (read_line tells.file) (sym of ∙ tells.line) in
+      let last : IsUnread (Some tells.file) call.unread_after = subst (λ o. IsUnread o call.unread_after) tells.is named in
+      record { file = tells.file; asked = tells.asked; last = last.last; taken = subst (IsTakenIn call) same takes }
+
+  names_unread : call.status ≡ 6 → NamesUnread call
+  names_unread e = lead delivers
+    where
+      lead : Delivers outcome call.status call.taken call.taken_after → NamesUnread call
+      lead (whole text of code takes) = names (asks_of call.told call.words outcome says (sym code ∙ e)) text of takes
+      lead (part text of (inl h) takes) = let six : 6 ≡ 7 = sym e ∙ h in absurd (omega (arith, six))
+      lead (part text of (inr h) takes) = let six : 6 ≡ 9 = sym e ∙ h in absurd (omega (arith, six))
+      lead (silent h same) = let six : 6 ≡ 9 = sym e ∙ h in absurd (omega (arith, six))
+
+pub promised : {S : Type 0} (sink_call : List ℕ → Result ℕ SinkFault → S → S → Type 0) → Laws → (call : Call S) (outcome : Outcome)
+    → Says call.told call.words outcome → Counts (status_of outcome) call.reads call.reads_after
+    → IsUnread (unread_of outcome) call.unread_after → Offers sink_call outcome call.status call.out call.out_after
+    → Delivers outcome call.status call.taken call.taken_after
     → (call.status ≡ 7 → HasRisen call.sink call.sink_after) → (call.status ≢ 7 → call.sink_after ≡ call.sink)
-    → call.writes_after ≡ call.writes → Promises call
-promised laws call outcome says counted delivers unwritten written writes = record {
-  answer = record { outcome = outcome; says = says; counted = counted; delivers = delivers };
+    → call.writes_after ≡ call.writes → Promises sink_call call
+promised {S = S} sink_call laws call outcome says counted named offers delivers unwritten written writes = record {
+  answer = record { outcome = outcome; says = says; counted = counted; named = named; offers = offers; delivers = delivers };
   no_command = λ is. (
-    λ e. unspelled call.told call.words outcome says (sym (code_is call outcome says counted delivers is) ∙ e),
-    λ other. code_is call outcome says counted delivers is ∙ answered_words call.told call.words outcome says other,
+    λ e. unspelled call.told call.words outcome says (sym (code_is S call outcome says counted named delivers is) ∙ e),
+    λ other. code_is S call outcome says counted named delivers is ∙ answered_words call.told call.words outcome says other,
   );
   replay = λ files x y told words is.
-      let w = whole_is call outcome says counted delivers is in
+      let w = whole_is S call outcome says counted named delivers is in
       let P : Option FileMap → Type 0 = λ t. Says t call.words outcome in
       let Q : ℕ → Type 0 = λ s. ReplaysExactly report_of files x y s (IsTakenIn call) in
       subst Q (sym w.code) (replay_exactly laws files call.words x y outcome w.text (IsTakenIn call) words (subst P told says)
-      (read_is call outcome says counted delivers is) (roomy_is call outcome says counted delivers is) w.is w.takes);
+      (read_is S call outcome says counted named delivers is) (roomy_is S call outcome says counted named delivers is) w.is w.takes);
   show = λ files x y told words is.
-      let w = whole_is call outcome says counted delivers is in
+      let w = whole_is S call outcome says counted named delivers is in
       let P : Option FileMap → Type 0 = λ t. Says t call.words outcome in
       let Q : ℕ → Type 0 = λ s. ReplaysExactly show_of files x y s (IsTakenIn call) in
       subst Q (sym w.code) (show_exactly laws files call.words x y outcome w.text (IsTakenIn call) words (subst P told says)
-      (read_is call outcome says counted delivers is) (roomy_is call outcome says counted delivers is) w.is w.takes);
+      (read_is S call outcome says counted named delivers is) (roomy_is S call outcome says counted named delivers is) w.is w.takes);
   recheck = λ files x y told words is.
-      let w = whole_is call outcome says counted delivers is in
+      let w = whole_is S call outcome says counted named delivers is in
       let P : Option FileMap → Type 0 = λ t. Says t call.words outcome in
       let Q : ℕ → Type 0 = λ s. RechecksExactly files x y s (IsTakenIn call) in
       subst Q (sym w.code) (recheck_exactly laws files call.words x y outcome w.text (IsTakenIn call) words (subst P told says)
-      (read_is call outcome says counted delivers is) (roomy_is call outcome says counted delivers is) w.is w.takes);
+      (read_is S call outcome says counted named delivers is) (roomy_is S call outcome says counted named delivers is) w.is w.takes);
   satisfied = λ x y words e.
       satisfied_of call.told call.words x y outcome words says
-      (sym (code_is call outcome says counted delivers (zero_settled call.status e)) ∙ e);
-  unread = unread_is call outcome says counted delivers;
-  all_read = all_read call outcome says counted delivers;
+      (sym (code_is S call outcome says counted named delivers (zero_settled call.status e)) ∙ e);
+  unread = unread_is S call outcome says counted named delivers;
+  names_unread = names_unread S call outcome says counted named delivers;
+  all_read = all_read S call outcome says counted named delivers;
   never_falls = counted.never_falls;
   unwritten = unwritten;
   all_written = written;

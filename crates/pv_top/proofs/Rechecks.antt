@@ -47,7 +47,7 @@ pub data RecheckSaid (files : FileMap) (case_file file : List ℕ) (status : ℕ
 
 -- ---- one thing is said
 
-same_some : (x y : List ℕ) → Some x ≡ Some y → x ≡ y
+pub same_some : (x y : List ℕ) → Some x ≡ Some y → x ≡ y
 same_some x y e = cc
 
 one_result : (files : FileMap) (file : List ℕ) (program : ProgramTree) (result other : Result (Unit {0}) RecheckFault)

@@ -1,8 +1,8 @@
 -- What the words come to, with the status and the text that go with it.
-use Rattle.std.specs.Prelude.{ℕ, List, codes, Option, Some}
-use Rattle.pv_command_replay.specs.Replays.{replay_status, replay_text}
-use Rattle.pv_command_recheck.specs.Rechecks.{recheck_status, recheck_text}
-use Rattle.pv_command_show.specs.Shows.{show_status, shown_text}
+use Rattle.std.specs.Prelude.{ℕ, List, codes, Option, Some, None}
+use Rattle.pv_command_replay.specs.Replays.{replay_status, replay_unread, replay_text}
+use Rattle.pv_command_recheck.specs.Rechecks.{recheck_status, recheck_unread, recheck_text}
+use Rattle.pv_command_show.specs.Shows.{show_status, show_unread, shown_text}
 use Rattle.pv_top.specs.declared.outcome.Outcome.{Outcome}
 use Rattle.pv_top.specs.declared.outcome.Outcome.TheVariants.{NoCommand, Replay, Recheck, Show}
 
@@ -14,6 +14,13 @@ status_of NoCommand = 5
 status_of (Replay result) = replay_status result
 status_of (Recheck result) = recheck_status result
 status_of (Show result) = show_status result
+
+-- the file that is told as one that can't be read
+abbrev pub unread_of : Outcome → Option (List ℕ)
+unread_of NoCommand = None
+unread_of (Replay result) = replay_unread result
+unread_of (Recheck result) = recheck_unread result
+unread_of (Show result) = show_unread result
 
 -- what is printed, none where memory ends
 abbrev pub text_of : Outcome → Option (List ℕ)

@@ -6,9 +6,9 @@
 
 ghost use Rattle.std.specs.Prelude.{◌≡◌, ◌≢◌, map, string_bytes};
 ghost use Rattle.pv_edge.specs.Faults.{HasRisen};
-ghost use Rattle.pv_command_load.specs.Held.{Counts};
-ghost use Rattle.pv_top.specs.Outcomes.{status_of};
-ghost use Rattle.pv_top.specs.Calls.{Says, Delivers, Promises};
+ghost use Rattle.pv_command_load.specs.Held.{Counts, IsUnread};
+ghost use Rattle.pv_top.specs.Outcomes.{status_of, unread_of};
+ghost use Rattle.pv_top.specs.Calls.{Says, Offers, Delivers, Promises};
 
 pub mod laws;
 mod outcome;
@@ -40,18 +40,21 @@ pub fn run<F: Files, S: Sink>(
 ) -> Status
     ensures files { F.told files.new ≡ F.told files.old }
     ensures kept { kept.new ≡ kept.old }
-    ensures promises { Promises (record {
+    ensures promises { Promises S.call (record {
       words = map string_bytes words.now;
       told = F.told files.old;
       status = result;
       reads = F.read_faults files.old;
       reads_after = F.read_faults files.new;
+      unread_after = F.unread files.new;
       writes = F.write_faults files.old;
       writes_after = F.write_faults files.new;
       sink = S.faults out.old;
       sink_after = S.faults out.new;
       taken = S.taken out.old;
       taken_after = S.taken out.new;
+      out = out.old;
+      out_after = out.new;
     }) }
 {
     let _ = kept;
@@ -68,6 +71,7 @@ fn outcome_of<F: Files>(alloc: Global, words: &[String], files: &mut F) -> Outco
     ensures files { F.told files.new ≡ F.told files.old }
     ensures says { Says (F.told files.old) (map string_bytes words.now) result }
     ensures counted { Counts (status_of result) (F.read_faults files.old) (F.read_faults files.new) }
+    ensures named { IsUnread (unread_of result) (F.unread files.new) }
     ensures writes { F.write_faults files.new ≡ F.write_faults files.old }
 {
     match read_words(words) {
@@ -84,6 +88,7 @@ fn outcome_of<F: Files>(alloc: Global, words: &[String], files: &mut F) -> Outco
 
 /// Makes the outcome's text whole and offers it to the sink.
 fn print<S: Sink>(alloc: Global, out: &mut S, outcome: &Outcome) -> Status
+    ensures offers { Offers S.call outcome.now result out.old out.new }
     ensures delivers { Delivers outcome.now result (S.taken out.old) (S.taken out.new) }
     ensures unwritten { result ≡ 7 → HasRisen (S.faults out.old) (S.faults out.new) }
     ensures all_written { result ≢ 7 → S.faults out.new ≡ S.faults out.old }

@@ -12,5 +12,8 @@ returns-clause-stopped g c = c.first_subject_in.ensures.stopped
 pub returns-clause-counted : goal.returns-clause-counted
 returns-clause-counted g c = c.first_subject_in.ensures.counted
 
+pub returns-clause-named : goal.returns-clause-named
+returns-clause-named g c = c.first_subject_in.ensures.named
+
 pub returns-clause-writes : goal.returns-clause-writes
 returns-clause-writes g c = c.first_subject_in.ensures.writes

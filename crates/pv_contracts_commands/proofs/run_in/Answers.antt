@@ -9,6 +9,9 @@ returns-clause-ran g c = c.run_in.ensures.ran
 pub returns-clause-counted : goal.returns-clause-counted
 returns-clause-counted g c = c.run_in.ensures.counted
 
+pub returns-clause-named : goal.returns-clause-named
+returns-clause-named g c = c.run_in.ensures.named
+
 pub returns-clause-writes : goal.returns-clause-writes
 returns-clause-writes g c = c.run_in.ensures.writes
 

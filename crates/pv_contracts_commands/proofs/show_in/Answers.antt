@@ -9,5 +9,8 @@ returns-clause-says g c = c.show_in.ensures.says
 pub returns-clause-counted : goal.returns-clause-counted
 returns-clause-counted g c = c.show_in.ensures.counted
 
+pub returns-clause-named : goal.returns-clause-named
+returns-clause-named g c = c.show_in.ensures.named
+
 pub returns-clause-writes : goal.returns-clause-writes
 returns-clause-writes g c = c.show_in.ensures.writes

@@ -1,13 +1,14 @@
 use Rattle.std.proofs.Common.{◌≤◌, [], length, refl, sym, subst, ◌∙◌}
 use Rattle.pv_types.specs.declared.layout.TheConstants.{MAX_LEAVES}
 use Rattle.pv_case.specs.Cases.{data_of}
+use Rattle.pv_command_load.specs.Held.{IsUnread}
 use Rattle.pv_command_load.specs.declared.subject.SubjectStop.TheVariants as stop_at
-use Rattle.pv_command_load.proofs.ForCallers.{passed, code_count, code_short, is_case, held_texts, given_by, are_given, reads_kept, reads_project, reads_table, entry_within}
+use Rattle.pv_command_load.proofs.ForCallers.{passed, none_unread, code_count, code_short, is_case, held_texts, given_by, are_given, reads_kept, reads_project, reads_table, entry_within}
 use Rattle.pv_bool_load.specs.declared.stop.FirstStop.TheVariants.{Subject as At_subject}
-use Rattle.pv_bool_load.specs.Stops.{first_stop_status, StopsFirst}
-use Rattle.pv_bool_load.proofs.Working.{no_symbols, few_sources, stays, passed_counts, stops_source, are_first}
+use Rattle.pv_bool_load.specs.Stops.{first_stop_status, first_stop_unread, StopsFirst}
+use Rattle.pv_bool_load.proofs.Working.{no_symbols, few_sources, stays, first_other, passed_counts, stops_source, are_first}
 use Rattle.pv_bool_load.proofs.Stages.{stops_table, stops_fit, table_unread, fit_unread}
-use Rattle.pv_bool_load.proofs.Joining.{joined_found, joined_stopped, joined_counted, reads_all, data_by, is_subject}
+use Rattle.pv_bool_load.proofs.Joining.{joined_found, joined_stopped, joined_counted, joined_named, reads_all, data_by, is_subject}
 use Rattle.pv_bool_load.proofs.subject.first_subject_in.Goals as goal
 
 pub returns-in_err-case-clause-stopped : goal.returns-in_err-case-clause-stopped
@@ -196,3 +197,32 @@ pub returns-clause-counted : goal.returns-clause-counted
 returns-clause-counted g c =
     joined_counted c.program_in-made.result c.with_program.result _ _ c.program_in-made.ensures.unread c.with_program.ensures.err
     (c.in_ok-sources.ensures.counted ∙ c.in_ok-case.ensures.counted)
+
+pub returns-in_err-case-clause-named : goal.returns-in_err-case-clause-named
+returns-in_err-case-clause-named g c =
+    passed (λ e. IsUnread (first_stop_unread e) _) c.from_residual.result c.in_err-case.field-0.0
+    c.from_residual.ensures.1 c.in_err-case.ensures.named
+
+pub returns-in_err-sources-clause-named : goal.returns-in_err-sources-clause-named
+returns-in_err-sources-clause-named g c =
+    passed (λ e. IsUnread (first_stop_unread e) _) c.from_residual-in_err-sources.result (At_subject (stop_at.Source c.in_err-sources.field-0.0))
+    c.from_residual-in_err-sources.ensures.1 c.in_err-sources.ensures.named
+
+pub returns-in_err-project-clause-named : goal.returns-in_err-project-clause-named
+returns-in_err-project-clause-named g c =
+    passed (λ e. IsUnread (first_stop_unread e) _) c.from_residual-in_err-project.result c.in_err-project.field-0.0
+    c.from_residual-in_err-project.ensures.1 (first_other c.in_err-project.field-0.0 _ c.in_err-project.ensures.unread)
+
+pub returns-in_err-entry-clause-named : goal.returns-in_err-entry-clause-named
+returns-in_err-entry-clause-named g c =
+    passed (λ e. IsUnread (first_stop_unread e) _) c.from_residual-in_err-entry.result (At_subject (stop_at.Table c.in_err-entry.field-0.0))
+    c.from_residual-in_err-entry.ensures.1 (none_unread _)
+
+pub returns-in_err-view-clause-named : goal.returns-in_err-view-clause-named
+returns-in_err-view-clause-named g c =
+    passed (λ e. IsUnread (first_stop_unread e) _) c.from_residual-in_err-view.result (At_subject (stop_at.Fit c.in_err-view.field-0.0))
+    c.from_residual-in_err-view.ensures.1 (none_unread _)
+
+pub returns-clause-named : goal.returns-clause-named
+returns-clause-named g c =
+    joined_named c.program_in-made.result c.with_program.result _ c.program_in-made.ensures.unread c.with_program.ensures.err

@@ -1,11 +1,13 @@
 use Rattle.std.proofs.Common.{◌≤◌, length, sym, subst}
 use Rattle.pv_types.specs.declared.layout.TheConstants.{MAX_LEAVES}
 use Rattle.pv_case.specs.Cases.{data_of}
+use Rattle.pv_command_load.specs.Held.{IsUnread}
 use Rattle.pv_command_load.specs.declared.subject.SubjectStop.TheVariants as stop_at
-use Rattle.pv_command_load.specs.Stops.{StopsSubject}
+use Rattle.pv_command_load.specs.Stops.{StopsSubject, subject_unread}
 use Rattle.pv_command_load.proofs.Exits.{passed}
 use Rattle.pv_command_load.proofs.CaseTexts.{code_count, code_short}
 use Rattle.pv_command_load.proofs.SubjectLaws.{is_case, held_texts, given_by, are_given, reads_kept, reads_project, reads_table, reads_all, entry_within, data_by, is_subject}
+use Rattle.pv_command_load.proofs.Unread.{none_unread}
 use Rattle.pv_command_load.proofs.subject.subject_in.Goals as goal
 
 pub returns-in_err-project-clause-stopped : goal.returns-in_err-project-clause-stopped
@@ -119,3 +121,28 @@ returns-clause-found g c =
       is_subject _ given made.0 c.in_ok-entry.entry fit.0 c.in_ok-entry.table is has.texts project made.1 fit.1
           c.in_ok-view.ensures.params c.in_ok-view.ensures.bytes,
     )
+
+pub returns-in_err-case-clause-named : goal.returns-in_err-case-clause-named
+returns-in_err-case-clause-named g c =
+    passed (λ e. IsUnread (subject_unread e) _) c.from_residual.result (stop_at.Case c.in_err-case.field-0.0)
+    c.from_residual.ensures.1 c.in_err-case.ensures.named
+
+pub returns-in_err-sources-clause-named : goal.returns-in_err-sources-clause-named
+returns-in_err-sources-clause-named g c =
+    passed (λ e. IsUnread (subject_unread e) _) c.from_residual-in_err-sources.result (stop_at.Source c.in_err-sources.field-0.0)
+    c.from_residual-in_err-sources.ensures.1 c.in_err-sources.ensures.named
+
+pub returns-in_err-project-clause-named : goal.returns-in_err-project-clause-named
+returns-in_err-project-clause-named g c =
+    passed (λ e. IsUnread (subject_unread e) _) c.from_residual-in_err-project.result (stop_at.Project c.in_err-project.field-0.0)
+    c.from_residual-in_err-project.ensures.1 (none_unread _)
+
+pub returns-in_err-entry-clause-named : goal.returns-in_err-entry-clause-named
+returns-in_err-entry-clause-named g c =
+    passed (λ e. IsUnread (subject_unread e) _) c.from_residual-in_err-entry.result (stop_at.Table c.in_err-entry.field-0.0)
+    c.from_residual-in_err-entry.ensures.1 (none_unread _)
+
+pub returns-in_err-view-clause-named : goal.returns-in_err-view-clause-named
+returns-in_err-view-clause-named g c =
+    passed (λ e. IsUnread (subject_unread e) _) c.from_residual-in_err-view.result (stop_at.Fit c.in_err-view.field-0.0)
+    c.from_residual-in_err-view.ensures.1 (none_unread _)

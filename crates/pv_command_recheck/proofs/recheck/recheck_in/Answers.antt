@@ -1,6 +1,6 @@
 use Rattle.std.proofs.Common.{refl}
 use Rattle.pv_command_recheck.specs.declared.recheck.RecheckStop.TheVariants.{Certificate as At_certificate}
-use Rattle.pv_command_recheck.proofs.Reporting.{says_reported, says_stopped, err_said, err_counted}
+use Rattle.pv_command_recheck.proofs.Reporting.{says_reported, says_stopped, err_said, err_counted, err_told}
 use Rattle.pv_command_recheck.proofs.recheck.recheck_in.Goals as goal
 
 pub returns-in_err-subject-clause-says : goal.returns-in_err-subject-clause-says
@@ -19,6 +19,15 @@ pub returns-in_err-proof_in-clause-counted : goal.returns-in_err-proof_in-clause
 returns-in_err-proof_in-clause-counted g c =
     err_counted c.from_residual-in_err-proof_in.result (At_certificate c.in_err-proof_in.field-0.0) _ _ _
     c.from_residual-in_err-proof_in.ensures.1 c.in_ok-subject.ensures.counted c.in_err-proof_in.ensures.counted
+
+pub returns-in_err-subject-clause-named : goal.returns-in_err-subject-clause-named
+returns-in_err-subject-clause-named g c =
+    err_told c.from_residual.result c.in_err-subject.field-0.0 _ c.from_residual.ensures.1 c.in_err-subject.ensures.named
+
+pub returns-in_err-proof_in-clause-named : goal.returns-in_err-proof_in-clause-named
+returns-in_err-proof_in-clause-named g c =
+    err_told c.from_residual-in_err-proof_in.result (At_certificate c.in_err-proof_in.field-0.0) _
+    c.from_residual-in_err-proof_in.ensures.1 c.in_err-proof_in.ensures.named
 
 pub returns-clause-says : goal.returns-clause-says
 returns-clause-says g c =

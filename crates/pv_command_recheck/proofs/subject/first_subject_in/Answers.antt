@@ -1,11 +1,13 @@
 use Rattle.std.proofs.Common.{[], refl, ◌∙◌}
 use Rattle.pv_case.specs.Cases.{data_of}
+use Rattle.pv_command_load.specs.Held.{IsUnread}
 use Rattle.pv_command_load.specs.declared.subject.SubjectStop.TheVariants as stop_at
 use Rattle.pv_command_load.proofs.ForCallers.{passed, code_short, is_case, held_texts, given_by, are_given, reads_kept, reads_project}
 use Rattle.pv_command_recheck.specs.declared.recheck.RecheckStop.TheVariants.{Subject as At_subject}
 use Rattle.pv_command_recheck.specs.Forms.{AreFirst}
-use Rattle.pv_command_recheck.specs.Rechecks.{recheck_stop_status, StopsRecheck}
+use Rattle.pv_command_recheck.specs.Rechecks.{recheck_stop_status, recheck_stop_unread, StopsRecheck}
 use Rattle.pv_command_recheck.proofs.Working.{no_symbols, few_sources, stays, passed_counts, stops_source, are_first}
+use Rattle.pv_command_recheck.proofs.Unread.{recheck_other}
 use Rattle.pv_command_recheck.proofs.subject.first_subject_in.Goals as goal
 
 pub returns-in_err-case-clause-stopped : goal.returns-in_err-case-clause-stopped
@@ -91,3 +93,23 @@ returns-clause-found g c =
       name = refl;
       program = c.in_ok-program.ensures.found told given (is_case case) (are_first given found.1 made.1) kept made.0;
     }
+
+pub returns-in_err-case-clause-named : goal.returns-in_err-case-clause-named
+returns-in_err-case-clause-named g c =
+    passed (λ e. IsUnread (recheck_stop_unread e) _) c.from_residual.result c.in_err-case.field-0.0
+    c.from_residual.ensures.1 c.in_err-case.ensures.named
+
+pub returns-in_err-sources-clause-named : goal.returns-in_err-sources-clause-named
+returns-in_err-sources-clause-named g c =
+    passed (λ e. IsUnread (recheck_stop_unread e) _) c.from_residual-in_err-sources.result (At_subject (stop_at.Source c.in_err-sources.field-0.0))
+    c.from_residual-in_err-sources.ensures.1 c.in_err-sources.ensures.named
+
+pub returns-in_err-project-clause-named : goal.returns-in_err-project-clause-named
+returns-in_err-project-clause-named g c =
+    passed (λ e. IsUnread (recheck_stop_unread e) _) c.from_residual-in_err-project.result c.in_err-project.field-0.0
+    c.from_residual-in_err-project.ensures.1 (recheck_other c.in_err-project.field-0.0 _ c.in_err-project.ensures.unread)
+
+pub returns-in_err-program-clause-named : goal.returns-in_err-program-clause-named
+returns-in_err-program-clause-named g c =
+    passed (λ e. IsUnread (recheck_stop_unread e) _) c.from_residual-in_err-program.result c.in_err-program.field-0.0
+    c.from_residual-in_err-program.ensures.1 (recheck_other c.in_err-program.field-0.0 _ c.in_err-program.ensures.unread)

@@ -1,4 +1,4 @@
-use Rattle.pv_command_replay.proofs.Saying.{says_replayed, err_said, err_kept}
+use Rattle.pv_command_replay.proofs.Saying.{says_replayed, err_said, err_kept, err_told}
 use Rattle.pv_command_replay.proofs.replay.replay_in.Goals as goal
 
 pub returns-clause-says : goal.returns-clause-says
@@ -15,3 +15,7 @@ returns-in_err-ran-clause-says g c =
 pub returns-in_err-ran-clause-counted : goal.returns-in_err-ran-clause-counted
 returns-in_err-ran-clause-counted g c =
     err_kept c.from_residual.result c.in_err-ran.field-0.0 _ _ c.from_residual.ensures.1 c.in_err-ran.ensures.counted
+
+pub returns-in_err-ran-clause-named : goal.returns-in_err-ran-clause-named
+returns-in_err-ran-clause-named g c =
+    err_told c.from_residual.result c.in_err-ran.field-0.0 _ c.from_residual.ensures.1 c.in_err-ran.ensures.named

@@ -1,6 +1,8 @@
 use Rattle.std.proofs.Common.{refl, sym, subst, ◌∙◌}
 use Rattle.pv_command_load.specs.Subjects.{source_in}
-use Rattle.pv_command_replay.specs.Replays.{StopsReplay}
+use Rattle.pv_command_load.specs.Held.{IsUnread}
+use Rattle.pv_command_load.proofs.ForCallers.{none_unread}
+use Rattle.pv_command_replay.specs.Replays.{StopsReplay, stop_unread}
 use Rattle.pv_command_replay.specs.declared.replay.ReplayStop.TheVariants.{Trace as AtTrace, NoMemory}
 use Rattle.pv_command_replay.proofs.Starts.{subject_starts}
 use Rattle.pv_command_replay.proofs.TraceLaws.{err_passed}
@@ -35,3 +37,13 @@ pub returns-in_err-end-clause-counted : goal.returns-in_err-end-clause-counted
 returns-in_err-end-clause-counted g c =
     err_counted c.from_residual-in_err-end.result NoMemory _ _ _ c.from_residual-in_err-end.ensures.1 refl
     (all_read _ _ (c.in_ok-trace.ensures.counted ∙ c.in_ok-subject.ensures.counted))
+
+pub returns-in_err-trace-clause-named : goal.returns-in_err-trace-clause-named
+returns-in_err-trace-clause-named g c =
+    err_passed (λ stop. IsUnread (stop_unread stop) _) c.from_residual-in_err-trace.result (AtTrace c.in_err-trace.field-0.0)
+    c.from_residual-in_err-trace.ensures.1 c.in_err-trace.ensures.named
+
+pub returns-in_err-end-clause-named : goal.returns-in_err-end-clause-named
+returns-in_err-end-clause-named g c =
+    err_passed (λ stop. IsUnread (stop_unread stop) _) c.from_residual-in_err-end.result NoMemory c.from_residual-in_err-end.ensures.1
+    (none_unread _)

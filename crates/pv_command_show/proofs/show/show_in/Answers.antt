@@ -1,6 +1,7 @@
+use Rattle.pv_command_load.proofs.ForCallers.{none_unread}
 use Rattle.pv_command_replay.specs.declared.replay.ReplayStop.TheVariants.{NoMemory}
 use Rattle.pv_command_replay.proofs.ForCallers.{subject_starts, all_read}
-use Rattle.pv_command_show.proofs.Showing.{ran_values, says_shown, err_said, err_kept}
+use Rattle.pv_command_show.proofs.Showing.{ran_values, says_shown, err_said, err_kept, err_told}
 use Rattle.pv_command_show.proofs.show.show_in.Goals as goal
 
 pub returns-clause-says : goal.returns-clause-says
@@ -30,3 +31,11 @@ pub returns-in_err-scans-clause-says : goal.returns-in_err-scans-clause-says
 returns-in_err-scans-clause-says g c =
     err_said _ c.args.case_file.now c.args.trace_file.now c.from_residual-in_err-scans.result NoMemory
     c.from_residual-in_err-scans.ensures.1 tt
+
+pub returns-in_err-ran-clause-named : goal.returns-in_err-ran-clause-named
+returns-in_err-ran-clause-named g c =
+    err_told c.from_residual.result c.in_err-ran.field-0.0 _ c.from_residual.ensures.1 c.in_err-ran.ensures.named
+
+pub returns-in_err-scans-clause-named : goal.returns-in_err-scans-clause-named
+returns-in_err-scans-clause-named g c =
+    err_told c.from_residual-in_err-scans.result NoMemory _ c.from_residual-in_err-scans.ensures.1 (none_unread _)
