@@ -1,0 +1,9 @@
+pub mod CaseLimits
+pub mod Endings
+pub mod Lasts
+pub mod Refuted
+pub mod Sound
+pub mod Right
+pub mod OfFiles
+pub mod Kept
+pub mod SizeLines

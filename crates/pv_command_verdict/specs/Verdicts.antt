@@ -1,0 +1,21 @@
+-- What a verdict is: a certificate that is right for what the files hold, with what it says.
+use Rattle.std.specs.Prelude.{◌≡◌, ℕ, List, Option}
+use Rattle.pv_claims.specs.declared.trace.Ending.{Ending}
+use Rattle.pv_cert.specs.declared.certificate.Certificate.{Certificate}
+use Rattle.pv_cert.specs.CertificateText.{IsTextOf}
+use Rattle.pv_valid.specs.Validity.{ending_in, IsRight, IsValid}
+use Rattle.pv_valid.specs.declared.fault.Verdict.{Verdict as Answer}
+use Rattle.pv_command_load.specs.Subjects.{SubjectData, source_in}
+use Rattle.pv_command_verdict.specs.Cases.{case_in}
+use Rattle.pv_command_verdict.specs.Sayings.{SaysOfSource}
+
+-- the bytes are the text of a certificate that is right for what the files hold, its trace ends so, and this is what it says
+pub record IsVerdict (s : SubjectData) (bytes : List ℕ) (c : Certificate) (told : Option Ending) : Type 0 where
+  pub is_text : IsTextOf bytes c
+  pub is_right : IsRight (case_in s) c
+  pub ending : told ≡ ending_in (case_in s) c.trace
+  pub says : SaysOfSource (source_in s) s.pattern s.given.case.limits c told c.claim
+
+-- the bytes are valid for what the files hold, with this verdict
+abbrev pub IsValidFor : SubjectData → List ℕ → Answer → Type 0
+IsValidFor s bytes answer = IsValid (case_in s) bytes answer
