@@ -11,7 +11,7 @@ use Rattle.pv_mean.specs.Scans.{Visible, ScanEnd, scan, next_image}
 use Rattle.pv_mean.specs.Runs.{after, run_from}
 use Rattle.pv_mean.proofs.ForCallers.{length-image_after}
 use Rattle.pv_pattern.specs.Patterns.{Pattern, judge, mark, asks_for_goal}
-use Rattle.pv_pattern.specs.Failing.{Cause, pattern, trap, over, is_failure, ends_by, mark_of, FailsFirstFrom}
+use Rattle.pv_pattern.specs.Failing.{Cause, pattern, trap, is_failure, ends_by, mark_of, FailsFirstFrom}
 use Rattle.pv_pattern.specs.Sources.{state_of, step_of, machine_of}
 use Rattle.pv_claims.specs.declared.trace.Ending.TheVariants as ending
 use Rattle.pv_stretch.specs.Stretches.{ending_of}

@@ -1,8 +1,7 @@
 -- The text of a verdict's certificate is valid.
-use Rattle.std.proofs.Common.{◌≡◌, ℕ, List, Option, ap}
+use Rattle.std.proofs.Common.{ℕ, List, Option, ap}
 use Rattle.pv_claims.specs.declared.trace.Ending.{Ending}
 use Rattle.pv_cert.specs.declared.certificate.Certificate.{Certificate}
-use Rattle.pv_valid.specs.declared.fault.Verdict.{Verdict}
 use Rattle.pv_command_load.specs.Subjects.{SubjectData}
 use Rattle.pv_command_verdict.specs.Verdicts.{IsVerdict, IsValidFor}
 

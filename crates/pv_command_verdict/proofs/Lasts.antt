@@ -1,5 +1,5 @@
 -- How the last scan of a run ends: of machines that are the same, and of the source's own.
-use Rattle.std.proofs.Common.{◌≡◌, ℕ, suc, Bool, true, List, [], ◌∷◌, length, Option, Some, None, refl, ap, sym, subst, ◌∙◌}
+use Rattle.std.proofs.Common.{◌≡◌, suc, Bool, List, [], ◌∷◌, length, Option, Some, None, refl, ap, sym, subst, ◌∙◌}
 use Rattle.std.specs.List.{AllByRecursion}
 use Rattle.std.proofs.lemmas.List.{length-map}
 use Rattle.pv_place.specs.Ranges.{Range, AreWithin}
@@ -7,7 +7,6 @@ use Rattle.pv_machine.specs.Machines.{Machine, Values, Step, IsLawful, IsState, 
 use Rattle.pv_machine.specs.Queries.{FailsAtLast}
 use Rattle.pv_machine.specs.Same.{IsSame}
 use Rattle.pv_machine.specs.Joining.{same_back}
-use Rattle.pv_machine.proofs.ForCallers.{lawful_too}
 use Rattle.pv_mean.specs.Sources.{Source}
 use Rattle.pv_mean.specs.Frames.{Image, Input, Params, image_len, image_ranges, range_of_cell, stored_cells}
 use Rattle.pv_mean.specs.Runs.{start, run, run_from}

@@ -1,5 +1,5 @@
 -- What a certificate says that is right for what files hold of the form is so of the source.
-use Rattle.std.proofs.Common.{◌≡◌, ◌↔◌, ℕ, ◌≤◌, List, length, Option, refl}
+use Rattle.std.proofs.Common.{◌↔◌, ℕ, ◌≤◌, List, length, Option, refl}
 use Rattle.std.specs.List.{AllByRecursion}
 use Rattle.pv_edge.specs.Files.{FileMap}
 use Rattle.pv_machine.specs.Machines.{Machine, Values, IsInput, AreParams}
@@ -13,7 +13,6 @@ use Rattle.pv_step.specs.Steps.{form_of, starts_of}
 use Rattle.pv_step.proofs.ForCallers.{is_circuit, does_the_steps}
 use Rattle.pv_cert.specs.declared.certificate.Certificate.{Certificate}
 use Rattle.pv_cert.specs.CertificateText.{IsTextOf}
-use Rattle.pv_kind.specs.declared.told.TheConstants.{LAST_QUERY}
 use Rattle.pv_valid.specs.Cases.{IsSound}
 use Rattle.pv_valid.specs.Validity.{ending_in, IsRight}
 use Rattle.pv_command_load.specs.Subjects.{SubjectData, source_in}

@@ -1,8 +1,8 @@
 -- What a certificate says that is right for a case is so of the source whose machine is the case's.
-use Rattle.std.proofs.Common.{◌≡◌, ◌↔◌, ℕ, zero, suc, ◌+◌, ◌-◌, ◌*◌, ◌<◌, ◌≤◌, Bool, true, false, List, [], ◌∷◌, ◌++◌, length, map, Option, Some, None, refl, ap, sym, subst, ◌∙◌, cond, ℤ, arith}
+use Rattle.std.proofs.Common.{◌≡◌, ℕ, zero, suc, ◌+◌, ◌-◌, ◌*◌, ◌<◌, ◌≤◌, Bool, true, false, List, [], ◌∷◌, ◌++◌, length, map, Option, Some, None, refl, ap, subst, ◌∙◌, cond, ℤ, arith}
 use Rattle.std.specs.Prelude.{nat_lt}
 use Rattle.std.specs.List.{AllByRecursion}
-use Rattle.std.proofs.lemmas.Bool.{true≢false, false≢true}
+use Rattle.std.proofs.lemmas.Bool.{false≢true}
 use Rattle.pv_place.specs.declared.place.Place.{Place}
 use Rattle.pv_place.specs.declared.trap.TrapKind.{TrapKind}
 use Rattle.pv_place.specs.Ranges.{Range, AreWithin}
@@ -14,11 +14,11 @@ use Rattle.pv_machine.specs.Queries.{MeetsBase, NoneFails as MachineNoneFails}
 use Rattle.pv_machine.specs.Same.{IsSame}
 use Rattle.pv_machine.proofs.ForCallers.{lawful_too, same_base}
 use Rattle.pv_mean.specs.Sources.{Source}
-use Rattle.pv_mean.specs.Frames.{Input, Params, image_ranges, input_ranges, param_ranges}
+use Rattle.pv_mean.specs.Frames.{Input, image_ranges, input_ranges, param_ranges}
 use Rattle.pv_mean.specs.Runs.{start as start_of, run, run_from}
 use Rattle.pv_mean.proofs.ForCallers.{length-start_image}
 use Rattle.pv_pattern.specs.Patterns.{Pattern, asks_for_goal}
-use Rattle.pv_pattern.specs.Failing.{Cause, pattern, trap, over, NoneFails, FailsFirst, FailsFirstFrom}
+use Rattle.pv_pattern.specs.Failing.{pattern, FailsFirst, FailsFirstFrom}
 use Rattle.pv_pattern.specs.Sources.{looks_back, state_of, machine_of, IsSatisfied}
 use Rattle.pv_pattern.proofs.ForCallers.{runs_from}
 use Rattle.pv_case.specs.declared.case.Limits.{Limits}
@@ -30,11 +30,10 @@ use Rattle.pv_claims.specs.declared.trace.Trace.{Trace}
 use Rattle.pv_claims.specs.TracePart.{trace_form, HasForm, IsRun, IsStretch}
 use Rattle.pv_stretch.specs.Correct.{cause_of}
 use Rattle.pv_cert.specs.declared.proof.Proof.{Proof}
-use Rattle.pv_cert.specs.declared.proof.Query.{Query}
 use Rattle.pv_circuit.specs.declared.start.Start.{Start}
 use Rattle.pv_circuit.specs.Circuits.{Circuit}
-use Rattle.pv_kind.specs.Decisions.{bases, bases_before, IsWithin}
-use Rattle.pv_lift.specs.Traces.{FitsRun, FitsStretch, MayFollow}
+use Rattle.pv_kind.specs.Decisions.{bases, bases_before}
+use Rattle.pv_lift.specs.Traces.{MayFollow}
 use Rattle.pv_lift.specs.Facts.{facts_of}
 use Rattle.pv_lift.specs.Cases.{case_of}
 use Rattle.pv_lift.specs.Sound.{states_are}

@@ -1,8 +1,8 @@
 -- What files hold of the form is a case by which certificates are judged: its Boolean program does what is run, by its circuit.
-use Rattle.std.proofs.Common.{◌≡◌, ◌↔◌, ℕ, ◌≤◌, Bool, true, List, [], ◌∷◌, map, Option, Some, None, refl, sym, ap, subst, ◌∙◌}
+use Rattle.std.proofs.Common.{◌≡◌, ◌↔◌, ℕ, ◌≤◌, Bool, List, [], ◌∷◌, map, Option, Some, None, refl, sym, ap, subst, ◌∙◌}
 use Rattle.pv_place.specs.Ranges.{Range, AreWithin}
 use Rattle.pv_cnf.specs.Clause.{Holds}
-use Rattle.pv_machine.specs.Machines.{Machine, Values, IsState, IsInput, IsLawful}
+use Rattle.pv_machine.specs.Machines.{Machine, Values, IsState, IsLawful}
 use Rattle.pv_machine.specs.Same.{IsSame}
 use Rattle.pv_machine.proofs.ForCallers.{lawful_too}
 use Rattle.pv_mean.specs.Sources.{Source}

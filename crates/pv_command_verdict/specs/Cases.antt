@@ -1,8 +1,5 @@
 -- The case by which certificates of what files hold of the form are judged: its limits, the ranges of its cells, the machine of its
 -- Boolean program, and the formulas of queries on the circuit of one scan.
-use Rattle.std.specs.Prelude.{ℕ}
-use Rattle.pv_cnf.specs.Clause.{Cnf}
-use Rattle.pv_cert.specs.declared.proof.Query.{Query}
 use Rattle.pv_bool.specs.Machine.{machine_of as program_machine}
 use Rattle.pv_step.specs.Circuits.{circuit_of}
 use Rattle.pv_step.specs.Steps.{starts_of}
