@@ -1,6 +1,6 @@
 """Builds a program over the repository's libraries in a folder outside the repository, whose own programs are in crates.txt.
 
-The program stands on the libraries of the repository that its text names, and on anyhow."""
+The program stands on the libraries of the repository that its text names, on anyhow, and on smallvec where it names that."""
 import pathlib
 import re
 import shutil
@@ -52,19 +52,24 @@ def take_modules(text, crate):
     shutil.copy(facade, crate / "src" / "lib.rt")
 
 
+def named(text, library):
+    """Whether the text names the library."""
+    return re.search(rf"\b{library}\b", pathlib.Path(text).read_text()) is not None
+
+
 def copied(place, name, text):
     """The folder of the crate of this name whose main.rt is the text, in a repository that is made in this place for it and the
     libraries below."""
     place = pathlib.Path(place)
     lines = library_lines()
-    used = [library for library in lines if re.search(rf"\b{library}\b", pathlib.Path(text).read_text())]
+    used = [library for library in lines if named(text, library)]
     libraries = below(used, lines)
     for library in libraries:
         left_out = shutil.ignore_patterns("must-fail", "out")
         shutil.copytree(ROOT / "crates" / library, place / "crates" / library, ignore=left_out)
         take_modules(text, place / "crates" / library)
     shutil.copy(ROOT / "HANDLES", place)
-    own = f"{name}: anyhow {' '.join(used)}"
+    own = f"{name}: anyhow {'smallvec ' * named(text, 'smallvec')}{' '.join(used)}"
     (place / "crates.txt").write_text("\n".join([*(lines[library][0] for library in libraries), own]) + "\n")
     crate = place / "crates" / name
     (crate / "src").mkdir(parents=True)

@@ -5,15 +5,14 @@ a call of a block of size 3 are built, and of one of size 4.
 
 Usage: run.py program=FILE [n] (100,000). FILE is bench/inline/copies.txt over pv_inline, built without a proof: that such blocks fit each
 other is so by the way they are made."""
+import pathlib
 import subprocess
 import sys
-
-import pathlib
 
 HERE = pathlib.Path(__file__).resolve().parent
 sys.path.insert(0, str(HERE.parent))
 sys.dont_write_bytecode = True
-from measure import compare, instructions, machine, measured  # noqa: E402
+from measure import compare, machine, measured  # noqa: E402
 
 LEVELS = 8
 
@@ -47,10 +46,9 @@ def main():
     for case, made in CASES.items():
         rows = [measured([program, *made(count)]) for count in (n, 2 * n)]
         compare(case, *((row[2].strip(), row) for row in rows))
-        counted = [instructions([program, *made(count)]) for count in (n, 2 * n)]
         edges = int(rows[1][2].split()[0])
         taken = (rows[1][1] - least) * 2**20 / edges
-        print(f"{case}: {counted[1] / counted[0]:.2f} times the instructions, {counted[1] / edges:.0f} and {taken:.0f} bytes an edge")
+        print(f"{case}: {taken:.0f} bytes an edge", flush=True)
     for size in (3, 4):
         said = subprocess.run([program, "2", "1", "199995", str(size)], capture_output=True, text=True, check=True).stdout
         print(f"a call of a block of size {size}: {said.strip()}")
