@@ -24,9 +24,13 @@ class Listed:
         """For the program, where blocks have other numbers."""
         edges = ", ".join(" ".join(map(str, [a, b, *(f"{x} 0 0" for x in sets)])) for a, b, sets in self.edges)
         calls = ", ".join(f"{a} {b} {number[block]} {instance}" for a, b, block, instance in self.calls)
-        loops = ", ".join(" ".join(map(str, [first, last, entry, 0, *turns])) for first, last, entry, turns in self.loops)
+        loops = ", ".join(" ".join(map(str, [first, last, entry, 0, *turns])) for first, last, entry, turns in self.nested())
         ends = ", ".join(f"{kind} {location} 0" for kind, location in self.ends)
         return f"{' '.join(map(str, self.head))} | {' '.join(map(str, self.roles))} | {edges} | {calls} | {loops} | {ends}\n"
+
+    def nested(self):
+        """The loops, outermost first."""
+        return sorted(self.loops, key=lambda found: (found[0], -found[1]))
 
     def known(self):
         _, _, locations, done = self.head
@@ -143,4 +147,5 @@ def main():
         print(f"{file}: {sizes} of {len(cases)} sizes agree, {called} of them with calls; {whole} of {listings} listings; {len(rows)} rows")
 
 
-main()
+if __name__ == "__main__":
+    main()
