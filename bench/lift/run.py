@@ -5,7 +5,7 @@ circuit of a million gates and n and 2n bits, every second one of them an input'
 Usage: run.py [n] (10,000). Builds bench/lift/program.txt over pv_queries and pv_bool_steps in a temporary copy, and needs `rt`. A lift is
 made over a source and its pattern; the reading is all that it does with the circuit, and beside it it copies the first state. A run reads
 ten times; the seconds and the peak are less those of a run that builds the circuit alone, so that lists of the frames' literals would
-show. Where `valgrind` is there, it prints the instructions of a reading too."""
+show. Where `valgrind` is there, it prints the instructions of a reading too, at a tenth of n bits."""
 import pathlib
 import shutil
 import sys
@@ -46,7 +46,7 @@ def main():
             print(f"{GATES} gates, {bits} bits: {took:.3f} s, {more:.1f} MiB above the circuit's {peak - more:.1f} MiB")
         print(f"{two[0] / one[0]:.2f} times the time", flush=True)
         if shutil.which("valgrind"):
-            few, many = count(program, n), count(program, 2 * n)
+            few, many = count(program, n // 10), count(program, 2 * n // 10)
             print(f"{few / 1e6:.1f} and {many / 1e6:.1f} million instructions, {many / few:.2f} times", flush=True)
 
 
