@@ -1,0 +1,3 @@
+mod AreaValues
+mod ElementLaws
+mod Accessing
