@@ -11,7 +11,7 @@ mod evidence;
 mod lift;
 
 pub use evidence::decide_case;
-pub use lift::{formula, make, stretch};
+pub use lift::{formula, make, push, stretch, told, variables};
 use pv_kind::{Decision, Limits, Oracle, OracleFault};
 use std::alloc::Global;
 
