@@ -25,6 +25,8 @@ COMMANDS = [
     "replay conveyor/case.json conveyor/trace.txt",
     "show tank/case.json tank/broken.txt",
     "show starter/blocked.json starter/broken.txt",
+    "check conveyor/case.json",
+    "check latch/case.json",
     "recheck conveyor/case.json conveyor/certificate.txt",
 ]
 

@@ -1,11 +1,10 @@
-pub mod Wider
-pub mod Requirements
-pub mod Stages
-pub mod Verdicts
-pub mod Working
-pub mod Unread
-pub mod Certifying
+pub mod Stopping
+pub mod Reading
+pub mod Answering
+pub mod Judging
 pub mod Reporting
+pub mod Unread
 pub mod OneRecheck
+pub mod Exactly
 pub mod ForCallers
 mod Examples

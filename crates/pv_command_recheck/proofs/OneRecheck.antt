@@ -1,119 +1,160 @@
--- Where files tell what they hold, that is one thing that a recheck works on at most, or one refusal at most, and not both: a refusal of
--- any command is one of pv_command_load's, and what isn't of the form is read by then.
-use Rattle.std.proofs.Common.{◌≡◌, inl, inr, ℕ, List, [], ◌∷◌, Some, sym, ap, ◌∙◌, subst}
+-- What files hold for a recheck is one thing that it works on with one right certificate at most, or one refusal at most, and not both: what
+-- the files hold of the form is one, and what is answered of bytes is one.
+use Rattle.std.proofs.Common.{◌≡◌, ◌⊎◌, inl, inr, ℕ, List, Some, Result, Ok, Err, refl, sym, ap, subst, ◌∙◌}
+use Rattle.std.proofs.lemmas.Option.{same_Some}
 use Rattle.pv_edge.specs.Files.{FileMap}
-use Rattle.pv_tree.specs.Tree.{ExprTree}
-use Rattle.pv_pattern.specs.Patterns.{invariant}
-use Rattle.pv_case.specs.Cases.{SourceData, CaseData}
-use Rattle.pv_bool_form.specs.FirstForm.{IsFirstExpr}
-use Rattle.pv_command_load.specs.Refusals.{Refusal, of_case, of_source, of_project, of_table, of_fit}
-use Rattle.pv_command_load.specs.Subjects.{Given, blocks_of, SubjectData}
-use Rattle.pv_command_load.specs.Reads.{HoldsCase, ReadsSources, Refuses}
-use Rattle.pv_command_load.proofs.ForCallers.{Laws, one_case, one_given, case_read, sources_read, project_read, one_refusal as one_any, apart as any_apart, one_subject as one_read}
-use Rattle.pv_bool_case.specs.Forms.{IsFirstAlone}
-use Rattle.pv_command_recheck.specs.Forms.{IsFirstCase, ReadsFirst}
-use Rattle.pv_command_recheck.specs.Refusals.{RecheckRefusal, as_any, case_form, source_form, HoldsOtherCase, HoldsOtherProject, HoldsOtherRequirement, RefusesAny, RefusesRecheck}
-use Rattle.pv_command_recheck.specs.Correct.{FilesDecideOneRecheck}
+use Rattle.pv_cert.specs.declared.certificate.Certificate.{Certificate}
+use Rattle.pv_cert.specs.CertificateText.{IsTextOf}
+use Rattle.pv_valid.specs.declared.fault.Kind.{Kind}
+use Rattle.pv_valid.specs.declared.fault.Fault.{Fault}
+use Rattle.pv_valid.specs.declared.fault.Fault.TheVariants.{TooManyGates, Line, NoMemory}
+use Rattle.pv_valid.specs.declared.fault.Verdict.{Verdict}
+use Rattle.pv_valid.specs.Cases.{Case}
+use Rattle.pv_valid.specs.Validity.{verdict_of}
+use Rattle.pv_valid.specs.Faults.{Answers}
+use Rattle.pv_command_load.specs.Held.{Holds, HoldsBytes}
+use Rattle.pv_command_load.specs.Subjects.{SubjectData}
+use Rattle.pv_bool_load.specs.Correct.{FilesDecideOneFirst}
+use Rattle.pv_command_verdict.specs.Sizes.{HasTooManyEdges}
+use Rattle.pv_command_verdict.specs.Cases.{case_in}
+use Rattle.pv_command_recheck.specs.Certificates.{IsText, AreAnswered, CertificateRefusal, faulty, too_many_edges, too_many_gates, RefusesCertificate}
+use Rattle.pv_command_recheck.specs.Refusals.{RecheckRefusal, as_first, by_certificate, RefusesRecheck}
+use Rattle.pv_command_recheck.specs.Rechecks.{HoldsRight}
+use Rattle.pv_command_recheck.specs.Decided.{FilesDecideOneRecheck}
 
-same_invariant : (a b : ExprTree) → invariant a ≡ invariant b → a ≡ b
-same_invariant a b e = cc
+-- ---- what the laws below say
 
-same_first : (a b : SourceData) → a ∷ [] ≡ b ∷ [] → a ≡ b
-same_first a b e = cc
+abbrev OneText : Type 0
+OneText = (bytes : List ℕ) (c d : Certificate) → IsTextOf bytes c → IsTextOf bytes d → c ≡ d
 
-module _ (laws : Laws) (files : FileMap) (file : List ℕ) where
-  -- as any command is refused
-  as_refused : (r : Refusal) → RefusesAny (Some files) file r → Refuses (Some files) file r
-  as_refused (of_case r) h = h
-  as_refused (of_source r) h = (h.0, h.1, h.2.1)
-  as_refused (of_project r) h = (h.0, h.1, h.2.1)
-  as_refused (of_table r) h = (h.0, h.1, h.2.1)
-  as_refused (of_fit r) h = (h.0, h.1, h.2, h.3.1)
+abbrev OneAnswer : Type 0
+OneAnswer = (case : Case) (bytes : List ℕ) (answer other : Result Verdict Fault) → Answers case bytes answer → Answers case bytes other
+    → (answer ≡ Err NoMemory) ⊎ ((other ≡ Err NoMemory) ⊎ (answer ≡ other))
 
-  -- ---- the form of a case and of a project, for another reading of the same
+pub record Laws (files : FileMap) (case_file : List ℕ) : Type 0 where
+  pub first : FilesDecideOneFirst files case_file
+  pub text : OneText
+  pub answer : OneAnswer
 
-  case_again : (a b : CaseData) → HoldsCase (Some files) file a → HoldsCase (Some files) file b → IsFirstCase a → IsFirstCase b
-  case_again a b r s is = subst IsFirstCase (one_case laws.case files file a b r s) is
+-- ---- answers that are refusals, or none
 
-  project_again : (a b : Given) → ReadsSources (Some files) file a → ReadsSources (Some files) file b → IsFirstAlone (blocks_of a)
-      → IsFirstAlone (blocks_of b)
-  project_again a b r s is = subst (λ z. IsFirstAlone (blocks_of z)) (one_given laws files file a b r s) is
+ok-err : (v : Verdict) (f : Fault) → ◌≡◌ {A = Result Verdict Fault} (Ok v) (Err f) → ⊥
+ok-err v f e = cc
 
-  -- ---- what is read is one thing
+same_err : (f g : Fault) → ◌≡◌ {A = Result Verdict Fault} (Err f) (Err g) → f ≡ g
+same_err f g e = cc
 
-  one_subject : (s t : SubjectData) (a b : ExprTree) → ReadsFirst (Some files) file s a → ReadsFirst (Some files) file t b → (s ≡ t) × (a ≡ b)
-  one_subject s t a b r q =
-      let same : s ≡ t = one_read laws files file s t r.reads q.reads in
-      (same, same_invariant a b (sym r.first.requires ∙ ap (λ (z : SubjectData). z.pattern) same ∙ q.first.requires))
+line-memory : (line : ℕ) (kind : Kind) → Line line kind ≡ NoMemory → ⊥
+line-memory line kind e = cc
 
-  -- ---- what isn't of the form is no refusal of any command
+gates-memory : TooManyGates ≡ NoMemory → ⊥
+gates-memory e = cc
 
-  case_apart : (r : Refusal) → RefusesAny (Some files) file r → HoldsOtherCase (Some files) file → ⊥
-  case_apart (of_case r) h o = case_read laws files file o.0 r o.1 h
-  case_apart (of_source r) h o = o.2 (case_again h.0 o.0 h.1 o.1 h.2.0)
-  case_apart (of_project r) h o = o.2 (case_again h.0.case o.0 h.1.case_held o.1 h.2.0)
-  case_apart (of_table r) h o = o.2 (case_again h.0.case o.0 h.1.sources.case_held o.1 h.2.0.case)
-  case_apart (of_fit r) h o = o.2 (case_again h.0.case o.0 h.2.project.sources.case_held o.1 h.3.0.case)
+line-gates : (line : ℕ) (kind : Kind) → Line line kind ≡ TooManyGates → ⊥
+line-gates line kind e = cc
 
-  project_apart : (r : Refusal) (name : List ℕ) → RefusesAny (Some files) file r → HoldsOtherProject (Some files) file name → ⊥
-  project_apart (of_case r) name h o = case_read laws files file o.reads.0.case r o.reads.1.sources.case_held h
-  project_apart (of_source r) name h o = sources_read laws files file o.reads.0 r o.reads.1.sources (as_refused (of_source r) h)
-  project_apart (of_project r) name h o = project_read laws files file o.reads.0 r o.reads.1 (as_refused (of_project r) h)
-  project_apart (of_table r) name h o = o.reads.2.2 (project_again h.0 o.reads.0 h.1.sources o.reads.1.sources h.2.0.project)
-  project_apart (of_fit r) name h o = o.reads.2.2 (project_again h.0 o.reads.0 h.2.project.sources o.reads.1.sources h.3.0.project)
+-- the refusal that an answer is, and that of too many edges for each other one
+abbrev refusal_of : Fault → CertificateRefusal
+refusal_of (Line line kind) = faulty line kind
+refusal_of TooManyGates = too_many_gates
+refusal_of NoMemory = too_many_edges
 
-  requirement_apart : (r : Refusal) → RefusesAny (Some files) file r → HoldsOtherRequirement (Some files) file → ⊥
-  requirement_apart r h o = any_apart laws files file o.subject r o.reads (as_refused r h)
+module _ (files : FileMap) (case_file file : List ℕ) (laws : Laws files case_file) where
+  one_held : (a b : List ℕ) → Holds (Some files) file a → Holds (Some files) file b → a ≡ b
+  one_held a b h k = same_Some a b (sym h ∙ k)
 
-  -- ---- nor is it otherwise not of the form
+  -- two answers that the file's bytes have
+  same_answer : (s t : SubjectData) (answer other : Result Verdict Fault) → s ≡ t
+      → (h : HoldsBytes (Some files) file (AreAnswered s answer)) (k : HoldsBytes (Some files) file (AreAnswered t other))
+      → (answer ≡ Err NoMemory → ⊥) → (other ≡ Err NoMemory → ⊥) → answer ≡ other
+  same_answer s t answer other same h k some others =
+      let bytes = one_held h.bytes k.bytes h.held k.held in
+      let P : SubjectData → Type 0 = λ x. Answers (case_in x) h.bytes answer in
+      let Q : List ℕ → Type 0 = λ b. Answers (case_in t) b answer in
+      lead (laws.answer (case_in t) k.bytes answer other (subst Q bytes (subst P same h.are.answers)) k.are.answers)
+    where
+      lead : (answer ≡ Err NoMemory) ⊎ ((other ≡ Err NoMemory) ⊎ (answer ≡ other)) → answer ≡ other
+      lead (inl e) = absurd (some e)
+      lead (inr (inl e)) = absurd (others e)
+      lead (inr (inr e)) = e
 
-  forms_apart : (name : List ℕ) → HoldsOtherCase (Some files) file → HoldsOtherProject (Some files) file name → ⊥
-  forms_apart name c o = c.2 (case_again o.reads.0.case c.0 o.reads.1.sources.case_held c.1 o.reads.2.0)
+  -- what is answered at all isn't so of a block with too many edges, where the bytes are a text
+  edges_apart : (s t : SubjectData) (answer : Result Verdict Fault) → s ≡ t → HoldsBytes (Some files) file (AreAnswered s answer)
+      → HasTooManyEdges t × HoldsBytes (Some files) file IsText → ⊥
+  edges_apart s t answer same h k =
+      h.are.few (subst IsText (one_held k.1.bytes h.bytes k.1.held h.held) k.1.are) (subst HasTooManyEdges (sym same) k.0)
 
-  requires_apart : (name : List ℕ) → HoldsOtherRequirement (Some files) file → HoldsOtherProject (Some files) file name → ⊥
-  requires_apart name c o =
-      o.reads.2.2 (project_again c.subject.given o.reads.0 c.reads.table.project.sources o.reads.1.sources c.are.project)
+  no_line : (line : ℕ) (kind : Kind) → ◌≡◌ {A = Result Verdict Fault} (Err (Line line kind)) (Err NoMemory) → ⊥
+  no_line line kind e = line-memory line kind (same_err (Line line kind) NoMemory e)
 
-  same_name : (n m : List ℕ) → HoldsOtherProject (Some files) file n → HoldsOtherProject (Some files) file m → n ≡ m
-  same_name n m r s =
-      let given : r.reads.0 ≡ s.reads.0 = one_given laws files file r.reads.0 s.reads.0 r.reads.1.sources s.reads.1.sources in
-      let source : r.source ≡ s.source = same_first r.source s.source
-      (sym r.reads.2.1 ∙ ap (λ (z : Given). z.case.sources) given ∙ s.reads.2.1) in
-      r.named ∙ ap (λ (z : SourceData). z.file) source ∙ sym s.named
+  no_gates : ◌≡◌ {A = Result Verdict Fault} (Err TooManyGates) (Err NoMemory) → ⊥
+  no_gates e = gates-memory (same_err TooManyGates NoMemory e)
 
-  -- ---- what is of the form isn't refused
+  -- ---- refusals of the certificate
 
-  first_requirement : (s : SubjectData) (a : ExprTree) → ReadsFirst (Some files) file s a → HoldsOtherRequirement (Some files) file → ⊥
-  first_requirement s a r o =
-      let same : s ≡ o.subject = one_read laws files file s o.subject r.reads o.reads in
-      let expression : a ≡ o.a = same_invariant a o.a (sym r.first.requires ∙ ap (λ (z : SubjectData). z.pattern) same ∙ o.requires) in
-      o.other
-      (subst (λ z. IsFirstExpr o.subject.entered.block.vars z) expression
-      (subst (λ (z : SubjectData). IsFirstExpr z.entered.block.vars a) same r.first.first))
+  one_certificate : (s t : SubjectData) (r q : CertificateRefusal) → s ≡ t → RefusesCertificate (Some files) file s r
+      → RefusesCertificate (Some files) file t q → r ≡ q
+  one_certificate s t (faulty a k) (faulty b j) same h g =
+      ap refusal_of (same_err (Line a k) (Line b j) (same_answer s t (Err (Line a k)) (Err (Line b j)) same h g (no_line a k) (no_line b j)))
+  one_certificate s t (faulty a k) too_many_edges same h g = absurd (edges_apart s t (Err (Line a k)) same h g)
+  one_certificate s t (faulty a k) too_many_gates same h g =
+      absurd (line-gates a k (same_err (Line a k) TooManyGates (same_answer s t (Err (Line a k)) (Err TooManyGates) same h g (no_line a k) no_gates)))
+  one_certificate s t too_many_edges (faulty b j) same h g = absurd (edges_apart t s (Err (Line b j)) (sym same) g h)
+  one_certificate s t too_many_edges too_many_edges same h g = refl
+  one_certificate s t too_many_edges too_many_gates same h g = absurd (edges_apart t s (Err TooManyGates) (sym same) g h)
+  one_certificate s t too_many_gates (faulty b j) same h g =
+      absurd (line-gates b j (same_err (Line b j) TooManyGates
+      (same_answer t s (Err (Line b j)) (Err TooManyGates) (sym same) g h (no_line b j) no_gates)))
+  one_certificate s t too_many_gates too_many_edges same h g = absurd (edges_apart s t (Err TooManyGates) same h g)
+  one_certificate s t too_many_gates too_many_gates same h g = refl
 
-  apart : (s : SubjectData) (a : ExprTree) (r : RecheckRefusal) → ReadsFirst (Some files) file s a → RefusesRecheck (Some files) file r → ⊥
-  apart s a (as_any q) r h = any_apart laws files file s q r.reads (as_refused q h)
-  apart s a (case_form name) r (is, inl o) = o.2 (case_again s.given.case o.0 r.reads.table.project.sources.case_held o.1 r.first.are.case)
-  apart s a (case_form name) r (is, inr o) = first_requirement s a r o
-  apart s a (source_form name) r o =
-      o.reads.2.2 (project_again s.given o.reads.0 r.reads.table.project.sources o.reads.1.sources r.first.are.project)
+  -- ---- a right certificate is answered so
 
-  -- ---- one refusal
+  right_answered : (s : SubjectData) (c : Certificate) → HoldsRight (Some files) case_file file s c
+      → HoldsBytes (Some files) file (AreAnswered s (Ok (verdict_of (case_in s) c)))
+  right_answered s c h = record {
+    bytes = h.bytes;
+    held = h.held;
+    are = record {
+      answers = record { certificate = c; is_text = h.is_text; is_right = h.is_right; says = refl };
+      few = λ text. h.few;
+    };
+  }
 
-  one_refusal : (r q : RecheckRefusal) → RefusesRecheck (Some files) file r → RefusesRecheck (Some files) file q → r ≡ q
-  one_refusal (as_any r) (as_any q) h k = ap as_any (one_any laws files file r q (as_refused r h) (as_refused q k))
-  one_refusal (as_any r) (case_form m) h (is, inl o) = absurd (case_apart r h o)
-  one_refusal (as_any r) (case_form m) h (is, inr o) = absurd (requirement_apart r h o)
-  one_refusal (as_any r) (source_form m) h k = absurd (project_apart r m h k)
-  one_refusal (case_form n) (as_any q) (is, inl o) k = absurd (case_apart q k o)
-  one_refusal (case_form n) (as_any q) (is, inr o) k = absurd (requirement_apart q k o)
-  one_refusal (case_form n) (case_form m) h k = ap case_form (h.0 ∙ sym k.0)
-  one_refusal (case_form n) (source_form m) (is, inl o) k = absurd (forms_apart m o k)
-  one_refusal (case_form n) (source_form m) (is, inr o) k = absurd (requires_apart m o k)
-  one_refusal (source_form n) (as_any q) h k = absurd (project_apart q n k h)
-  one_refusal (source_form n) (case_form m) h (is, inl o) = absurd (forms_apart n o h)
-  one_refusal (source_form n) (case_form m) h (is, inr o) = absurd (requires_apart n o h)
-  one_refusal (source_form n) (source_form m) h k = ap source_form (same_name n m h k)
+  no_memory : (v : Verdict) → ◌≡◌ {A = Result Verdict Fault} (Ok v) (Err NoMemory) → ⊥
+  no_memory v e = ok-err v NoMemory e
 
-  pub decide_one_recheck : FilesDecideOneRecheck files file
-  decide_one_recheck = record { one_subject = one_subject; one_refusal = one_refusal; apart = apart }
+  right_apart : (s t : SubjectData) (c : Certificate) (r : CertificateRefusal) → s ≡ t → HoldsRight (Some files) case_file file s c
+      → RefusesCertificate (Some files) file t r → ⊥
+  right_apart s t c (faulty line kind) same h g =
+      let v = verdict_of (case_in s) c in
+      ok-err v (Line line kind) (same_answer s t (Ok v) (Err (Line line kind)) same (right_answered s c h) g (no_memory v) (no_line line kind))
+  right_apart s t c too_many_edges same h g = edges_apart s t (Ok (verdict_of (case_in s) c)) same (right_answered s c h) g
+  right_apart s t c too_many_gates same h g =
+      let v = verdict_of (case_in s) c in
+      ok-err v TooManyGates (same_answer s t (Ok v) (Err TooManyGates) same (right_answered s c h) g (no_memory v) no_gates)
+
+  -- ---- all of it
+
+  one_right : (s t : SubjectData) (c d : Certificate) → HoldsRight (Some files) case_file file s c
+      → HoldsRight (Some files) case_file file t d → (s ≡ t) × (c ≡ d)
+  one_right s t c d h k =
+      let P : List ℕ → Type 0 = λ b. IsTextOf b c in (
+        laws.first.one_subject s t h.reads k.reads,
+        laws.text k.bytes c d (subst P (one_held h.bytes k.bytes h.held k.held) h.is_text) k.is_text,
+      )
+
+  one_refusal : (r q : RecheckRefusal) → RefusesRecheck (Some files) case_file file r → RefusesRecheck (Some files) case_file file q → r ≡ q
+  one_refusal (as_first r) (as_first q) h k = ap as_first (laws.first.one_refusal r q h k)
+  one_refusal (as_first r) (by_certificate q) h k = absurd (laws.first.apart k.0 r k.1 h)
+  one_refusal (by_certificate r) (as_first q) h k = absurd (laws.first.apart h.0 q h.1 k)
+  one_refusal (by_certificate r) (by_certificate q) h k =
+      ap by_certificate (one_certificate h.0 k.0 r q (laws.first.one_subject h.0 k.0 h.1 k.1) h.2 k.2)
+
+  apart : (s : SubjectData) (c : Certificate) (r : RecheckRefusal) → HoldsRight (Some files) case_file file s c
+      → RefusesRecheck (Some files) case_file file r → ⊥
+  apart s c (as_first r) h k = laws.first.apart s r h.reads k
+  apart s c (by_certificate r) h k = right_apart s k.0 c r (laws.first.one_subject s k.0 h.reads k.1) h k.2
+
+  pub decide_one_recheck : FilesDecideOneRecheck files case_file file
+  decide_one_recheck = record { one_right = one_right; one_refusal = one_refusal; apart = apart }

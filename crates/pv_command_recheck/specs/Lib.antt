@@ -1,9 +1,7 @@
 -- what public clauses cite, from the bottom up
-pub mod Forms
-pub mod Refusals
 pub mod Certificates
+pub mod Refusals
 pub mod Rechecks
--- what laws will say
-pub mod Correct
+pub mod Decided
 -- what private clauses cite
 pub mod Made

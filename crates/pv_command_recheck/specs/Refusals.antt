@@ -1,96 +1,39 @@
--- Why a recheck stops before its certificate, in the order of work: the case by itself; a case that isn't of the first form; its source
--- by itself; the rules; a source that isn't one block of the first form; the entry and the count of cells; the requirement's faults; a
--- requirement that isn't of the first form.
-use Rattle.std.specs.Prelude.{◌≡◌, ◌⊎◌, ℕ, List, [], ◌∷◌, Option}
+-- The files that a recheck asks for, and why it is refused, in the order of work: what it works on; its certificate.
+use Rattle.std.specs.Prelude.{◌⊎◌, ◌≡◌, ℕ, List, Option}
 use Rattle.pv_edge.specs.Files.{FileMap}
-use Rattle.pv_tree.specs.Tree.{ExprTree}
-use Rattle.pv_case.specs.Cases.{SourceData}
-use Rattle.pv_bool_form.specs.FirstForm.{IsFirstExpr}
-use Rattle.pv_command_load.specs.declared.subject.SubjectStop.{SubjectStop}
-use Rattle.pv_command_load.specs.declared.subject.SubjectStop.TheVariants as subject_stop
-use Rattle.pv_command_load.specs.Refusals.{Refusal, of_case, of_source, of_project, of_table, of_fit, refusal_status, refusal_line, form_line}
-use Rattle.pv_command_load.specs.Sources.{AtOne, IsAsked, IsRefused}
-use Rattle.pv_command_load.specs.Subjects.{blocks_of, RefusesProject, RefusesTable, RefusesFit, SubjectData}
-use Rattle.pv_command_load.specs.Reads.{OfCase, OfSources, OfProject, OfTable, RefusesCase, Reads}
-use Rattle.pv_command_load.specs.Stops.{StopsCase, StopsSource, StopsProject, StopsTable, StopsFit}
-use Rattle.pv_bool_case.specs.Forms.{IsFirstAlone}
-use Rattle.pv_command_recheck.specs.Forms.{IsFirstCase, AreFirst, Requires}
+use Rattle.pv_command_load.specs.Sources.{AtOne, IsAsked}
+use Rattle.pv_command_load.specs.Subjects.{SubjectData}
+use Rattle.pv_command_load.specs.Reads.{OfCase}
+use Rattle.pv_bool_case.specs.Forms.{IsFirstCase}
+use Rattle.pv_bool_load.specs.Forms.{ReadsFirst}
+use Rattle.pv_bool_load.specs.Refusals.{FirstRefusal, first_refusal_status, first_refusal_line, RefusesFirst}
+use Rattle.pv_command_recheck.specs.Certificates.{CertificateRefusal, RefusesCertificate, certificate_status, certificate_line}
+
+-- ---- the files that a recheck asks for, each where all before it is as it should be: the case's, its source's, its certificate's
+
+abbrev pub AsksRecheck : Option FileMap → List ℕ → List ℕ → List ℕ → Type 0
+AsksRecheck told case_file file asked =
+    (asked ≡ case_file)
+    ⊎ (OfCase told case_file (λ case. IsFirstCase case × AtOne (IsAsked asked) told 0 case.sources)
+    ⊎ (((s : SubjectData) × ReadsFirst told case_file s) × (asked ≡ file)))
 
 -- ---- the refusals
 
--- as of any command; or the file of this name isn't of the form: that of the case, or its source
+-- as whatever works on what the files hold; by the certificate
 pub data RecheckRefusal : Type 0 where
-  as_any : Refusal → RecheckRefusal
-  case_form : List ℕ → RecheckRefusal
-  source_form : List ℕ → RecheckRefusal
+  as_first : FirstRefusal → RecheckRefusal
+  by_certificate : CertificateRefusal → RecheckRefusal
+
+-- it is refused so, and all before is as it should be
+abbrev pub RefusesRecheck : Option FileMap → List ℕ → List ℕ → RecheckRefusal → Type 0
+RefusesRecheck told case_file file (as_first r) = RefusesFirst told case_file r
+RefusesRecheck told case_file file (by_certificate r) =
+    (s : SubjectData) × ReadsFirst told case_file s × RefusesCertificate told file s r
 
 abbrev pub recheck_refusal_status : RecheckRefusal → ℕ
-recheck_refusal_status (as_any r) = refusal_status r
-recheck_refusal_status (case_form file) = 4
-recheck_refusal_status (source_form file) = 3
+recheck_refusal_status (as_first r) = first_refusal_status r
+recheck_refusal_status (by_certificate r) = certificate_status r
 
 abbrev pub recheck_refusal_line : RecheckRefusal → List ℕ
-recheck_refusal_line (as_any r) = refusal_line r
-recheck_refusal_line (case_form file) = form_line file
-recheck_refusal_line (source_form file) = form_line file
-
--- ---- what isn't of the form, where all before is as it should be
-
--- the case
-abbrev pub HoldsOtherCase : Option FileMap → List ℕ → Type 0
-HoldsOtherCase told file = OfCase told file (λ case. IsFirstCase case → ⊥)
-
--- the blocks of the case's source, whose file has this name
-pub record HoldsOtherProject (told : Option FileMap) (file name : List ℕ) : Type 0 where
-  pub source : SourceData
-  pub named : name ≡ source.file
-  pub reads : OfProject told file (λ given.
-      IsFirstCase given.case × (given.case.sources ≡ source ∷ []) × (IsFirstAlone (blocks_of given) → ⊥))
-
--- the requirement
-pub record HoldsOtherRequirement (told : Option FileMap) (file : List ℕ) : Type 0 where
-  pub subject : SubjectData
-  pub reads : Reads told file subject
-  pub are : AreFirst subject.given
-  pub a : ExprTree
-  pub requires : Requires subject a
-  pub other : IsFirstExpr subject.entered.block.vars a → ⊥
-
--- ---- what the files hold is refused so
-
-abbrev pub RefusesAny : Option FileMap → List ℕ → Refusal → Type 0
-RefusesAny told file (of_case r) = RefusesCase told file r
-RefusesAny told file (of_source r) =
-    OfCase told file (λ case. IsFirstCase case × AtOne (IsRefused told r) told 0 case.sources)
-RefusesAny told file (of_project r) =
-    OfSources told file (λ given. IsFirstCase given.case × RefusesProject given r)
-RefusesAny told file (of_table r) =
-    OfProject told file (λ given. AreFirst given × RefusesTable given r)
-RefusesAny told file (of_fit r) =
-    OfTable told file (λ given entered. AreFirst given × RefusesFit given entered r)
-
-abbrev pub RefusesRecheck : Option FileMap → List ℕ → RecheckRefusal → Type 0
-RefusesRecheck told file (as_any r) = RefusesAny told file r
-RefusesRecheck told file (case_form name) =
-    (name ≡ file) × (HoldsOtherCase told file ⊎ HoldsOtherRequirement told file)
-RefusesRecheck told file (source_form name) = HoldsOtherProject told file name
-
--- ---- the files that are asked for as any command does, each where all before it is as it should be: the case's, and each source's
-
-abbrev pub AsksAsAny : Option FileMap → List ℕ → List ℕ → Type 0
-AsksAsAny told case_file file =
-    (file ≡ case_file)
-    ⊎ OfCase told case_file (λ case. IsFirstCase case × AtOne (IsAsked file) told 0 case.sources)
-
--- ---- why a command stops there as any does: what it stops at is at fault, and all before is as it should be
-
-abbrev pub StopsAsAny : Option FileMap → List ℕ → SubjectStop → Type 0
-StopsAsAny told file (subject_stop.Case stop) = StopsCase told file stop
-StopsAsAny told file (subject_stop.Source stop) =
-    OfCase told file (λ case. IsFirstCase case × StopsSource told case stop)
-StopsAsAny told file (subject_stop.Project stop) =
-    OfSources told file (λ given. IsFirstCase given.case × StopsProject given stop)
-StopsAsAny told file (subject_stop.Table stop) =
-    OfProject told file (λ given. AreFirst given × StopsTable given stop)
-StopsAsAny told file (subject_stop.Fit stop) =
-    OfTable told file (λ given entered. AreFirst given × StopsFit given entered stop)
+recheck_refusal_line (as_first r) = first_refusal_line r
+recheck_refusal_line (by_certificate r) = certificate_line r

@@ -1,13 +1,13 @@
-//! The command `recheck CASE CERTIFICATE`, for cases of the first form. It goes through the stages of `pv_command_load`, asking between them whether
-//! what is read is of the form, and then through its certificate. What it says and what its types mean stands in `specs/`.
+//! The command `recheck CASE CERTIFICATE`, for cases of the first form: what the case is about, then its certificate, whoever wrote it. What it
+//! says and what its types mean stands in `specs/`.
 #![tactic(auto)]
 
 mod certificate;
-mod form;
+mod judged;
 pub mod laws;
 mod recheck;
-mod requirement;
-mod subject;
+mod report;
+mod stop;
 
-pub use certificate::CertificateStop;
-pub use recheck::{RecheckStop, Rechecked, recheck_in};
+pub use recheck::{Rechecked, recheck_in};
+pub use stop::{CertificateStop, RecheckStop};

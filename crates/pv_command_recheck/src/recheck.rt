@@ -1,144 +1,87 @@
 //! The command `recheck CASE CERTIFICATE`.
-ghost use Rattle.std.specs.Prelude.{◌≡◌, Some, IfOk, string_bytes};
-ghost use Rattle.pv_command_load.specs.Held.{Counts, IsUnread};
-ghost use Rattle.pv_command_load.specs.declared.subject.SubjectStop.TheVariants as subject_stop;
-ghost use Rattle.pv_command_recheck.specs.Rechecks.{satisfied_text, SaysRecheck, recheck_stop_status, recheck_status, recheck_unread, recheck_stop_text};
-ghost use Rattle.pv_command_recheck.specs.declared.recheck.RecheckStop.TheVariants.{Subject as At_subject, Certificate as At_certificate, NoMemory};
+ghost use Rattle.std.specs.Prelude.{◌≡◌, ◌≢◌, ℕ, List, Option};
+ghost use Rattle.pv_edge.specs.Files.{FileMap};
+ghost use Rattle.pv_claims.specs.TracePart.{trace_form, HasForm};
+ghost use Rattle.pv_cert.specs.CertificateText.{IsTextOf};
+ghost use Rattle.pv_report.specs.Reports.{status_of};
+ghost use Rattle.pv_command_load.specs.Held.{Counts, HoldsBytes, IsUnread};
+ghost use Rattle.pv_command_load.specs.Subjects.{SubjectData};
+ghost use Rattle.pv_bool_load.specs.Forms.{ReadsFirst};
+ghost use Rattle.pv_bool_load.specs.Made.{IsFirstSubject};
+ghost use Rattle.pv_command_verdict.specs.Made.{IsWorkedOn};
+ghost use Rattle.pv_command_recheck.specs.Rechecks.{SaysRecheck, recheck_status, recheck_unread};
 
-use crate::certificate::{CertificateStop, form_line, proof_in};
-use crate::laws::valid_certificates_satisfy;
-use crate::subject::first_subject_in;
-use pv_command_load::{
-    CASE_REFUSED, CaseStop, FitStop, NO_MEMORY, ProjectStop, SOURCE_REFUSED, SourceStop, Status,
-    SubjectStop, TableStop,
-};
+use crate::certificate::certificate_in;
+use crate::judged::judged;
+use crate::report::{evidence_by, reported_of};
+use crate::stop::RecheckStop;
+use pv_bool_load::{FirstSubject, first_subject_in};
+use pv_cert::Certificate;
+use pv_claims::Claim;
+use pv_command_load::Status;
+use pv_command_verdict::laws::right_certificates_say_what_is_so;
 use pv_edge::Files;
-use std::alloc::{AllocError, Global};
-use thiserror::Error;
+use pv_report::status;
+use std::alloc::Global;
 
-/// What a recheck reports: the requirement holds in every run.
-#[derive(Debug, Drop)]
+/// A verdict with its report.
+#[derive(Drop)]
 pub struct Rechecked {
-    /// The case's name.
-    pub case: String,
-    /// The depth of the induction that shows it.
-    pub k: u32,
-}
-
-/// Why a recheck stops before its report.
-#[derive(Debug, Drop, Error)]
-pub enum RecheckStop {
-    /// At a stage that other commands have too.
-    #[error(transparent)]
-    Subject(SubjectStop),
-    /// The case isn't of the first form, or its requirement isn't.
-    #[error("{file} is a case of a form that isn't rechecked")]
-    CaseForm { file: String },
-    /// The case's source isn't one block of the first form.
-    #[error("{file} is a source of a form that isn't rechecked")]
-    SourceForm { file: String },
-    #[error(transparent)]
-    Certificate(CertificateStop),
-    #[error("out of memory")]
-    NoMemory,
-}
-
-impl From<AllocError> for RecheckStop {
-    ghost from_gives = { λ _ stop. stop ≡ NoMemory };
-
-    fn from(_error: AllocError) -> RecheckStop {
-        RecheckStop::NoMemory
-    }
-}
-
-impl From<CaseStop> for RecheckStop {
-    ghost from_gives = { λ stop passed. passed ≡ At_subject (subject_stop.Case stop) };
-
-    fn from(stop: CaseStop) -> RecheckStop {
-        RecheckStop::Subject(SubjectStop::Case(stop))
-    }
-}
-
-impl From<SourceStop> for RecheckStop {
-    ghost from_gives = { λ stop passed. passed ≡ At_subject (subject_stop.Source stop) };
-
-    fn from(stop: SourceStop) -> RecheckStop {
-        RecheckStop::Subject(SubjectStop::Source(stop))
-    }
-}
-
-impl From<ProjectStop> for RecheckStop {
-    ghost from_gives = { λ stop passed. passed ≡ At_subject (subject_stop.Project stop) };
-
-    fn from(stop: ProjectStop) -> RecheckStop {
-        RecheckStop::Subject(SubjectStop::Project(stop))
-    }
-}
-
-impl From<TableStop> for RecheckStop {
-    ghost from_gives = { λ stop passed. passed ≡ At_subject (subject_stop.Table stop) };
-
-    fn from(stop: TableStop) -> RecheckStop {
-        RecheckStop::Subject(SubjectStop::Table(stop))
-    }
-}
-
-impl From<FitStop> for RecheckStop {
-    ghost from_gives = { λ stop passed. passed ≡ At_subject (subject_stop.Fit stop) };
-
-    fn from(stop: FitStop) -> RecheckStop {
-        RecheckStop::Subject(SubjectStop::Fit(stop))
-    }
-}
-
-impl From<CertificateStop> for RecheckStop {
-    ghost from_gives = { λ stop passed. passed ≡ At_certificate stop };
-
-    fn from(stop: CertificateStop) -> RecheckStop {
-        RecheckStop::Certificate(stop)
-    }
-}
-
-impl RecheckStop {
-    pub fn status(&self) -> Status
-        ensures { result ≡ recheck_stop_status self.now }
-    {
-        match self {
-            RecheckStop::Subject(stop) => stop.status(),
-            RecheckStop::CaseForm { .. } => CASE_REFUSED,
-            RecheckStop::SourceForm { .. } => SOURCE_REFUSED,
-            RecheckStop::Certificate(stop) => stop.status(),
-            RecheckStop::NoMemory => NO_MEMORY,
-        }
-    }
-
-    /// The fault line; an error where memory ends, or ended before.
-    pub fn text(&self, alloc: Global) -> Result<String, AllocError>
-        ensures { IfOk result (λ text. recheck_stop_text self.now ≡ Some (string_bytes text)) }
-    {
-        match self {
-            RecheckStop::Subject(stop) => stop.text(alloc),
-            RecheckStop::CaseForm { file } => form_line(alloc, file),
-            RecheckStop::SourceForm { file } => form_line(alloc, file),
-            RecheckStop::Certificate(stop) => stop.text(alloc),
-            RecheckStop::NoMemory => Err(AllocError),
-        }
-    }
+    pub claim: Claim,
+    /// The report, whole: that of a check which comes to this verdict.
+    pub report: Vec<u8>,
 }
 
 impl Rechecked {
-    /// The report.
-    pub fn text(&self, alloc: Global) -> Result<String, AllocError>
-        ensures { IfOk result (λ text. string_bytes text ≡ satisfied_text (string_bytes self.now.case) self.now.k) }
+    /// 0 where the requirement holds or its goal is reached, 1 where it doesn't or can't be, 2 where it is undecided.
+    pub fn status(&self) -> Status
+        ensures { result ≡ status_of self.now.claim }
     {
-        let case = &self.case;
-        let k = self.k;
-        format!(in alloc; "PLCV 1\ncase {case}\npattern invariant\nverdict satisfied\nk {k}\n")
+        status(self.claim)
     }
 }
 
-/// Checks the certificate against the case's block and requirement. What the case is about is read and refused first, then the
-/// certificate.
+/// What a recheck reports of a certificate, by what it works on.
+fn rechecked_of(
+    alloc: Global,
+    first: &FirstSubject,
+    certificate: Certificate,
+) -> Result<Rechecked, RecheckStop>
+    requires worked_on { IsWorkedOn first.now }
+    requires form { HasForm (trace_form certificate.claim) certificate.trace }
+    ensures says { (told : Option FileMap) (case_file file : List ℕ) (s : SubjectData) → ReadsFirst told case_file s
+        → IsFirstSubject first.now s → HoldsBytes told file (λ bytes. IsTextOf bytes certificate)
+        → SaysRecheck told case_file file result }
+    ensures unread { recheck_status result ≢ 6 }
+{
+    right_certificates_say_what_is_so();
+    let answer = judged(alloc, first, &certificate);
+    let evidence = evidence_by(certificate, answer)?;
+    let rechecked = reported_of(alloc, &first.subject, evidence)?;
+    Ok(rechecked)
+}
+
+/// What a recheck reports of the certificate that the file holds, by what it works on.
+fn rechecked_in<F: Files>(
+    alloc: Global,
+    files: &mut F,
+    first: &FirstSubject,
+    file: &str,
+) -> Result<Rechecked, RecheckStop>
+    requires worked_on { IsWorkedOn first.now }
+    ensures files { F.told files.new ≡ F.told files.old }
+    ensures says { (case_file : List ℕ) (s : SubjectData) → ReadsFirst (F.told files.old) case_file s → IsFirstSubject first.now s
+        → SaysRecheck (F.told files.old) case_file file.now result }
+    ensures counted { Counts (recheck_status result) (F.read_faults files.old) (F.read_faults files.new) }
+    ensures named { IsUnread (recheck_unread result) (F.unread files.new) }
+    ensures writes { F.write_faults files.new ≡ F.write_faults files.old }
+{
+    let certificate = certificate_in(alloc, files, file)?;
+    rechecked_of(alloc, first, certificate)
+}
+
+/// Judges the certificate that a file holds by the case that another holds. What the case is about is read and refused first, then the
+/// certificate: its grammar, then the count of edges, then its contents. Whoever wrote it, what is reported of it is so.
 pub fn recheck_in<F: Files>(
     alloc: Global,
     files: &mut F,
@@ -151,11 +94,8 @@ pub fn recheck_in<F: Files>(
     ensures named { IsUnread (recheck_unread result) (F.unread files.new) }
     ensures writes { F.write_faults files.new ≡ F.write_faults files.old }
 {
-    valid_certificates_satisfy();
-    let subject = first_subject_in(alloc, files, case_file)?;
-    proof_in(alloc, files, &subject.program, certificate_file)?;
-    Ok(Rechecked {
-        case: subject.case.name,
-        k: 0,
-    })
+    let first = first_subject_in(alloc, files, case_file)?;
+    let rechecked = rechecked_in(alloc, files, &first, certificate_file);
+    drop(first);
+    rechecked
 }

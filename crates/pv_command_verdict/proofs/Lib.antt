@@ -7,3 +7,11 @@ pub mod Right
 pub mod OfFiles
 pub mod Kept
 pub mod SizeLines
+pub mod Starts
+pub mod Lifting
+pub mod Decided
+pub mod Evidence
+pub mod Formulas
+pub mod Whole
+pub mod Places
+pub mod Reports

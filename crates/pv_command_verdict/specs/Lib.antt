@@ -2,4 +2,7 @@
 pub mod Sizes
 pub mod Cases
 pub mod Sayings
+pub mod Bounds
 pub mod Verdicts
+-- what is made, by the code's types
+pub mod Made

@@ -4,12 +4,13 @@ use Rattle.std.specs.List.{AllByRecursion}
 use Rattle.pv_place.specs.declared.place.Place.{Place}
 use Rattle.pv_place.specs.declared.trap.TrapKind.{TrapKind}
 use Rattle.pv_place.specs.Ranges.{AreWithin}
+use Rattle.pv_machine.specs.Queries.{MeetsStep}
 use Rattle.pv_mean.specs.Sources.{Source}
 use Rattle.pv_mean.specs.Frames.{Image, Input, Params, input_ranges, param_ranges}
 use Rattle.pv_mean.specs.Runs.{run, run_from}
 use Rattle.pv_pattern.specs.Patterns.{Pattern, asks_for_goal}
 use Rattle.pv_pattern.specs.Failing.{Cause, pattern, trap, over, NoneFails, FailsFirst, FailsFirstFrom}
-use Rattle.pv_pattern.specs.Sources.{looks_back, IsSatisfied}
+use Rattle.pv_pattern.specs.Sources.{looks_back, machine_of, IsSatisfied}
 use Rattle.pv_case.specs.declared.case.Limits.{Limits}
 use Rattle.pv_claims.specs.declared.claim.Claim.{Claim}
 use Rattle.pv_claims.specs.declared.claim.Claim.TheVariants.{Satisfied, Unreachable, Violated, Trapped, Reached, Depth, Loop, Lemmas, Region}
@@ -18,8 +19,9 @@ use Rattle.pv_claims.specs.declared.trace.Ending.TheVariants as ending
 use Rattle.pv_claims.specs.declared.trace.Trace.{Trace}
 use Rattle.pv_stretch.specs.Correct.{cause_of}
 use Rattle.pv_cert.specs.declared.proof.Query.{Query}
+use Rattle.pv_cert.specs.declared.proof.Query.TheVariants.{Base, Step}
 use Rattle.pv_cert.specs.declared.certificate.Certificate.{Certificate}
-use Rattle.pv_kind.specs.Decisions.{bases_before, IsWithin}
+use Rattle.pv_kind.specs.Decisions.{bases_before, steps_before, IsWithin}
 use Rattle.pv_lift.specs.Traces.{FitsRun, FitsStretch}
 use Rattle.pv_evidence.specs.Reported.{last_query}
 
@@ -80,3 +82,39 @@ SaysOfSource source p limits c told (Loop n) = (n ≤ limits.depth)
 SaysOfSource source p limits c told (Depth k) = (k ≡ limits.depth) × GoesOnBy source p k told c.trace
 SaysOfSource source p limits c told (Lemmas b) = (b ≡ limits.lemmas) × StopsAt source p limits c
 SaysOfSource source p limits c told (Region x) = (limits.region_words < x) × StopsAt source p limits c
+
+-- ---- what is said besides of a verdict that was decided, not read: that the queries were asked in order
+
+-- the query that was asked last
+abbrev pub asked_last : Certificate → Claim → Option Query
+asked_last c (Satisfied k) = Some (Step k)
+asked_last c (Unreachable k) = Some (Step k)
+asked_last c (Violated n) = Some (Base n)
+asked_last c (Trapped n) = Some (Base n)
+asked_last c (Reached n) = Some (Base n)
+asked_last c (Depth k) = Some (Step k)
+asked_last c (Loop n) = Some (Base n)
+asked_last c (Lemmas b) = last_query c.proofs
+asked_last c (Region x) = last_query c.proofs
+
+-- the source's machine meets each step query before it
+abbrev pub MeetsEarlierSteps : Source → Pattern → Query → Type 0
+MeetsEarlierSteps source p q = (j : ℕ) → j < steps_before q → MeetsStep (machine_of source p) j
+
+-- so of a proved claim the number is the least by which k-induction closes
+abbrev pub IsLeast : Source → Pattern → Claim → Type 0
+IsLeast source p (Satisfied k) = MeetsStep (machine_of source p) k → ⊥
+IsLeast source p (Unreachable k) = MeetsStep (machine_of source p) k → ⊥
+IsLeast source p (Violated n) = Unit {0}
+IsLeast source p (Trapped n) = Unit {0}
+IsLeast source p (Reached n) = Unit {0}
+IsLeast source p (Depth k) = Unit {0}
+IsLeast source p (Loop n) = Unit {0}
+IsLeast source p (Lemmas b) = Unit {0}
+IsLeast source p (Region x) = Unit {0}
+
+pub record IsInOrder (source : Source) (p : Pattern) (c : Certificate) : Type 0 where
+  pub query : Query
+  pub asked : asked_last c c.claim ≡ Some query
+  pub met : MeetsEarlierSteps source p query
+  pub least : IsLeast source p c.claim

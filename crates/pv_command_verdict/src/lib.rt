@@ -1,8 +1,13 @@
-//! What the commands share that come to a verdict, on the first form: how large what is decided may be, the case by which certificates are
-//! judged, and what a verdict says of the source.
+//! What the commands that come to a verdict share, on the first form: how large what is decided may be, the case by which certificates are
+//! judged, what a verdict says of the source, and its report.
 #![tactic(auto)]
 
 pub mod laws;
+mod lifted;
+mod limits;
+mod report;
 mod sizes;
 
+pub use lifted::{decide, judge_certificate};
+pub use report::report_of;
 pub use sizes::{edges_line, gates_line, has_too_many_edges};

@@ -10,7 +10,7 @@ ghost use Rattle.pv_command_recheck.specs.Rechecks.{SaysRecheck, recheck_status,
 ghost use Rattle.pv_command_load.specs.Subjects.{SubjectData};
 ghost use Rattle.pv_command_replay.specs.Replays.{IsRan, SaysReplay, StopsReplay, replay_status, replay_unread, stop_status, stop_unread};
 ghost use Rattle.pv_command_show.specs.Shows.{SaysShow, show_status, show_unread};
-ghost use Rattle.pv_top.specs.Calls.{Promises};
+ghost use Rattle.pv_top.specs.Promises.{Promises};
 ghost use Rattle.std.specs.Prelude.{IfErr, IfOk, MatchResult, map, string_bytes, ◌≡◌};
 
 use pv_command_recheck::{RecheckStop, Rechecked};
@@ -95,12 +95,11 @@ pub fn run<F: Files, S: Sink>(
     out: &mut S,
     kept: &mut Text,
 ) -> Status
-    ensures files { F.told files.new ≡ F.told files.old }
-    ensures kept { kept.new ≡ kept.old }
     ensures promises { Promises S.call (record {
       words = map string_bytes words.now;
-      told = F.told files.old;
       status = result;
+      told = F.told files.old;
+      told_after = F.told files.new;
       reads = F.read_faults files.old;
       reads_after = F.read_faults files.new;
       unread_after = F.unread files.new;
@@ -110,6 +109,8 @@ pub fn run<F: Files, S: Sink>(
       sink_after = S.faults out.new;
       taken = S.taken out.old;
       taken_after = S.taken out.new;
+      kept = kept.old;
+      kept_after = kept.new;
       out = out.old;
       out_after = out.new;
     }) }

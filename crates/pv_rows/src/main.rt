@@ -3,9 +3,12 @@
 //! The crate's README has the form of the rows.
 #![tactic(auto)]
 
+mod again;
 mod case;
 mod files;
+mod ran;
 mod rows;
+mod telling;
 
 use pv_rows_form::show_all;
 use rows::{Cases, NAMES};

@@ -1,12 +1,15 @@
 //! Rows, run one by one.
+use crate::again::tell_again;
 use crate::files::{files_of, sink_of};
-use pv_edge::{MemFiles, MemSink, Text};
+use crate::ran::Ran;
+use crate::telling::{tell_faults, tell_file, tell_kept, tell_queries, tell_taken};
+use pv_edge::Text;
 use pv_rows_form::{Calls, Row, Told, expanded, last};
-use pv_top::{Status, run};
+use pv_top::run;
 use std::alloc::{AllocError, Global};
 
 /// What may stand at the beginning of a line that is no row.
-pub const NAMES: [&str; 11] = [
+pub const NAMES: [&str; 16] = [
     "#",
     "|",
     "words",
@@ -17,7 +20,12 @@ pub const NAMES: [&str; 11] = [
     "fail read",
     "fail write",
     "piece",
+    "free",
+    "show kept",
+    "show queries",
+    "show file ",
     "show faults",
+    "again",
 ];
 
 /// Rows that are whole cases.
@@ -37,38 +45,35 @@ fn words(alloc: Global, head: &str, row: &str) -> Result<Vec<String>, AllocError
     Ok(list)
 }
 
-/// Tells the status and what the sink took, and where the row wants it the faults that were counted: of reads, of writes, and of the sink.
-fn tell(status: Status, files: &MemFiles, out: &MemSink, counts: bool, told: &mut Told) {
-    match format!(in told.alloc(); "{status} ") {
-        Ok(text) => told.text(text.as_str()),
-        Err(_) => told.lose(),
-    }
-    told.bytes(out.taken.as_slice());
-    if counts {
-        told.text(" faults ");
-        told.number(i128::from(files.read_faults));
-        told.text(" ");
-        told.number(i128::from(files.write_faults));
-        told.text(" ");
-        told.number(i128::from(out.faults));
-    }
-}
-
-/// Runs the words of a row over its files and its sink.
-fn answer(alloc: Global, row: Row<'_>, told: &mut Told) -> Result<(), AllocError> {
+/// What became of the words of a row over its files and its sink.
+fn ran(alloc: Global, row: Row<'_>) -> Result<Ran, AllocError> {
     let words = words(alloc, row.head, row.text)?;
     let mut files = files_of(alloc, row.head, row.text)?;
     let mut out = sink_of(alloc, row.head, row.text)?;
     let mut kept = Text::from(Vec::new(alloc));
     let status = run(alloc, &words, &mut files, &mut out, &mut kept);
-    let counts = last(row.head, "show faults").is_some();
-    tell(status, &files, &out, counts, told);
-    Ok(())
+    Ok(Ran {
+        status,
+        files,
+        out,
+        kept,
+    })
+}
+
+/// Runs the words of a row, and tells what became of it.
+fn answer(row: Row<'_>, told: &mut Told) -> Result<(), AllocError> {
+    let mut ran = ran(told.alloc(), row)?;
+    tell_taken(row, &ran, told);
+    tell_kept(row, &ran, told);
+    tell_queries(row, &ran, told);
+    tell_file(row, &ran, told);
+    tell_faults(row, &ran, told);
+    tell_again(row, &mut ran, told)
 }
 
 impl Calls for Cases {
     fn answer(&self, row: Row<'_>, told: &mut Told) {
-        if answer(told.alloc(), row, told).is_err() {
+        if answer(row, told).is_err() {
             told.lose();
         }
     }

@@ -1,4 +1,6 @@
 pub mod WordsLemmas
-pub mod Refused
-pub mod Rechecks
+pub mod Statuses
+pub mod Delivery
+pub mod Checks
 pub mod Promised
+pub mod Kept

@@ -2,11 +2,9 @@ use Rattle.pv_command_recheck.proofs.OneRecheck.{decide_one_recheck}
 use Rattle.pv_command_recheck.proofs.laws.files_decide_one_recheck.Goals as goal
 
 pub returns : goal.returns
-returns c =
-    decide_one_recheck (record {
-      case = record { one = c.bytes_say_one_case.ensures; one_breach = c.first_breach_is_one.ensures.one; apart = c.first_breach_is_one.ensures.apart };
-      source = c.sources_are_judged_in_one_way.ensures;
-      rules = record { one = c.least_fault_is_one.ensures.one; none = c.least_fault_is_one.ensures.none };
-      texts = record { one_name = c.texts_are_one_name.ensures; one_text = c.texts_are_one_expression.ensures };
-      patterns = record { one = c.texts_say_one_pattern.ensures; one_fault = c.first_fault_is_one.ensures.one; apart = c.first_fault_is_one.ensures.apart };
+returns c = λ files case_file file.
+    decide_one_recheck files case_file file (record {
+      first = c.files_decide_one_first.ensures files case_file;
+      text = c.text_determines_certificate.ensures;
+      answer = c.certificates_have_one_answer.ensures.one;
     })

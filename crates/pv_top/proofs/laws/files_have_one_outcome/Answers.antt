@@ -4,6 +4,7 @@ use Rattle.pv_top.proofs.laws.files_have_one_outcome.Goals as goal
 pub returns : goal.returns
 returns c =
     one_outcome (record {
+      checks = c.files_decide_one_check.ensures;
       replays = record {
         decide = c.files_decide_one.ensures;
         decide_trace = c.files_decide_one_trace.ensures;

@@ -1,0 +1,24 @@
+use Rattle.pv_command_load.proofs.ForCallers.{passed}
+use Rattle.pv_command_check.specs.Checks.{StopsCheck}
+use Rattle.pv_command_check.proofs.Deciding.{comes_to}
+use Rattle.pv_command_check.proofs.check.checked_of.Goals as goal
+
+pub returns-in_err-evidence-clause-stopped : goal.returns-in_err-evidence-clause-stopped
+returns-in_err-evidence-clause-stopped c = λ told file s reads is.
+    passed (StopsCheck told file) c.from_residual.result c.in_err-evidence.field-0.0 c.from_residual.ensures.1
+    (c.in_err-evidence.ensures.stopped told file s reads is)
+
+pub texts_of-requires : goal.texts_of-requires
+texts_of-requires c =
+    let on = c.requires.worked_on in
+    record { writable = (c.in_ok-evidence.ensures.found on.told on.file on.subject on.reads on.is).evidence.writable }
+
+pub returns-clause-found : goal.returns-clause-found
+returns-clause-found c = λ told file s reads is. record {
+  certificate = c.in_ok-evidence.evidence.certificate;
+  ending = c.in_ok-evidence.evidence.ending;
+  comes = comes_to told file s c.in_ok-checked.checked.certificate c.in_ok-evidence.evidence.certificate c.in_ok-evidence.evidence.ending reads
+      (c.in_ok-evidence.ensures.found told file s reads is) c.in_ok-checked.ensures.certificate;
+  claim = c.in_ok-checked.ensures.claim;
+  report = c.in_ok-checked.ensures.report s is.subject;
+}

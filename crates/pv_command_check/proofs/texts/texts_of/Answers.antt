@@ -1,0 +1,10 @@
+use Rattle.std.proofs.Common.{◌≡◌, ap, ◌∙◌}
+use Rattle.pv_command_verdict.specs.Verdicts.{verdict_text}
+use Rattle.pv_command_check.proofs.Deciding.{joined_as}
+use Rattle.pv_command_check.proofs.texts.texts_of.Goals as goal
+
+pub returns-clause-report : goal.returns-clause-report
+returns-clause-report c = λ s is.
+    joined_as _ (λ r text. r.report ≡ text) (λ text. text.items ≡ verdict_text s c.args.evidence.certificate c.args.evidence.ending)
+    c.joined.result c.report_of-report.result (λ r text same made. ap (λ t. t.items) same ∙ made) c.joined.ensures.report
+    (c.report_of-report.ensures s c.args.evidence.certificate c.args.evidence.ending is c.reported-verdict.ensures)

@@ -1,0 +1,43 @@
+-- The report of a verdict on what a command works on, by what is made of it.
+use Rattle.std.proofs.Common.{◌≡◌, ℕ, List, map, Option, Result, Ok, Err, sym, ◌∙◌, ap}
+use Rattle.std.specs.Prelude.{IfOk, string_bytes}
+use Rattle.std.proofs.lemmas.Simd.{map-map}
+use Rattle.pv_mean.specs.declared.cell.Cell.{Cell}
+use Rattle.pv_case.specs.declared.case.PatternKind.{PatternKind}
+use Rattle.pv_case.specs.declared.case.Limits.{Limits}
+use Rattle.pv_claims.specs.declared.trace.Ending.{Ending}
+use Rattle.pv_cert.specs.declared.certificate.Certificate.{Certificate}
+use Rattle.pv_evidence.specs.Reported.{reported}
+use Rattle.pv_report.specs.declared.verdict.Verdict.{Verdict}
+use Rattle.pv_report.specs.Places.{Lines}
+use Rattle.pv_report.specs.Reports.{report_text}
+use Rattle.pv_command_load.specs.declared.position.SourceText.{SourceText}
+use Rattle.pv_command_load.specs.declared.subject.Subject.{Subject}
+use Rattle.pv_command_load.specs.Positions.{FileText}
+use Rattle.pv_command_load.specs.Stops.{text_tree}
+use Rattle.pv_command_load.specs.Subjects.{texts_of, SubjectData, source_in}
+use Rattle.pv_command_load.specs.Made.{IsSubject}
+use Rattle.pv_command_verdict.specs.Verdicts.{text_lines, verdict_text}
+use Rattle.pv_command_verdict.proofs.Places.{lines_by}
+
+-- a text that is another one
+pub text_is : {A E : Type 0} (items : A → List ℕ) (r : Result A E) (a b : List ℕ) → a ≡ b → IfOk r (λ x. items x ≡ a) → IfOk r (λ x. items x ≡ b)
+text_is items (Ok x) a b e h = h ∙ e
+text_is items (Err x) a b e h = tt
+
+files_are : (sources : List SourceText) (texts : List FileText) → map text_tree sources ≡ texts → map lines_by sources ≡ map text_lines texts
+files_are sources texts e = sym (map-map text_lines text_tree sources) ∙ ap (λ (ts : List FileText). map text_lines ts) e
+
+pub report_is : (s : SubjectData) (subject : Subject) (c : Certificate) (told : Option Ending) (cells : List Cell) (files : List Lines) (v : Verdict)
+    → IsSubject subject s → cells ≡ subject.table.cells.items → files ≡ map lines_by subject.sources.items → v ≡ reported c told
+    → report_text (string_bytes subject.case.name) subject.case.pattern.kind subject.case.limits cells files v ≡ verdict_text s c told
+report_is s subject c told cells files v is table listed said =
+    let case = subject.case in
+    let given = s.given.case in
+    ap (λ (n : List ℕ). report_text n case.pattern.kind case.limits cells files v) is.case.name
+    ∙ (ap (λ (k : PatternKind). report_text given.name k case.limits cells files v) is.case.kind
+    ∙ (ap (λ (l : Limits). report_text given.name given.kind l cells files v) is.case.limits
+    ∙ (ap (λ (cs : List Cell). report_text given.name given.kind given.limits cs files v) (table ∙ is.cells)
+    ∙ (ap (λ (fs : List Lines). report_text given.name given.kind given.limits (source_in s).cells fs v)
+    (listed ∙ files_are subject.sources.items (texts_of s.given) is.texts)
+    ∙ ap (λ (w : Verdict). report_text given.name given.kind given.limits (source_in s).cells (map text_lines (texts_of s.given)) w) said))))
