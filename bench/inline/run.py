@@ -3,8 +3,9 @@
 small block; from one block without calls. The blocks that are copied are made by the program too. And says whether 199,995 assignments and
 a call of a block of size 3 are built, and of one of size 4.
 
-Usage: run.py program=FILE [n] (100,000). FILE is bench/inline/copies.txt over pv_inline, built without a proof: that such blocks fit each
-other is so by the way they are made."""
+Usage: run.py program=FILE [n] (100,000). FILE is bench/inline/copies.txt over pv_inline, built without a proof, as that such blocks fit each
+other is so by the way they are made: the module that `rt try` hands to clang, at -O3 (its own runs are slower and larger, as they look for
+faults of memory)."""
 import pathlib
 import subprocess
 import sys
