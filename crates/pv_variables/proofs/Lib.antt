@@ -7,3 +7,4 @@ mod Apart
 mod Numbering
 mod Filling
 mod Finding
+mod Listing

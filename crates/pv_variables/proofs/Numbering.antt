@@ -1,6 +1,6 @@
 -- The numbers of brief cells, as they are found variable by variable, are those of the definition.
 use Rattle.std.proofs.Common.{◌≡◌, ◌<◌, ℕ, zero, suc, ◌+◌, ◌-◌, ◌*◌, List, [], ◌∷◌, ◌++◌, length, Some, refl, sym, ap, ◌∙◌, arith}
-use Rattle.std.specs.Prelude.{nat_lt, slice_get, Bool as Truth, true, false, if◌then◌else◌}
+use Rattle.std.specs.Prelude.{nat_lt, slice_get, Bool as Truth, true, false, ◌&&◌, not, if◌then◌else◌}
 use Rattle.std.proofs.lemmas.Bool.{ltb-true, ltb-false}
 use Rattle.std.proofs.lemmas.List.{length-append, length-drop}
 use Rattle.pv_types.specs.Tree.{VarTree, var}
@@ -11,7 +11,7 @@ use Rattle.pv_mean.specs.Layout.{size_in, size_among, is_brief_in, entry_size}
 use Rattle.pv_mean.specs.Sources.{Source}
 use Rattle.pv_mean.specs.Frames.{visible_cells, visible_len}
 use Rattle.pv_mean.specs.Activations.{value_number}
-use Rattle.pv_variables.specs.Variables.{is_bound_in, value_count, shared_count, own_first, brief_among, brief_variable}
+use Rattle.pv_variables.specs.Variables.{is_bound_in, value_count, shared_count, own_first, brief_among, brief_variable, registers_first}
 use Rattle.pv_variables.specs.declared.numbers.Next.{Next}
 use Rattle.pv_variables.specs.Numbered.{two_apart, found_so_far, Found, with_cells, with_variable, with_variables}
 
@@ -144,6 +144,28 @@ module _ (project : ProjectTree) (block : BlockTree) where
       lead true false h e rest = rest g (j - s) (omega (arith, e))
       lead false here h e rest = rest f j e
 
+  -- the next of the block's own lies behind those that were found
+  own_behind : (vars : List VarTree) (f : Found) → (with_variables project block vars f).own
+      ≡ f.own + 2 * size_among project (λ x. is_brief_in block x && not (is_bound_in block x)) vars
+  own_behind [] f = omega arith
+  own_behind (var name section ty start place ∷ more) f =
+      lead (is_brief_in block section) (is_bound_in block section) (λ g. own_behind more g)
+    where
+      s : ℕ
+      s = size_in project ty
+
+      owns : ℕ
+      owns = size_among project (λ x. is_brief_in block x && not (is_bound_in block x)) more
+
+      lead : (br bd : Truth) → ((g : Found) → (with_variables project block more g).own ≡ g.own + 2 * owns)
+          → (with_variables project block more (if br then with_cells bd s f else f)).own
+          ≡ f.own + 2 * (if br && not bd then s + owns else owns)
+      lead true true rest = rest (with_cells true s f)
+      lead true false rest =
+          let e : (with_variables project block more (with_cells false s f)).own ≡ (f.own + 2 * s) + 2 * owns = rest (with_cells false s f) in
+          omega (arith, e)
+      lead false bd rest = rest f
+
 -- of each brief cell, and of a function's value behind them
 pub numbered : (source : Source) (block : BlockTree) (j : ℕ) → j < value_number source block + value_count block
     → slice_get ((with_variables source.project block block.vars (record { cells = []; bound = 0; own = own_first source block })).cells
@@ -205,3 +227,12 @@ shared_is source cells v first s same count entry is =
     let d = length-drop (entry_size source.project source.entry) (visible_cells source.cells) in
     let e = ap visible_len same in
     omega (arith, d, e, count, entry, is)
+
+-- the registers are behind the block's own
+pub registers_are : (source : Source) (block b : BlockTree) (start next : Next) (mid : List ℕ) → b ≡ block → start.own ≡ own_first source block
+    → found_so_far mid next ≡ with_variables source.project b b.vars (found_so_far [] start) → next.own ≡ registers_first source block
+registers_are source block b start next mid same is_own found =
+    ap (λ (f : Found). f.own) found
+    ∙ ap (λ (x : BlockTree). (with_variables source.project x x.vars (found_so_far [] start)).own) same
+    ∙ own_behind source.project block block.vars (found_so_far [] start)
+    ∙ ap (λ (n : ℕ). n + 2 * size_among source.project (λ x. is_brief_in block x && not (is_bound_in block x)) block.vars) is_own

@@ -9,17 +9,18 @@ use Rattle.pv_mean.specs.Activations.{value_number}
 use Rattle.pv_mean.specs.Frames.{visible_len}
 use Rattle.pv_mean.specs.Spots.{Spot, visible, brief, bit, bytes, fixed, nowhere}
 use Rattle.pv_variables.specs.Origins.{Origin, in_instance, in_table, in_activation, at_spot}
-use Rattle.pv_variables.specs.Variables.{is_bound_in, behind, bound_count, shared_count, value_count, brief_variable}
+use Rattle.pv_variables.specs.Variables.{is_bound_in, behind, bound_count, shared_count, value_count, brief_variable, registers_first}
 use Rattle.pv_variables.specs.declared.numbers.Numbers.{Numbers}
 use Rattle.pv_variables.specs.declared.numbers.Next.{Next}
 
--- they are those of the block; each brief cell that an operand may name has one
+-- they are those of the block; each brief cell that an operand may name has one, and the registers are behind its own
 pub record AreNumbers (n : Numbers) (source : Source) (block : BlockTree) : Type 0 where
   pub bound : n.bound ≡ bound_count source block
   pub shared : n.shared ≡ shared_count source
   pub entry : n.entry ≡ entry_size source.project source.entry
   pub cells : (j : ℕ) → j < value_number source block + value_count block
       → slice_get n.briefs.items j ≡ Some (brief_variable source block j)
+  pub registers : n.registers ≡ registers_first source block
 
 -- ---- as they are found, variable by variable
 

@@ -1,6 +1,8 @@
 //! Numbers of cells and of variables, exact or refused.
 ghost use Rattle.std.specs.Prelude.{◌≡◌, ◌+◌, ◌*◌, IfOk, not, if◌then◌else◌};
 ghost use Rattle.pv_types.specs.View.{type_tree};
+ghost use Rattle.pv_tree.specs.View.{block_tree};
+ghost use Rattle.pv_mean.specs.Layout as layout;
 ghost use Rattle.pv_mean.specs.Layout.{size_in};
 ghost use Rattle.pv_mean.specs.Frames.{is_brief, visible_len};
 ghost use Rattle.pv_mean.specs.Sources.{Source};
@@ -9,6 +11,7 @@ ghost use Rattle.pv_resolve.specs.Contexts.{IsContext};
 use pv_mean::{BEYOND, Cell};
 use pv_place::Role;
 use pv_resolve::{Context, ResolveFault};
+use pv_tree::Block;
 use pv_types::DeclType;
 
 /// The sum, where 32 bits hold it.
@@ -39,6 +42,18 @@ pub(crate) fn size_of(context: &Context, ty: &DeclType) -> Result<u32, ResolveFa
         return Err(ResolveFault::TooLarge);
     }
     Ok(size)
+}
+
+/// How many visible cells a block has of its own, where it is entered.
+pub(crate) fn entry_size(context: &Context, block: &Block) -> Result<u32, ResolveFault>
+    ensures { (source : Source) → IsContext context.now source
+        → IfOk result (λ n. n ≡ layout.entry_size source.project (block_tree block.now)) }
+{
+    let own = context.sizes.of_entry(block);
+    if own >= BEYOND {
+        return Err(ResolveFault::TooLarge);
+    }
+    Ok(own)
 }
 
 /// 1 of a visible cell, 0 of a brief one.

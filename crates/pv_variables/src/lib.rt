@@ -6,7 +6,11 @@
 mod begun;
 mod count;
 pub mod laws;
+mod list;
 mod numbers;
+mod types;
 
 pub use begun::{Elements, element_placed, elements_placed, field_placed, placed};
+pub use list::variables_of;
 pub use numbers::{Numbers, numbers_of};
+pub use types::named_types;

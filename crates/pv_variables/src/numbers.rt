@@ -8,21 +8,22 @@ ghost use Rattle.pv_resolve.specs.Contexts.{IsContext, block_in};
 ghost use Rattle.pv_variables.specs.Numbered.{AreNumbers, two_apart, found_so_far, with_cells, with_variable, with_variables};
 ghost use Rattle.pv_variables.specs.Variables as variables;
 
-use crate::count::{added, behind, size_of, visible_in};
-use pv_mean::{BEYOND, Cell, activation_part};
+use crate::count::{added, behind, entry_size, size_of, visible_in};
+use pv_mean::{Cell, activation_part};
 use pv_resolve::{Context, ResolveFault};
 use pv_tree::{Block, BlockKind};
 use pv_types::{Section, Var};
 use std::alloc::Global;
 
-/// How many variables are bound and shared, the number of the first visible cell that isn't the entry's own, and of each brief cell
-/// of an activation the number of its variable, behind which its 'set' is.
+/// How many variables are bound and shared, the number of the first visible cell that isn't the entry's own, of each brief cell of an
+/// activation the number of its variable, behind which its 'set' is, and the number of the first register of a block of STL.
 #[derive(Drop)]
 pub struct Numbers {
     pub bound: u32,
     pub shared: u32,
     pub entry: u32,
     pub briefs: Vec<u32>,
+    pub registers: u32,
 }
 
 /// The next numbers of a bound variable and of one of the block's own.
@@ -33,7 +34,7 @@ struct Next {
 }
 
 /// Whether a variable of the block lies where its caller puts it: a function's parameter.
-fn is_bound_in(block: &Block, section: Section) -> bool
+pub(crate) fn is_bound_in(block: &Block, section: Section) -> bool
     ensures { result ≡ variables.is_bound_in (block_tree block.now) section }
 {
     match &block.kind {
@@ -85,10 +86,7 @@ fn bound_count(context: &Context, block: &Block) -> Result<u32, ResolveFault>
     ensures { (source : Source) → IsContext context.now source
         → IfOk result (λ n. n ≡ variables.bound_count source (block_tree block.now)) }
 {
-    let own = context.sizes.of_entry(block);
-    if own >= BEYOND {
-        return Err(ResolveFault::TooLarge);
-    }
+    let own = entry_size(context, block)?;
     let params = bound_among(context, block, block.interface.vars.as_slice())?;
     let brief = added(params, value_count(block))?;
     behind(own, brief)
@@ -240,5 +238,6 @@ pub fn numbers_of(alloc: Global, context: &Context, cells: &[Cell]) -> Result<Nu
         shared,
         entry: context.data_first,
         briefs,
+        registers: next.own,
     })
 }
