@@ -28,8 +28,6 @@ EQUATIONS = {"Finds", "Gives", "Leaves", "Pops"}
 NEAREST = "its clause is that of `wrong_condition`, the nearest place of a rule; `check` of pv_rules, which is tested, is proved from it"
 READING = "`parse` of pv_scl_parse and of pv_stl_parse and `expression`, which are tested, say the same of their languages and are proved from it"
 COPYING = "it says by equations what stands in the vector after the call, or what each field of the answer is; `inline` of pv_inline, which is tested, is proved from it"
-PUTTING = "its clause says which term the number of the answer is and that all that stood in the table stays; no crate calls it yet"
-PLACING = "its clauses say by equations of each source what is found, or of what each field is; no crate calls it yet"
 LEARNING = "`solve` of pv_solver, which is tested, is proved from it"
 EXCEPTIONS = {
     "pv_call_terms::Places::of_callee": COPYING,
@@ -49,8 +47,6 @@ EXCEPTIONS = {
     "pv_rules_instr::*": NEAREST,
     "pv_scl_parse::scl_expression": "`scl`, which is tested, from another start",
     "pv_scl_parse::scl_name": "`scl`, which is tested, from another start",
-    "pv_terms::*": PUTTING,
-    "pv_variables::*": PLACING,
 }
 
 CLAUSE = re.compile(r"\s*(ghost|requires|ensures)(\*?)(?:\s+(\w+))?\s*:?\s*\{")

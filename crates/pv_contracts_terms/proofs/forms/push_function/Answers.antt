@@ -1,0 +1,4 @@
+use Rattle.pv_contracts_terms.proofs.forms.push_function.Goals as goal
+
+pub returns : goal.returns
+returns c = c.push_function.ensures

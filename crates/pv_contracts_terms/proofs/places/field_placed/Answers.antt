@@ -1,0 +1,7 @@
+use Rattle.pv_contracts_terms.proofs.places.field_placed.Goals as goal
+
+pub returns-clause-value : goal.returns-clause-value
+returns-clause-value c = c.field_placed.ensures.value
+
+pub returns-clause-spot : goal.returns-clause-spot
+returns-clause-spot c = c.field_placed.ensures.spot
