@@ -4,7 +4,6 @@ use Rattle.std.specs.Prelude.{slice_index_or}
 use Rattle.std.proofs.Math.Path.{fun_ext}
 use Rattle.std.proofs.lemmas.Bool.{cases_lt, cond-true, cond-false, lt-ltb, le-ltb}
 use Rattle.std.proofs.lemmas.List.{length-map}
-use Rattle.pv_flow.specs.declared.automaton.Automaton.{Automaton}
 use Rattle.pv_flow.specs.declared.term.Node.{Node}
 use Rattle.pv_flow.specs.declared.parts.Deed.{Deed as CodeDeed}
 use Rattle.pv_flow.specs.declared.parts.CallEdge.{CallEdge as CodeCallEdge}
@@ -27,7 +26,7 @@ use Rattle.pv_call_terms.specs.Deeds.{Plain, deed_seen, deed_at}
 use Rattle.pv_call_terms.specs.Places.{place_of, IsEntry, IsCallee}
 use Rattle.pv_inline.specs.declared.table.Table.{Table as CodeTable}
 use Rattle.pv_inline.specs.declared.copying.Body.{Body as CodeBody}
-use Rattle.pv_inline.specs.Blocks.{block_of, blocks_of, code_at}
+use Rattle.pv_inline.specs.Blocks.{block_in, blocks_in, code_at}
 use Rattle.pv_inline.specs.Inlining.{IsEntryBody}
 use Rattle.pv_inline.specs.Seen.{table_seen, IsCalleeBody}
 use Rattle.pv_inline.specs.Tables.{Table, span_below, spans_of, sizes_of, bases_of, starts_in, drawn_in, table_in}
@@ -49,15 +48,15 @@ table_with ends calls texts bases starts drawn ranks edges loops = record {
 }
 
 -- down as many levels as there are blocks
-pub as_deep : (blocks : List (Option Automaton)) (calls : List CodeCallEdge)
-    → spans_of (span_below (blocks_of blocks) (length blocks)) calls ≡ spans_of (span (blocks_of blocks)) calls
-as_deep blocks calls = sym (ap (λ (n : ℕ). spans_of (span_below (blocks_of blocks) n) calls) (length-map blocks block_of))
+pub as_deep : (blocks : List (Option CodeParts)) (calls : List CodeCallEdge)
+    → spans_of (span_below (blocks_in blocks) (length blocks)) calls ≡ spans_of (span (blocks_in blocks)) calls
+as_deep blocks calls = sym (ap (λ (n : ℕ). spans_of (span_below (blocks_in blocks) n) calls) (length-map blocks block_in))
 
-pub table_is : (blocks : List (Option Automaton)) (p : CodeParts) (outs : ℕ) (t : Table) (calls : List CodeCallEdge) (sizes counts : List ℕ)
+pub table_is : (blocks : List (Option CodeParts)) (p : CodeParts) (outs : ℕ) (t : Table) (calls : List CodeCallEdge) (sizes counts : List ℕ)
     → t.ends ≡ standings_of p → t.calls ≡ calls_of p → calls ≡ p.calls.items
-    → t.texts ≡ spans_of (span_below (blocks_of blocks) (length blocks)) calls
-    → sizes ≡ sizes_of (blocks_of blocks) calls → counts ≡ counted (replicate p.locations 0) p.edges.items
-    → t.bases ≡ bases_of (blocks_of blocks) 0 calls
+    → t.texts ≡ spans_of (span_below (blocks_in blocks) (length blocks)) calls
+    → sizes ≡ sizes_of (blocks_in blocks) calls → counts ≡ counted (replicate p.locations 0) p.edges.items
+    → t.bases ≡ bases_of (blocks_in blocks) 0 calls
     → t.starts ≡ sums_below (text_at t.ends t.calls t.texts) p.locations
     → t.drawn ≡ sums_below (drawn_at t.ends t.calls sizes counts outs) p.locations
     → t.ranks ≡ ranks_by (replicate p.locations 0) p.edges.items
@@ -68,33 +67,33 @@ table_is blocks p outs t calls sizes counts ends at same texts long many bases s
     ∙ (ap (λ (x : List (Option ℕ)). table_with (standings_of p) x t.texts t.bases t.starts t.drawn t.ranks t.edges t.loops) at
     ∙ (ap (λ (x : List ℕ). table_with (standings_of p) (calls_of p) x t.bases t.starts t.drawn t.ranks t.edges t.loops) text
     ∙ (ap (λ (x : List ℕ). table_with (standings_of p) (calls_of p) whole x t.starts t.drawn t.ranks t.edges t.loops)
-    (bases ∙ ap (λ (cs : List CodeCallEdge). bases_of (blocks_of blocks) 0 cs) same)
-    ∙ (ap (λ (x : List ℕ). table_with (standings_of p) (calls_of p) whole (bases_of (blocks_of blocks) 0 p.calls.items) x t.drawn t.ranks t.edges t.loops)
+    (bases ∙ ap (λ (cs : List CodeCallEdge). bases_of (blocks_in blocks) 0 cs) same)
+    ∙ (ap (λ (x : List ℕ). table_with (standings_of p) (calls_of p) whole (bases_of (blocks_in blocks) 0 p.calls.items) x t.drawn t.ranks t.edges t.loops)
     (starts
     ∙ (ap (λ (x : List Standing). sums_below (text_at x t.calls t.texts) p.locations) ends
     ∙ (ap (λ (x : List (Option ℕ)). sums_below (text_at (standings_of p) x t.texts) p.locations) at
     ∙ ap (λ (x : List ℕ). sums_below (text_at (standings_of p) (calls_of p) x) p.locations) text)))
-    ∙ (ap (λ (x : List ℕ). table_with (standings_of p) (calls_of p) whole (bases_of (blocks_of blocks) 0 p.calls.items)
-    (starts_in (blocks_of blocks) p) x t.ranks t.edges t.loops)
+    ∙ (ap (λ (x : List ℕ). table_with (standings_of p) (calls_of p) whole (bases_of (blocks_in blocks) 0 p.calls.items)
+    (starts_in (blocks_in blocks) p) x t.ranks t.edges t.loops)
     (drawn
     ∙ (ap (λ (x : List Standing). sums_below (drawn_at x t.calls sizes counts outs) p.locations) ends
     ∙ (ap (λ (x : List (Option ℕ)). sums_below (drawn_at (standings_of p) x sizes counts outs) p.locations) at
     ∙ (ap (λ (x : List ℕ). sums_below (drawn_at (standings_of p) (calls_of p) x counts outs) p.locations)
-    (long ∙ ap (λ (cs : List CodeCallEdge). sizes_of (blocks_of blocks) cs) same)
-    ∙ ap (λ (x : List ℕ). sums_below (drawn_at (standings_of p) (calls_of p) (sizes_of (blocks_of blocks) p.calls.items) x outs) p.locations) many))))
-    ∙ (ap (λ (x : List ℕ). table_with (standings_of p) (calls_of p) whole (bases_of (blocks_of blocks) 0 p.calls.items)
-    (starts_in (blocks_of blocks) p) (drawn_in (blocks_of blocks) p outs) x t.edges t.loops) ranks
-    ∙ (ap (λ (x : Chains). table_with (standings_of p) (calls_of p) whole (bases_of (blocks_of blocks) 0 p.calls.items)
-    (starts_in (blocks_of blocks) p) (drawn_in (blocks_of blocks) p outs) (ranks_by (replicate p.locations 0) p.edges.items) x t.loops) edges
-    ∙ ap (λ (x : Chains). table_with (standings_of p) (calls_of p) whole (bases_of (blocks_of blocks) 0 p.calls.items)
-    (starts_in (blocks_of blocks) p) (drawn_in (blocks_of blocks) p outs) (ranks_by (replicate p.locations 0) p.edges.items)
+    (long ∙ ap (λ (cs : List CodeCallEdge). sizes_of (blocks_in blocks) cs) same)
+    ∙ ap (λ (x : List ℕ). sums_below (drawn_at (standings_of p) (calls_of p) (sizes_of (blocks_in blocks) p.calls.items) x outs) p.locations) many))))
+    ∙ (ap (λ (x : List ℕ). table_with (standings_of p) (calls_of p) whole (bases_of (blocks_in blocks) 0 p.calls.items)
+    (starts_in (blocks_in blocks) p) (drawn_in (blocks_in blocks) p outs) x t.edges t.loops) ranks
+    ∙ (ap (λ (x : Chains). table_with (standings_of p) (calls_of p) whole (bases_of (blocks_in blocks) 0 p.calls.items)
+    (starts_in (blocks_in blocks) p) (drawn_in (blocks_in blocks) p outs) (ranks_by (replicate p.locations 0) p.edges.items) x t.loops) edges
+    ∙ ap (λ (x : Chains). table_with (standings_of p) (calls_of p) whole (bases_of (blocks_in blocks) 0 p.calls.items)
+    (starts_in (blocks_in blocks) p) (drawn_in (blocks_in blocks) p outs) (ranks_by (replicate p.locations 0) p.edges.items)
     (chains_of p.locations (map from_of p.edges.items)) x) loops)))))))
   where
     whole : List ℕ
-    whole = spans_of (span (blocks_of blocks)) p.calls.items
+    whole = spans_of (span (blocks_in blocks)) p.calls.items
 
     text : t.texts ≡ whole
-    text = texts ∙ (ap (λ (cs : List CodeCallEdge). spans_of (span_below (blocks_of blocks) (length blocks)) cs) same ∙ as_deep blocks p.calls.items)
+    text = texts ∙ (ap (λ (cs : List CodeCallEdge). spans_of (span_below (blocks_in blocks) (length blocks)) cs) same ∙ as_deep blocks p.calls.items)
 
 -- ---- places
 
@@ -164,7 +163,7 @@ copy_of parts table places body = record {
   free = body.free;
 }
 
-pub callee_seen : (blocks : List (Option Automaton)) (c : Copy) (caller : Places) (l j : ℕ) (call : CodeCallEdge) (q : CodeParts) (t : CodeTable)
+pub callee_seen : (blocks : List (Option CodeParts)) (c : Copy) (caller : Places) (l j : ℕ) (call : CodeCallEdge) (q : CodeParts) (t : CodeTable)
     (places : Places) (body : CodeBody) (own_at : ℕ) → c.place ≡ place_of caller → c.shared_at ≡ caller.shared_at → own_at ≡ base c j
     → table_seen t ≡ table_in blocks q 1 → IsCallee caller call.instance q.bound q.shared own_at places → IsCalleeBody c l call q own_at body
     → copy_of q t places body ≡ callee_copy blocks c l j call q
@@ -186,7 +185,7 @@ callee_seen blocks c caller l j call q t places body own_at place shared based t
     there : ℕ → ℕ
     there = callee_place c.place call.instance q.bound q.shared c.shared_at (base c j)
 
-pub entry_seen : (blocks : List (Option Automaton)) (p : CodeParts) (t : CodeTable) (places : Places) (body : CodeBody)
+pub entry_seen : (blocks : List (Option CodeParts)) (p : CodeParts) (t : CodeTable) (places : Places) (body : CodeBody)
     → table_seen t ≡ table_in blocks p 0 → IsEntry p.bound p.shared places → IsEntryBody p body → copy_of p t places body ≡ entry_copy blocks p
 entry_seen blocks p t places body table lie is =
     ap (λ (x : Table). copy_with p x (place_of places) places.shared_at body.start body.out body.deeds body.edges body.free) table
@@ -204,7 +203,7 @@ entry_seen blocks p t places body table lie is =
 
 -- ---- called blocks
 
-pub called_some : (blocks : List (Option Automaton)) (levels : ℕ) (c : Copy) (from : ℕ) (m middle new : Making) → 0 < levels
+pub called_some : (blocks : List (Option CodeParts)) (levels : ℕ) (c : Copy) (from : ℕ) (m middle new : Making) → 0 < levels
     → middle ≡ edge_in_made c from m → new ≡ copy_made blocks (below blocks (levels - 1)) c middle
     → new ≡ called_made (below blocks levels) c from m
 called_some blocks levels c from m middle new some entered made =
@@ -215,7 +214,7 @@ called_some blocks levels c from m middle new some entered made =
     next : (n : ℕ) → 0 < n → n ≡ suc (n - 1)
     next n h = omega (arith, h)
 
-pub block_some : (blocks : List (Option Automaton)) (inner : Copy → Making → Making) (c callee : Copy) (l j from : ℕ) (o : Option CodeCallEdge)
+pub block_some : (blocks : List (Option CodeParts)) (inner : Copy → Making → Making) (c callee : Copy) (l j from : ℕ) (o : Option CodeCallEdge)
     (call : CodeCallEdge) (q : CodeParts) (m new : Making) → o ≡ Some call → code_at blocks call.block ≡ Some q
     → callee ≡ callee_copy blocks c l j call q → from ≡ number c l → new ≡ called_made inner callee from m → new ≡ call_made blocks inner c l j o m
 block_some blocks inner c callee l j from o call q m new at there is here made =
@@ -227,12 +226,14 @@ block_some blocks inner c callee l j from o call q m new at there is here made =
 
 -- ---- the entry
 
-pub copies_are : (blocks : List (Option Automaton)) (p : CodeParts) (c : Copy) (m new : Making)
-    → new ≡ copy_made blocks (below blocks (length blocks)) c m → c ≡ entry_copy blocks p → m ≡ first_making → new ≡ all_made blocks p
-copies_are blocks p c m new made entry first =
+pub copies_are : (blocks : List (Option CodeParts)) (levels : ℕ) (p : CodeParts) (c : Copy) (m new : Making)
+    → new ≡ copy_made blocks (below blocks levels) c m → levels ≡ length blocks → c ≡ entry_copy blocks p → m ≡ first_making
+    → new ≡ all_made blocks p
+copies_are blocks levels p c m new made deep entry first =
     made
+    ∙ (ap (λ (n : ℕ). copy_made blocks (below blocks n) c m) deep
     ∙ (ap (λ (x : Copy). copy_made blocks (below blocks (length blocks)) x m) entry
-    ∙ ap (λ (x : Making). copy_made blocks (below blocks (length blocks)) (entry_copy blocks p) x) first)
+    ∙ ap (λ (x : Making). copy_made blocks (below blocks (length blocks)) (entry_copy blocks p) x) first))
 
 -- ---- tables, by slices of their lists
 
@@ -275,7 +276,7 @@ tables_are c m new after nodes deeds many own those made put drawn loops =
     ∙ ap (λ (x : List Loop). made_with (m.nodes ++ map (node_at c.place (length m.nodes)) c.parts.nodes.items)
     (m.deeds ++ map (deed_at c.place (length m.nodes)) (map deed_seen c.parts.deeds.items)) m.drawn x) loops))
 
-pub copy_is : (blocks : List (Option Automaton)) (inner : Copy → Making → Making) (c own : Copy) (deeds : ℕ) (m middle new : Making)
+pub copy_is : (blocks : List (Option CodeParts)) (inner : Copy → Making → Making) (c own : Copy) (deeds : ℕ) (m middle new : Making)
     → own ≡ with_deeds deeds c → deeds ≡ length m.deeds → middle ≡ tables_copied c m
     → new ≡ locations_made blocks inner own own.parts.locations middle → new ≡ copy_made blocks inner c m
 copy_is blocks inner c own deeds m middle new is many tables made =

@@ -1,7 +1,6 @@
 -- There are no fewer nodes after a step than before it.
-use Rattle.std.proofs.Common.{◌≡◌, ℕ, zero, suc, ◌+◌, ◌≤◌, List, [], ◌∷◌, ◌++◌, length, length-append, map, slice_get, Option, Some, None, refl, sym, subst, ap, ◌∙◌, arith}
+use Rattle.std.proofs.Common.{◌≡◌, ℕ, zero, suc, ◌≤◌, List, [], ◌∷◌, ◌++◌, length, length-append, map, slice_get, Option, Some, None, refl, sym, subst, ap, ◌∙◌, arith}
 use Rattle.std.specs.Prelude.{slice_index_or}
-use Rattle.pv_flow.specs.declared.automaton.Automaton.{Automaton}
 use Rattle.pv_flow.specs.declared.term.Node.{Node}
 use Rattle.pv_flow.specs.declared.parts.Edge.{Edge as CodeEdge}
 use Rattle.pv_flow.specs.declared.parts.CallEdge.{CallEdge as CodeCallEdge}
@@ -67,7 +66,7 @@ tables_grow c m = appended m (tables_copied c m) (map (node_at c.place (length m
 pub in_grows : (c : Copy) (from : ℕ) (m : Making) → Grow m (edge_in_made c from m)
 in_grows c from m = appended m (edge_in_made c from m) (reset_nodes c.parts.bound c.parts.shared 0 c.parts.vars.items) refl
 
-block_grows : (blocks : List (Option Automaton)) (inner : Copy → Making → Making) → GrowsBy inner → (c : Copy) (l j : ℕ) (call : CodeCallEdge)
+block_grows : (blocks : List (Option CodeParts)) (inner : Copy → Making → Making) → GrowsBy inner → (c : Copy) (l j : ℕ) (call : CodeCallEdge)
     (o : Option CodeParts) (m : Making) → Grow m (block_made blocks inner c l j call o m)
 block_grows blocks inner grows c l j call None m = stays m
 block_grows blocks inner grows c l j call (Some q) m =
@@ -75,43 +74,43 @@ block_grows blocks inner grows c l j call (Some q) m =
     (in_grows (callee_copy blocks c l j call q) (number c l) m)
     (grows (callee_copy blocks c l j call q) (edge_in_made (callee_copy blocks c l j call q) (number c l) m))
 
-call_grows : (blocks : List (Option Automaton)) (inner : Copy → Making → Making) → GrowsBy inner → (c : Copy) (l j : ℕ)
+call_grows : (blocks : List (Option CodeParts)) (inner : Copy → Making → Making) → GrowsBy inner → (c : Copy) (l j : ℕ)
     (o : Option CodeCallEdge) (m : Making) → Grow m (call_made blocks inner c l j o m)
 call_grows blocks inner grows c l j None m = stays m
 call_grows blocks inner grows c l j (Some call) m = block_grows blocks inner grows c l j call (code_at blocks call.block) m
 
-on_grows : (blocks : List (Option Automaton)) (inner : Copy → Making → Making) → GrowsBy inner → (c : Copy) (l : ℕ)
+on_grows : (blocks : List (Option CodeParts)) (inner : Copy → Making → Making) → GrowsBy inner → (c : Copy) (l : ℕ)
     (o : Option ℕ) (m : Making) → Grow m (goes_on blocks inner c l o m)
 on_grows blocks inner grows c l None m =
     same_grows m (all_drawn c (numbers_at c.table.edges l) m) (drawn_same c (numbers_at c.table.edges l) m)
 on_grows blocks inner grows c l (Some j) m = call_grows blocks inner grows c l j (slice_get c.parts.calls.items j) m
 
-by_grows : (blocks : List (Option Automaton)) (inner : Copy → Making → Making) → GrowsBy inner → (c : Copy) (l : ℕ)
+by_grows : (blocks : List (Option CodeParts)) (inner : Copy → Making → Making) → GrowsBy inner → (c : Copy) (l : ℕ)
     (s : Standing) (m : Making) → Grow m (made_by blocks inner c l s m)
 by_grows blocks inner grows c l standing.Nothing m = on_grows blocks inner grows c l (slice_index_or c.table.calls l None) m
 by_grows blocks inner grows c l standing.Done m = same_grows m (out_drawn c l c.out m) (out_same c l c.out m)
 by_grows blocks inner grows c l (standing.Trap kind place) m = stays m
 by_grows blocks inner grows c l (standing.Over place) m = stays m
 
-pub location_grows : (blocks : List (Option Automaton)) (inner : Copy → Making → Making) → GrowsBy inner → (c : Copy) (l : ℕ) (m : Making)
+pub location_grows : (blocks : List (Option CodeParts)) (inner : Copy → Making → Making) → GrowsBy inner → (c : Copy) (l : ℕ) (m : Making)
     → Grow m (location_made blocks inner c l m)
 location_grows blocks inner grows c l m =
     grow_then m (all_looped c (numbers_at c.table.loops l) m) (location_made blocks inner c l m)
     (same_grows m (all_looped c (numbers_at c.table.loops l) m) (looped_same c (numbers_at c.table.loops l) m))
     (by_grows blocks inner grows c l (slice_index_or c.table.ends l standing.Nothing) (all_looped c (numbers_at c.table.loops l) m))
 
-pub locations_grow : (blocks : List (Option Automaton)) (inner : Copy → Making → Making) → GrowsBy inner → (c : Copy) (l : ℕ) (m : Making)
+pub locations_grow : (blocks : List (Option CodeParts)) (inner : Copy → Making → Making) → GrowsBy inner → (c : Copy) (l : ℕ) (m : Making)
     → Grow m (locations_made blocks inner c l m)
 locations_grow blocks inner grows c zero m = stays m
 locations_grow blocks inner grows c (suc l) m =
     grow_then m (locations_made blocks inner c l m) (locations_made blocks inner c (suc l) m) (locations_grow blocks inner grows c l m)
     (location_grows blocks inner grows c l (locations_made blocks inner c l m))
 
-pub copy_grows : (blocks : List (Option Automaton)) (inner : Copy → Making → Making) → GrowsBy inner → GrowsBy (copy_made blocks inner)
+pub copy_grows : (blocks : List (Option CodeParts)) (inner : Copy → Making → Making) → GrowsBy inner → GrowsBy (copy_made blocks inner)
 copy_grows blocks inner grows c m =
     grow_then m (tables_copied c m) (copy_made blocks inner c m) (tables_grow c m)
     (locations_grow blocks inner grows (with_deeds (length m.deeds) c) c.parts.locations (tables_copied c m))
 
-pub below_grows : (blocks : List (Option Automaton)) (levels : ℕ) → GrowsBy (below blocks levels)
+pub below_grows : (blocks : List (Option CodeParts)) (levels : ℕ) → GrowsBy (below blocks levels)
 below_grows blocks zero c m = stays m
 below_grows blocks (suc levels) c m = copy_grows blocks (below blocks levels) (below_grows blocks levels) c m

@@ -1,7 +1,6 @@
 -- Numbers of edges that are counted up to the limit, block after block, are what is defined.
-use Rattle.std.proofs.Common.{◌≡◌, ℕ, suc, ◌+◌, ◌-◌, ◌<◌, ◌≤◌, List, map, length, min, Result, Ok, Err, IfOk, IfErr, Option, Some, refl, sym, subst, ap, ◌∙◌, arith}
+use Rattle.std.proofs.Common.{◌≡◌, ℕ, zero, suc, ◌+◌, ◌-◌, ◌<◌, ◌≤◌, List, map, length, min, Result, Ok, Err, IfOk, IfErr, Option, Some, None, refl, sym, subst, ap, ◌∙◌, arith}
 use Rattle.std.proofs.lemmas.List.{length-map}
-use Rattle.pv_flow.specs.declared.automaton.Automaton.{Automaton}
 use Rattle.pv_flow.specs.declared.parts.CallEdge.{CallEdge as CodeCallEdge}
 use Rattle.pv_flow.specs.declared.parts.Parts.{Parts as CodeParts}
 use Rattle.pv_flow.specs.Automata.{CallEdge, Parts}
@@ -10,9 +9,10 @@ use Rattle.pv_flow.specs.View.{terms_of, edge_of, call_edge_of, parts_of}
 use Rattle.pv_call_copies.specs.Inlined.{size_by_calls, size_in, inlined_size}
 use Rattle.pv_inline.specs.declared.fault.TheConstants.{BEYOND, MAX_EDGES}
 use Rattle.pv_inline.specs.declared.fault.TooLarge.{TooLarge}
-use Rattle.pv_inline.specs.Blocks.{block_of, blocks_of}
+use Rattle.pv_inline.specs.Blocks.{block_in, blocks_in, code_at}
 use Rattle.pv_inline.specs.Counts.{capped, size_below, size_after, calls_after}
 use Rattle.pv_inline.specs.Correct.{IsSizeOf, IsTooLarge, IsWithin, IsOver}
+use Rattle.pv_inline.proofs.Coded.{none_block}
 
 -- ---- one block
 
@@ -45,6 +45,16 @@ some_code blocks levels b total edges n r p code calls some at seen long is same
     (long ∙ (sym (length-map code.edges.items (edge_of (terms_of code.nodes.items) code.deeds.items)) ∙ ap (λ (q : Parts). length q.edges) seen))
     is (ap (map call_edge_of) same ∙ ap (λ (q : Parts). q.calls) seen) e
 
+few : (most n : ℕ) → n < most → n ≡ min (n + 0) most
+few most n h = omega (arith, h)
+
+pub none_code : (codes : List (Option CodeParts)) (levels b total : ℕ) → code_at codes b ≡ None → total < BEYOND
+    → total ≡ size_after (blocks_in codes) levels b total
+none_code codes zero b total none lt = few BEYOND total lt
+none_code codes (suc levels) b total none lt =
+    few BEYOND total lt
+    ∙ sym (ap (λ (o : Option Parts). capped (total + size_in (λ (c : ℕ). size_below (blocks_in codes) levels c) o)) (none_block codes b none))
+
 -- ---- what is answered
 
 most_is : BEYOND ≡ 200001
@@ -54,12 +64,12 @@ edges_most : MAX_EDGES ≡ 200000
 edges_most = refl
 
 -- down as many levels as there are blocks
-pub counted_is : (code : List (Option Automaton)) (b counted : ℕ) → counted ≡ size_after (blocks_of code) (length code) b 0
-    → counted ≡ capped (inlined_size (blocks_of code) b)
+pub counted_is : (code : List (Option CodeParts)) (b counted : ℕ) → counted ≡ size_after (blocks_in code) (length code) b 0
+    → counted ≡ capped (inlined_size (blocks_in code) b)
 counted_is code b counted e =
     e
-    ∙ (ap capped (none (size_below (blocks_of code) (length code) b))
-    ∙ sym (ap (λ (n : ℕ). capped (size_below (blocks_of code) n b)) (length-map code block_of)))
+    ∙ (ap capped (none (size_below (blocks_in code) (length code) b))
+    ∙ sym (ap (λ (n : ℕ). capped (size_below (blocks_in code) n b)) (length-map code block_in)))
   where
     none : (n : ℕ) → 0 + n ≡ n
     none n = omega arith

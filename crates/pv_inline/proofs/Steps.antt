@@ -6,7 +6,6 @@ use Rattle.std.specs.Option.{option_map}
 use Rattle.std.proofs.lemmas.Bool.{lt-ltb, and_parts, and_from}
 use Rattle.std.proofs.lemmas.List.{length-map}
 use Rattle.std.proofs.lemmas.Option.{same_Some, none-some, slice_get_within, slice_get-map}
-use Rattle.pv_flow.specs.declared.automaton.Automaton.{Automaton}
 use Rattle.pv_flow.specs.declared.term.Node.{Node}
 use Rattle.pv_flow.specs.declared.parts.Variable.{Variable as CodeVariable}
 use Rattle.pv_flow.specs.declared.parts.Set.{Set as CodeSet}
@@ -36,7 +35,7 @@ use Rattle.pv_call_terms.specs.Terms.{node_at}
 use Rattle.pv_call_terms.specs.Deeds.{Plain, deed_seen, deed_at}
 use Rattle.pv_call_terms.specs.Resets.{anew, nodes_by, sets_by, reset_nodes, reset_sets}
 use Rattle.pv_call_terms.proofs.ForCallers.{terms_count, terms_are_copied, ordered_joined, terms_stay_ordered, plain_guard, plain_sets, guards_mean, sets_mean, all_seen, all_later, resets_are_made}
-use Rattle.pv_inline.specs.Blocks.{blocks_of}
+use Rattle.pv_inline.specs.Blocks.{blocks_in}
 use Rattle.pv_inline.specs.Tables.{Table, table_in}
 use Rattle.pv_inline.specs.Walking.{Making, Copy, true_deed, drawn_more, looped, number, aim_by, aim, edge_drawn, one_drawn, all_drawn, turn_by, turn, loop_made, one_looped, all_looped, tables_copied, edge_in_made, out_drawn, with_deeds}
 use Rattle.pv_inline.specs.Reading.{guard_in, sets_in, values_below, has_nodes, read, has_deed, IsGood, Added}
@@ -187,11 +186,11 @@ held_added c m new es ls good h held =
 
 -- ---- numbers and aims
 
-pub number_is : (blocks : List (Option Automaton)) (c : Copy) (place : ℕ → ℕ) (outs : ℕ) → c.table ≡ table_in blocks c.parts outs → (l : ℕ)
-    → l ≤ c.parts.locations → number c l ≡ number_in (blocks_of blocks) (body_of c place) l
+pub number_is : (blocks : List (Option CodeParts)) (c : Copy) (place : ℕ → ℕ) (outs : ℕ) → c.table ≡ table_in blocks c.parts outs → (l : ℕ)
+    → l ≤ c.parts.locations → number c l ≡ number_in (blocks_in blocks) (body_of c place) l
 number_is blocks c place outs table l le =
     ap (λ (t : Table). c.start + slice_index_or t.starts l 0) table
-    ∙ ap (λ (n : ℕ). c.start + n) (starts_are (blocks_of blocks) c.parts l le)
+    ∙ ap (λ (n : ℕ). c.start + n) (starts_are (blocks_in blocks) c.parts l le)
 
 seen_by : (o : Option End) (here : ℕ) → aim_seen (aim_by (standing_of o) here) ≡ plain_aim_by o here
 seen_by None here = refl
@@ -202,8 +201,8 @@ seen_by (Some (over place)) here = refl
 before_it : (l n : ℕ) → l < n → l ≤ n
 before_it l n lt = omega (arith, lt)
 
-pub aim_is : (blocks : List (Option Automaton)) (c : Copy) (place : ℕ → ℕ) (outs : ℕ) → c.table ≡ table_in blocks c.parts outs → (l : ℕ)
-    → l < c.parts.locations → aim_seen (aim c l) ≡ aim_in (blocks_of blocks) (body_of c place) l
+pub aim_is : (blocks : List (Option CodeParts)) (c : Copy) (place : ℕ → ℕ) (outs : ℕ) → c.table ≡ table_in blocks c.parts outs → (l : ℕ)
+    → l < c.parts.locations → aim_seen (aim c l) ≡ aim_in (blocks_in blocks) (body_of c place) l
 aim_is blocks c place outs table l lt =
     ap (λ (t : Table). aim_seen (aim_by (slice_index_or t.ends l standing.Nothing) (number c l))) table
     ∙ (ap (λ (s : Standing). aim_seen (aim_by s (number c l))) (standings_are c.parts l lt)
@@ -218,11 +217,11 @@ pub record IsEdgeThere (p : CodeParts) (edge : CodeEdge) : Type 0 where
   pub deed : edge.deed < length p.deeds.items
   pub below : edge_below (length (map variable_of p.vars.items)) (edge_of (terms_of p.nodes.items) p.deeds.items edge) ≡ true
 
-edge_is : (blocks : List (Option Automaton)) (c : Copy) (place : ℕ → ℕ) (outs : ℕ) (nodes : List Node) (deeds : List Plain)
+edge_is : (blocks : List (Option CodeParts)) (c : Copy) (place : ℕ → ℕ) (outs : ℕ) (nodes : List Node) (deeds : List Plain)
     → c.table ≡ table_in blocks c.parts outs → Agree (length (map variable_of c.parts.vars.items)) c.place place → IsHeld c nodes deeds
     → (edge : CodeEdge) → IsEdgeThere c.parts edge
     → read nodes deeds (edge_drawn c edge)
-    ≡ drawn_edge (blocks_of blocks) (body_of c place) (edge_of (terms_of c.parts.nodes.items) c.parts.deeds.items edge)
+    ≡ drawn_edge (blocks_in blocks) (body_of c place) (edge_of (terms_of c.parts.nodes.items) c.parts.deeds.items edge)
 edge_is blocks c place outs nodes deeds table agree held edge is =
     ap (λ (n : ℕ). from_to n (aim_seen (aim c edge.to)) (read nodes deeds (edge_drawn c edge)).guard (read nodes deeds (edge_drawn c edge)).sets)
     (number_is blocks c place outs table edge.from (before_it edge.from c.parts.locations is.from))
@@ -243,10 +242,10 @@ edge_is blocks c place outs nodes deeds table agree held edge is =
     own = edge_of (terms_of c.parts.nodes.items) c.parts.deeds.items edge
 
     from : ℕ
-    from = number_in (blocks_of blocks) (body_of c place) edge.from
+    from = number_in (blocks_in blocks) (body_of c place) edge.from
 
     aimed : Plain_aim
-    aimed = aim_in (blocks_of blocks) (body_of c place) edge.to
+    aimed = aim_in (blocks_in blocks) (body_of c place) edge.to
 
     both : (names_below n own.guard ≡ true) × (list_all (set_below n) own.sets ≡ true)
     both = and_parts (names_below n own.guard) (list_all (set_below n) own.sets) is.below
@@ -264,12 +263,12 @@ one_further : (e i : ℕ) → suc e + i ≡ e + suc i
 one_further e i = omega arith
 
 -- the edges from number e on, those of location l
-pub edges_added : (blocks : List (Option Automaton)) (c : Copy) (place : ℕ → ℕ) (outs : ℕ)
+pub edges_added : (blocks : List (Option CodeParts)) (c : Copy) (place : ℕ → ℕ) (outs : ℕ)
     → c.table ≡ table_in blocks c.parts outs → Agree (length (map variable_of c.parts.vars.items)) c.place place
     → (l e : ℕ) (edges : List CodeEdge) → ((i : ℕ) → slice_get c.parts.edges.items (e + i) ≡ slice_get edges i)
     → AllByRecursion (IsEdgeThere c.parts) edges → (m : Making) → IsGood m → IsHeld c m.nodes m.deeds
     → Added m (all_drawn c (numbers_from l e (map from_of edges)) m)
-    (map (drawn_edge (blocks_of blocks) (body_of c place)) (edges_from l (map (edge_of (terms_of c.parts.nodes.items) c.parts.deeds.items) edges))) []
+    (map (drawn_edge (blocks_in blocks) (body_of c place)) (edges_from l (map (edge_of (terms_of c.parts.nodes.items) c.parts.deeds.items) edges))) []
 edges_added blocks c place outs table agree l e [] at there m good held = nothing_added m good
 edges_added blocks c place outs table agree l e (edge ∷ edges) at there m good held =
     by (edge.from == l) (edges_added blocks c place outs table agree l (suc e) edges
@@ -285,13 +284,13 @@ edges_added blocks c place outs table agree l e (edge ∷ edges) at there m good
     rest = edges_from l (map (edge_of (terms_of c.parts.nodes.items) c.parts.deeds.items) edges)
 
     drawn : List Edge → List Plain_drawn
-    drawn es = map (drawn_edge (blocks_of blocks) (body_of c place)) es
+    drawn es = map (drawn_edge (blocks_in blocks) (body_of c place)) es
 
     next : Making
     next = drawn_more (edge_drawn c edge) m
 
-    one : Added m next (drawn_edge (blocks_of blocks) (body_of c place) own ∷ []) []
-    one = one_edge m (edge_drawn c edge) (drawn_edge (blocks_of blocks) (body_of c place) own) good
+    one : Added m next (drawn_edge (blocks_in blocks) (body_of c place) own ∷ []) []
+    one = one_edge m (edge_drawn c edge) (drawn_edge (blocks_in blocks) (body_of c place) own) good
         (within c.deeds edge.deed (length c.parts.deeds.items) (length m.deeds) (there.0).deed held.fits)
         (edge_is blocks c place outs m.nodes m.deeds table agree held edge there.0)
       where
@@ -305,7 +304,7 @@ edges_added blocks c place outs table agree l e (edge ∷ edges) at there m good
         → Added m (all_drawn c (cond b (e ∷ numbers) numbers) m) (drawn (cond b (own ∷ rest) rest)) []
     by true go =
         subst (λ (o : Option CodeEdge). Added m (all_drawn c numbers (one_drawn c o m)) (drawn (own ∷ rest)) []) (sym found)
-        (added_then m next (all_drawn c numbers next) (drawn_edge (blocks_of blocks) (body_of c place) own ∷ []) (drawn rest) [] []
+        (added_then m next (all_drawn c numbers next) (drawn_edge (blocks_in blocks) (body_of c place) own ∷ []) (drawn rest) [] []
         one (go next one.good held))
     by false go = go m good held
 
@@ -322,16 +321,16 @@ all_rec_at n (x ∷ xs) zero edge all at = subst (λ (y : CodeEdge). y.from < n)
 all_rec_at n (x ∷ xs) (suc e) edge all at = all_rec_at n xs e edge all.1 at
 
 -- what is told of the edges before each location
-abbrev pub AreBefore : List (Option Automaton) → Copy → (ℕ → ℕ) → Type 0
+abbrev pub AreBefore : List (Option CodeParts) → Copy → (ℕ → ℕ) → Type 0
 AreBefore blocks c place =
-    (l : ℕ) → l ≤ c.parts.locations → slice_index_or c.table.drawn l 0 ≡ drawn_before (blocks_of blocks) (body_of c place) l
+    (l : ℕ) → l ≤ c.parts.locations → slice_index_or c.table.drawn l 0 ≡ drawn_before (blocks_in blocks) (body_of c place) l
 
-turn_is : (blocks : List (Option Automaton)) (c : Copy) (place : ℕ → ℕ) (outs : ℕ) → c.table ≡ table_in blocks c.parts outs
+turn_is : (blocks : List (Option CodeParts)) (c : Copy) (place : ℕ → ℕ) (outs : ℕ) → c.table ≡ table_in blocks c.parts outs
     → AreThere c.parts → AreBefore blocks c place → (e : ℕ)
-    → turn c e ≡ turn_number (blocks_of blocks) (body_of c place) c.edges e
+    → turn c e ≡ turn_number (blocks_in blocks) (body_of c place) c.edges e
 turn_is blocks c place outs table there before e =
     by (slice_get c.parts.edges.items e) refl
-    ∙ sym (ap (λ (o : Option Edge). plain_turn_by (blocks_of blocks) (body_of c place) c.edges e o)
+    ∙ sym (ap (λ (o : Option Edge). plain_turn_by (blocks_in blocks) (body_of c place) c.edges e o)
     (slice_get-map (edge_of (terms_of c.parts.nodes.items) c.parts.deeds.items) c.parts.edges.items e))
   where
     v : CodeEdge → Edge
@@ -341,7 +340,7 @@ turn_is blocks c place outs table there before e =
     sums {a} {b} {d} {f} i h g = omega (arith, h, g)
 
     by : (o : Option CodeEdge) → slice_get c.parts.edges.items e ≡ o
-        → turn_by c e o ≡ plain_turn_by (blocks_of blocks) (body_of c place) c.edges e (option_map v o)
+        → turn_by c e o ≡ plain_turn_by (blocks_in blocks) (body_of c place) c.edges e (option_map v o)
     by None at = refl
     by (Some edge) at =
         let lt : edge.from < c.parts.locations = all_rec_at c.parts.locations c.parts.edges.items e edge there.froms at in
@@ -353,34 +352,34 @@ turns_are : (f g : ℕ → ℕ) → ((e : ℕ) → f e ≡ g e) → (es : List �
 turns_are f g same [] = refl
 turns_are f g same (e ∷ es) = ap (λ (n : ℕ). n ∷ map f es) (same e) ∙ ap (λ (ns : List ℕ). g e ∷ ns) (turns_are f g same es)
 
-loop_is : (blocks : List (Option Automaton)) (c : Copy) (place : ℕ → ℕ) (outs : ℕ) → c.table ≡ table_in blocks c.parts outs
+loop_is : (blocks : List (Option CodeParts)) (c : Copy) (place : ℕ → ℕ) (outs : ℕ) → c.table ≡ table_in blocks c.parts outs
     → AreThere c.parts → AreBefore blocks c place → (loop : CodeLoop) → IsLoopThere c.parts loop
-    → loop_made c (loop_of loop) ≡ drawn_loop (blocks_of blocks) (body_of c place) c.edges (loop_of loop)
+    → loop_made c (loop_of loop) ≡ drawn_loop (blocks_in blocks) (body_of c place) c.edges (loop_of loop)
 loop_is blocks c place outs table there before loop is =
     ap (λ (n : ℕ). range n (number c loop.last + of_call c.table.texts (slice_index_or c.table.calls loop.last None)) (map (turn c) loop.turns.items))
     (number_is blocks c place outs table loop.first (before_it loop.first c.parts.locations is.first))
     ∙ (ap (λ (n : ℕ). range first (n + of_call c.table.texts (slice_index_or c.table.calls loop.last None)) (map (turn c) loop.turns.items))
     (number_is blocks c place outs table loop.last (before_it loop.last c.parts.locations is.last))
-    ∙ (ap (λ (t : Table). range first (number_in (blocks_of blocks) (body_of c place) loop.last + of_call t.texts (slice_index_or t.calls loop.last None))
+    ∙ (ap (λ (t : Table). range first (number_in (blocks_in blocks) (body_of c place) loop.last + of_call t.texts (slice_index_or t.calls loop.last None))
     (map (turn c) loop.turns.items)) table
-    ∙ (ap (λ (n : ℕ). range first (number_in (blocks_of blocks) (body_of c place) loop.last + n) (map (turn c) loop.turns.items))
-    (called_is (span (blocks_of blocks)) c.parts loop.last is.last)
-    ∙ ap (λ (ns : List ℕ). range first (number_in (blocks_of blocks) (body_of c place) loop.last
-    + called_at (span (blocks_of blocks)) (parts_of c.parts) loop.last) ns)
-    (turns_are (turn c) (turn_number (blocks_of blocks) (body_of c place) c.edges) (turn_is blocks c place outs table there before) loop.turns.items))))
+    ∙ (ap (λ (n : ℕ). range first (number_in (blocks_in blocks) (body_of c place) loop.last + n) (map (turn c) loop.turns.items))
+    (called_is (span (blocks_in blocks)) c.parts loop.last is.last)
+    ∙ ap (λ (ns : List ℕ). range first (number_in (blocks_in blocks) (body_of c place) loop.last
+    + called_at (span (blocks_in blocks)) (parts_of c.parts) loop.last) ns)
+    (turns_are (turn c) (turn_number (blocks_in blocks) (body_of c place) c.edges) (turn_is blocks c place outs table there before) loop.turns.items))))
   where
     range : ℕ → ℕ → List ℕ → Loop
     range first last turns = record { first = first; last = last; entry_turn = loop.entry_turn; turns = turns; place = loop.place }
 
     first : ℕ
-    first = number_in (blocks_of blocks) (body_of c place) loop.first
+    first = number_in (blocks_in blocks) (body_of c place) loop.first
 
-pub loops_added : (blocks : List (Option Automaton)) (c : Copy) (place : ℕ → ℕ) (outs : ℕ) → c.table ≡ table_in blocks c.parts outs
+pub loops_added : (blocks : List (Option CodeParts)) (c : Copy) (place : ℕ → ℕ) (outs : ℕ) → c.table ≡ table_in blocks c.parts outs
     → AreThere c.parts → AreBefore blocks c place
     → (l e : ℕ) (loops : List CodeLoop) → ((i : ℕ) → slice_get (map loop_of c.parts.loops.items) (e + i) ≡ slice_get (map loop_of loops) i)
     → AllByRecursion (IsLoopThere c.parts) loops → (m : Making) → IsGood m
     → Added m (all_looped c (numbers_from l e (map first_of loops)) m) []
-    (map (drawn_loop (blocks_of blocks) (body_of c place) c.edges) (loops_from l (map loop_of loops)))
+    (map (drawn_loop (blocks_in blocks) (body_of c place) c.edges) (loops_from l (map loop_of loops)))
 loops_added blocks c place outs table there before l e [] at are m good = nothing_added m good
 loops_added blocks c place outs table there before l e (loop ∷ loops) at are m good =
     by (loop.first == l) (loops_added blocks c place outs table there before l (suc e) loops
@@ -393,12 +392,12 @@ loops_added blocks c place outs table there before l e (loop ∷ loops) at are m
     rest = loops_from l (map loop_of loops)
 
     drawn : List Loop → List Loop
-    drawn ls = map (drawn_loop (blocks_of blocks) (body_of c place) c.edges) ls
+    drawn ls = map (drawn_loop (blocks_in blocks) (body_of c place) c.edges) ls
 
     next : Making
     next = looped (loop_made c (loop_of loop)) m
 
-    one : Added m next [] (drawn_loop (blocks_of blocks) (body_of c place) c.edges (loop_of loop) ∷ [])
+    one : Added m next [] (drawn_loop (blocks_in blocks) (body_of c place) c.edges (loop_of loop) ∷ [])
     one = subst (λ (x : Loop). Added m next [] (x ∷ [])) (loop_is blocks c place outs table there before loop are.0)
         (one_loop m (loop_made c (loop_of loop)) good)
 
@@ -409,7 +408,7 @@ loops_added blocks c place outs table there before l e (loop ∷ loops) at are m
         → Added m (all_looped c (cond b (e ∷ numbers) numbers) m) [] (drawn (cond b (loop_of loop ∷ rest) rest))
     by true go =
         subst (λ (o : Option Loop). Added m (all_looped c numbers (one_looped c o m)) [] (drawn (loop_of loop ∷ rest))) (sym found)
-        (added_then m next (all_looped c numbers next) [] [] (drawn_loop (blocks_of blocks) (body_of c place) c.edges (loop_of loop) ∷ []) (drawn rest)
+        (added_then m next (all_looped c numbers next) [] [] (drawn_loop (blocks_in blocks) (body_of c place) c.edges (loop_of loop) ∷ []) (drawn rest)
         one (go next one.good))
     by false go = go m good
 
@@ -451,14 +450,14 @@ resets_ordered bound shared x k (v ∷ vars) = by (anew bound shared x v.role) (
     by true first more = more
     by false first more = first
 
-pub edge_in_added : (blocks : List (Option Automaton)) (c : Copy) (place : ℕ → ℕ) (outs from : ℕ) (m : Making)
+pub edge_in_added : (blocks : List (Option CodeParts)) (c : Copy) (place : ℕ → ℕ) (outs from : ℕ) (m : Making)
     → c.table ≡ table_in blocks c.parts outs → Agree (length (map variable_of c.parts.vars.items)) c.place place → AreThere c.parts → IsGood m
     → length (edge_in_made c from m).nodes ≤ MOST
-    → Added m (edge_in_made c from m) (edge_in (blocks_of blocks) (body_of c place) from ∷ []) []
+    → Added m (edge_in_made c from m) (edge_in (blocks_in blocks) (body_of c place) from ∷ []) []
 edge_in_added blocks c place outs from m table agree there good small =
-    added_then m wider (edge_in_made c from m) [] (edge_in (blocks_of blocks) (body_of c place) from ∷ []) [] []
+    added_then m wider (edge_in_made c from m) [] (edge_in (blocks_in blocks) (body_of c place) from ∷ []) [] []
     (grown_added m nodes (deed ∷ []) wide)
-    (one_edge wider d (edge_in (blocks_of blocks) (body_of c place) from) wide
+    (one_edge wider d (edge_in (blocks_in blocks) (body_of c place) from) wide
     (subst (λ (n : ℕ). length m.deeds < n) (sym (length-append m.deeds (deed ∷ []))) (one_under (length m.deeds))) reads)
   where
     vars : List CodeVariable
@@ -500,22 +499,22 @@ edge_in_added blocks c place outs from m table agree there good small =
     first : (a b : ℕ) → a < b → 0 < b
     first a b h = omega (arith, h)
 
-    reads : read (m.nodes ++ nodes) (m.deeds ++ deed ∷ []) d ≡ edge_in (blocks_of blocks) (body_of c place) from
+    reads : read (m.nodes ++ nodes) (m.deeds ++ deed ∷ []) d ≡ edge_in (blocks_in blocks) (body_of c place) from
     reads =
         ap (λ (o : Option Plain). from_to (aim_seen (aim c 0)) (guard_in (terms_of (m.nodes ++ nodes)) o) (sets_in (terms_of (m.nodes ++ nodes)) o)) found
         ∙ (ap (λ (a : Plain_aim). from_to a (term_at (terms_of (m.nodes ++ nodes)) 0) (map (set_of (terms_of (m.nodes ++ nodes))) sets))
         (aim_is blocks c place outs table 0 (first c.parts.done c.parts.locations there.is_done))
-        ∙ (ap (λ (t : Term). from_to (aim_in (blocks_of blocks) (body_of c place) 0) t (map (set_of (terms_of (m.nodes ++ nodes))) sets)) wide.truth
-        ∙ ap (λ (ss : List Set). from_to (aim_in (blocks_of blocks) (body_of c place) 0) true_term ss)
+        ∙ (ap (λ (t : Term). from_to (aim_in (blocks_in blocks) (body_of c place) 0) t (map (set_of (terms_of (m.nodes ++ nodes))) sets)) wide.truth
+        ∙ ap (λ (ss : List Set). from_to (aim_in (blocks_in blocks) (body_of c place) 0) true_term ss)
         (resets_are_made (work_of c place) c.place m.nodes vars refl
         (λ x lt. agree x (subst (λ (n : ℕ). x < n) (sym (length-map vars variable_of)) lt))
         (subst (λ (n : ℕ). n ≤ MOST) (length-append m.nodes nodes) small))))
 
 -- ---- the edge out
 
-pub out_added : (blocks : List (Option Automaton)) (c : Copy) (place : ℕ → ℕ) (outs l : ℕ) (m : Making)
+pub out_added : (blocks : List (Option CodeParts)) (c : Copy) (place : ℕ → ℕ) (outs l : ℕ) (m : Making)
     → c.table ≡ table_in blocks c.parts outs → l < c.parts.locations → IsGood m → (o : Option Aim)
-    → Added m (out_drawn c l o m) (edges_out (aim_out o) (number_in (blocks_of blocks) (body_of c place) l)) []
+    → Added m (out_drawn c l o m) (edges_out (aim_out o) (number_in (blocks_in blocks) (body_of c place) l)) []
 out_added blocks c place outs l m table lt good None = nothing_added m good
 out_added blocks c place outs l m table lt good (Some to) =
     one_edge m (record { from = number c l; aim = to; deed = 0 }) _ good (some_deed m good)
@@ -528,4 +527,4 @@ out_added blocks c place outs l m table lt good (Some to) =
     from_with from guard sets = record { from = from; aim = aim_seen to; guard = guard; sets = sets }
 
     from : ℕ
-    from = number_in (blocks_of blocks) (body_of c place) l
+    from = number_in (blocks_in blocks) (body_of c place) l

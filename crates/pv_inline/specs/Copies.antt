@@ -1,6 +1,5 @@
 -- The copy of a block, as the code has it, and as it is defined.
 use Rattle.std.specs.Prelude.{◌≡◌, ℕ, ◌+◌, ◌<◌, ◌≤◌, List, length, slice_get, Option, Some, None}
-use Rattle.pv_flow.specs.declared.automaton.Automaton.{Automaton}
 use Rattle.pv_flow.specs.declared.term.Node.{Node}
 use Rattle.pv_flow.specs.declared.parts.Parts.{Parts as CodeParts}
 use Rattle.pv_flow.specs.Automata.{Variable, Parts}
@@ -14,7 +13,7 @@ use Rattle.pv_call_tables.specs.declared.drawn.Aim.{Aim}
 use Rattle.pv_call_tables.specs.Drawing.{aim_seen}
 use Rattle.pv_inline.specs.Numbers.{MOST}
 use Rattle.pv_call_terms.specs.Deeds.{Plain}
-use Rattle.pv_inline.specs.Blocks.{blocks_of, code_at}
+use Rattle.pv_inline.specs.Blocks.{blocks_in, code_at}
 use Rattle.pv_inline.specs.Walking.{Copy}
 use Rattle.pv_inline.specs.Reading.{guard_in, sets_in}
 
@@ -38,15 +37,15 @@ pub record IsHeld (c : Copy) (nodes : List Node) (deeds : List Plain) : Type 0 w
       ≡ renamed_sets c.place (sets_of (terms_of c.parts.nodes.items) (slice_get c.parts.deeds.items n))
 
 -- the code's parts of a block
-pub record IsCode (blocks : List (Option Automaton)) (b : ℕ) (q : Parts) : Type 0 where
+pub record IsCode (blocks : List (Option CodeParts)) (b : ℕ) (q : Parts) : Type 0 where
   pub parts : CodeParts
   pub at : code_at blocks b ≡ Some parts
   pub same : parts_of parts ≡ q
   pub tabled : AreTabled parts
 
 -- blocks that fit, and so many variables of all copies
-pub record IsWhole (blocks : List (Option Automaton)) (vars : List Variable) : Type 0 where
-  pub fit : AreFitting (blocks_of blocks)
-  pub sound : AreSound (blocks_of blocks)
+pub record IsWhole (blocks : List (Option CodeParts)) (vars : List Variable) : Type 0 where
+  pub fit : AreFitting (blocks_in blocks)
+  pub sound : AreSound (blocks_in blocks)
   pub few : length vars ≤ MOST
-  pub code : (b : ℕ) (q : Parts) → block_at (blocks_of blocks) b ≡ Some q → IsCode blocks b q
+  pub code : (b : ℕ) (q : Parts) → block_at (blocks_in blocks) b ≡ Some q → IsCode blocks b q

@@ -1,6 +1,5 @@
 -- What is known of a block that is copied, as lists.
 use Rattle.std.specs.Prelude.{ℕ, ◌+◌, List, [], ◌∷◌, map, replicate, Option}
-use Rattle.pv_flow.specs.declared.automaton.Automaton.{Automaton}
 use Rattle.pv_flow.specs.declared.parts.CallEdge.{CallEdge as CodeCallEdge}
 use Rattle.pv_flow.specs.declared.parts.Parts.{Parts as CodeParts}
 use Rattle.pv_flow.specs.Calls.{Blocks, needed}
@@ -11,7 +10,7 @@ use Rattle.pv_call_tables.specs.Standings.{standings_of, calls_of}
 use Rattle.pv_call_tables.specs.Chains.{Chains, chains_of, from_of, first_of}
 use Rattle.pv_call_tables.specs.Ranks.{counted, ranks_by}
 use Rattle.pv_call_tables.specs.Widths.{text_at, drawn_at, sums_below}
-use Rattle.pv_inline.specs.Blocks.{blocks_of}
+use Rattle.pv_inline.specs.Blocks.{blocks_in}
 
 -- ---- of call edges
 
@@ -54,14 +53,14 @@ drawn_in blocks p outs = sums_below (drawn_at (standings_of p) (calls_of p) (siz
     (counted (replicate p.locations 0) p.edges.items) outs) p.locations
 
 -- from which so many edges lead out where it is done
-abbrev pub table_in : List (Option Automaton) → CodeParts → ℕ → Table
+abbrev pub table_in : List (Option CodeParts) → CodeParts → ℕ → Table
 table_in blocks p outs = record {
   ends = standings_of p;
   calls = calls_of p;
-  texts = spans_of (span (blocks_of blocks)) p.calls.items;
-  bases = bases_of (blocks_of blocks) 0 p.calls.items;
-  starts = starts_in (blocks_of blocks) p;
-  drawn = drawn_in (blocks_of blocks) p outs;
+  texts = spans_of (span (blocks_in blocks)) p.calls.items;
+  bases = bases_of (blocks_in blocks) 0 p.calls.items;
+  starts = starts_in (blocks_in blocks) p;
+  drawn = drawn_in (blocks_in blocks) p outs;
   ranks = ranks_by (replicate p.locations 0) p.edges.items;
   edges = chains_of p.locations (map from_of p.edges.items);
   loops = chains_of p.locations (map first_of p.loops.items);

@@ -1,7 +1,6 @@
 -- The walk down the text, as functions of what is made so far.
 use Rattle.std.specs.Prelude.{ℕ, zero, suc, ◌+◌, ◌-◌, pos, List, [], ◌∷◌, ◌++◌, map, length, slice_get, slice_index_or, nat_lt, cond, Option, Some, None}
 use Rattle.pv_word.specs.declared.types.Ty.TheVariants.{Bool}
-use Rattle.pv_flow.specs.declared.automaton.Automaton.{Automaton}
 use Rattle.pv_flow.specs.declared.term.Node.{Node}
 use Rattle.pv_flow.specs.declared.term.Node.TheVariants as node
 use Rattle.pv_flow.specs.declared.parts.Set.{Set as CodeSet}
@@ -171,7 +170,7 @@ abbrev pub base : Copy → ℕ → ℕ
 base c j = c.free + slice_index_or c.table.bases j 0
 
 -- the copy of the block that call edge j from location l runs
-abbrev pub callee_copy : List (Option Automaton) → Copy → ℕ → ℕ → CodeCallEdge → CodeParts → Copy
+abbrev pub callee_copy : List (Option CodeParts) → Copy → ℕ → ℕ → CodeCallEdge → CodeParts → Copy
 callee_copy blocks c l j call q = record {
   parts = q;
   table = table_in blocks q 1;
@@ -188,41 +187,41 @@ callee_copy blocks c l j call q = record {
 abbrev pub called_made : (Copy → Making → Making) → Copy → ℕ → Making → Making
 called_made inner c from m = inner c (edge_in_made c from m)
 
-abbrev pub block_made : List (Option Automaton) → (Copy → Making → Making) → Copy → ℕ → ℕ → CodeCallEdge → Option CodeParts → Making → Making
+abbrev pub block_made : List (Option CodeParts) → (Copy → Making → Making) → Copy → ℕ → ℕ → CodeCallEdge → Option CodeParts → Making → Making
 block_made blocks inner c l j call None m = m
 block_made blocks inner c l j call (Some q) m = called_made inner (callee_copy blocks c l j call q) (number c l) m
 
-abbrev pub call_made : List (Option Automaton) → (Copy → Making → Making) → Copy → ℕ → ℕ → Option CodeCallEdge → Making → Making
+abbrev pub call_made : List (Option CodeParts) → (Copy → Making → Making) → Copy → ℕ → ℕ → Option CodeCallEdge → Making → Making
 call_made blocks inner c l j None m = m
 call_made blocks inner c l j (Some call) m = block_made blocks inner c l j call (code_at blocks call.block) m
 
 -- ---- locations
 
-abbrev pub goes_on : List (Option Automaton) → (Copy → Making → Making) → Copy → ℕ → Option ℕ → Making → Making
+abbrev pub goes_on : List (Option CodeParts) → (Copy → Making → Making) → Copy → ℕ → Option ℕ → Making → Making
 goes_on blocks inner c l None m = all_drawn c (numbers_at c.table.edges l) m
 goes_on blocks inner c l (Some j) m = call_made blocks inner c l j (slice_get c.parts.calls.items j) m
 
-abbrev pub made_by : List (Option Automaton) → (Copy → Making → Making) → Copy → ℕ → Standing → Making → Making
+abbrev pub made_by : List (Option CodeParts) → (Copy → Making → Making) → Copy → ℕ → Standing → Making → Making
 made_by blocks inner c l standing.Nothing m = goes_on blocks inner c l (slice_index_or c.table.calls l None) m
 made_by blocks inner c l standing.Done m = out_drawn c l c.out m
 made_by blocks inner c l (standing.Trap kind place) m = m
 made_by blocks inner c l (standing.Over place) m = m
 
-abbrev pub location_made : List (Option Automaton) → (Copy → Making → Making) → Copy → ℕ → Making → Making
+abbrev pub location_made : List (Option CodeParts) → (Copy → Making → Making) → Copy → ℕ → Making → Making
 location_made blocks inner c l m =
     made_by blocks inner c l (slice_index_or c.table.ends l standing.Nothing) (all_looped c (numbers_at c.table.loops l) m)
 
 -- of the locations below l
-abbrev pub locations_made : List (Option Automaton) → (Copy → Making → Making) → Copy → ℕ → Making → Making
+abbrev pub locations_made : List (Option CodeParts) → (Copy → Making → Making) → Copy → ℕ → Making → Making
 locations_made blocks inner c zero m = m
 locations_made blocks inner c (suc l) m = location_made blocks inner c l (locations_made blocks inner c l m)
 
-abbrev pub copy_made : List (Option Automaton) → (Copy → Making → Making) → Copy → Making → Making
+abbrev pub copy_made : List (Option CodeParts) → (Copy → Making → Making) → Copy → Making → Making
 copy_made blocks inner c m =
     locations_made blocks inner (with_deeds (length m.deeds) c) c.parts.locations (tables_copied c m)
 
 -- down so many levels of calls
-abbrev pub below : List (Option Automaton) → ℕ → Copy → Making → Making
+abbrev pub below : List (Option CodeParts) → ℕ → Copy → Making → Making
 below blocks zero c m = m
 below blocks (suc levels) c m = copy_made blocks (below blocks levels) c m
 
@@ -231,7 +230,7 @@ below blocks (suc levels) c m = copy_made blocks (below blocks levels) c m
 abbrev pub entry_place : ℕ → ℕ → ℕ → ℕ
 entry_place b s x = cond (nat_lt x b) x (cond (nat_lt x (b + s)) (narrow (b + (x - b))) (narrow (narrow (b + s) + (x - (b + s)))))
 
-abbrev pub entry_copy : List (Option Automaton) → CodeParts → Copy
+abbrev pub entry_copy : List (Option CodeParts) → CodeParts → Copy
 entry_copy blocks p = record {
   parts = p;
   table = table_in blocks p 0;
@@ -245,5 +244,5 @@ entry_copy blocks p = record {
 }
 
 -- what is made of the entry and its calls
-abbrev pub all_made : List (Option Automaton) → CodeParts → Making
+abbrev pub all_made : List (Option CodeParts) → CodeParts → Making
 all_made blocks p = copy_made blocks (below blocks (length blocks)) (entry_copy blocks p) first_making

@@ -1,26 +1,17 @@
 //! What copies of called blocks take: variables and text.
-ghost use Rattle.std.specs.Prelude.{◌≡◌, ℕ, ◌+◌, map, MatchOption, IfOk, None, Some};
+ghost use Rattle.std.specs.Prelude.{◌≡◌, ℕ, ◌+◌, map, IfOk};
 ghost use Rattle.pv_flow.specs.Calls.{own_count, needed_by_calls, needed_within};
 ghost use Rattle.pv_flow.specs.View.{call_edge_of, parts_of};
 ghost use Rattle.pv_call_tables.specs.Standings.{standings_of, calls_of};
 ghost use Rattle.pv_call_tables.specs.Widths.{text_at, summed};
-ghost use Rattle.pv_inline.specs.Blocks.{blocks_of, code_at};
+ghost use Rattle.pv_inline.specs.Blocks.{blocks_in, codes_in};
 ghost use Rattle.pv_inline.specs.Tables.{spans_of, span_below};
 
+use crate::blocks::Blocks;
 use crate::variables::own_of;
 use pv_call_tables::{Outline, add, calls_at, number_of, standings, text_size};
-use pv_flow::{Automaton, CallEdge, Parts};
+use pv_flow::{CallEdge, Parts};
 use std::alloc::{AllocError, Global};
-
-/// The parts of the block of this number, if it has code.
-pub(crate) fn parts_at(blocks: &[Option<Automaton>], block: u32) -> Option<&Parts>
-    ensures { MatchOption result (code_at blocks.now block ≡ None) (λ p. code_at blocks.now block ≡ Some p.now) }
-{
-    match blocks.get(block as usize) {
-        Some(Some(automaton)) => Some(automaton.parts()),
-        _ => None,
-    }
-}
 
 /// How many variables of the block are its own.
 pub(crate) fn own_count(parts: &Parts) -> Result<u32, AllocError>
@@ -31,17 +22,13 @@ pub(crate) fn own_count(parts: &Parts) -> Result<u32, AllocError>
 
 /// How many variables a call of the block adds, down so many levels of calls.
 #[cycle(needing)]
-pub(crate) fn needed(
-    blocks: &[Option<Automaton>],
-    levels: usize,
-    block: u32,
-) -> Result<u32, AllocError>
-    ensures { IfOk result (λ n. n ≡ needed_within (blocks_of blocks.now) levels block) }
+pub(crate) fn needed(blocks: &Blocks<'_>, levels: usize, block: u32) -> Result<u32, AllocError>
+    ensures { IfOk result (λ n. n ≡ needed_within (blocks_in (codes_in blocks.now)) levels block) }
 {
     if levels == 0 {
         return Ok(0);
     }
-    match parts_at(blocks, block) {
+    match blocks.at(block) {
         Some(parts) => {
             let calls = parts.calls.as_slice();
             let own = own_count(parts)?;
@@ -54,13 +41,13 @@ pub(crate) fn needed(
 /// The total with what the call edges add.
 #[cycle(needing)]
 fn needed_by_calls(
-    blocks: &[Option<Automaton>],
+    blocks: &Blocks<'_>,
     levels: usize,
     calls: &[CallEdge],
     total: u32,
 ) -> Result<u32, AllocError>
     ensures { IfOk result (λ n. n
-        ≡ total + needed_by_calls (needed_within (blocks_of blocks.now) levels) (map call_edge_of calls.now)) }
+        ≡ total + needed_by_calls (needed_within (blocks_in (codes_in blocks.now)) levels) (map call_edge_of calls.now)) }
 {
     let mut all = total;
     for call in calls {
@@ -84,18 +71,13 @@ fn span_of(alloc: Global, parts: &Parts, texts: &[u32]) -> Result<u32, AllocErro
 
 /// How much text a copy of the block takes, down so many levels of calls.
 #[cycle(spanning)]
-fn span(
-    alloc: Global,
-    blocks: &[Option<Automaton>],
-    levels: usize,
-    block: u32,
-) -> Result<u32, AllocError>
-    ensures { IfOk result (λ n. n ≡ span_below (blocks_of blocks.now) levels block) }
+fn span(alloc: Global, blocks: &Blocks<'_>, levels: usize, block: u32) -> Result<u32, AllocError>
+    ensures { IfOk result (λ n. n ≡ span_below (blocks_in (codes_in blocks.now)) levels block) }
 {
     if levels == 0 {
         return Ok(0);
     }
-    match parts_at(blocks, block) {
+    match blocks.at(block) {
         Some(parts) => {
             let calls = parts.calls.as_slice();
             let texts = spans(alloc, blocks, levels - 1, calls)?;
@@ -110,11 +92,11 @@ fn span(
 #[cycle(spanning)]
 pub(crate) fn spans(
     alloc: Global,
-    blocks: &[Option<Automaton>],
+    blocks: &Blocks<'_>,
     levels: usize,
     calls: &[CallEdge],
 ) -> Result<Vec<u32>, AllocError>
-    ensures { IfOk result (λ made. made.items ≡ spans_of (span_below (blocks_of blocks.now) levels) calls.now) }
+    ensures { IfOk result (λ made. made.items ≡ spans_of (span_below (blocks_in (codes_in blocks.now)) levels) calls.now) }
 {
     let mut made = Vec::with_capacity(alloc, calls.len())?;
     for call in calls {

@@ -39,7 +39,7 @@ pub(crate) fn number(copy: &Copying, l: u32) -> Result<u32, AllocError>
 {
     add(
         copy.body.start,
-        number_at(copy.table.starts.as_slice(), l as usize),
+        number_at(copy.table.widths.starts.as_slice(), l as usize),
     )
 }
 
@@ -47,7 +47,7 @@ pub(crate) fn number(copy: &Copying, l: u32) -> Result<u32, AllocError>
 pub(crate) fn aim(copy: &Copying, l: u32) -> Result<Aim, AllocError>
     ensures { IfOk result (λ a. a ≡ aim (copy_seen copy.now) l) }
 {
-    match standing_at(copy.table.ends.as_slice(), l as usize) {
+    match standing_at(copy.table.marks.ends.as_slice(), l as usize) {
         Standing::Nothing => Ok(Aim::Location(number(copy, l)?)),
         Standing::Done => Ok(Aim::Location(number(copy, l)?)),
         Standing::Trap(kind, place) => Ok(Aim::Trap(kind, place)),
@@ -96,7 +96,7 @@ pub(crate) fn draw_edges(
     ensures { IfOk result (λ _. making_seen making.new
         ≡ all_drawn (copy_seen copy.now) (numbers_at (copy_seen copy.now).table.edges l) (making_seen making.old)) }
 {
-    let numbers = copy.table.edges.numbers(alloc, l as usize)?;
+    let numbers = copy.table.begins.edges.numbers(alloc, l as usize)?;
     draw_all(making, copy, numbers.as_slice())
 }
 
@@ -106,9 +106,12 @@ fn turn(copy: &Copying, e: u32) -> Result<u32, AllocError>
 {
     match copy.parts.edges.as_slice().get(e as usize) {
         Some(edge) => {
-            let before = number_at(copy.table.drawn.as_slice(), edge.from as usize);
+            let before = number_at(copy.table.widths.drawn.as_slice(), edge.from as usize);
             let first = add(copy.body.edges, before)?;
-            add(first, number_at(copy.table.ranks.as_slice(), e as usize))
+            add(
+                first,
+                number_at(copy.table.begins.ranks.as_slice(), e as usize),
+            )
         }
         None => Ok(0),
     }
@@ -129,8 +132,8 @@ fn loop_made(alloc: Global, copy: &Copying, range: &Loop) -> Result<Loop, AllocE
     ensures { IfOk result (λ made. loop_of made ≡ loop_made (copy_seen copy.now) (loop_of range.now)) }
 {
     let called = of_call(
-        copy.table.texts.as_slice(),
-        call_at(copy.table.calls.as_slice(), range.last as usize),
+        copy.table.widths.texts.as_slice(),
+        call_at(copy.table.marks.calls.as_slice(), range.last as usize),
     );
     let first = number(copy, range.first)?;
     let last = add(number(copy, range.last)?, called)?;
@@ -180,7 +183,7 @@ pub(crate) fn add_loops(
     ensures { IfOk result (λ _. making_seen making.new
         ≡ all_looped (copy_seen copy.now) (numbers_at (copy_seen copy.now).table.loops l) (making_seen making.old)) }
 {
-    let numbers = copy.table.loops.numbers(alloc, l as usize)?;
+    let numbers = copy.table.begins.loops.numbers(alloc, l as usize)?;
     loop_all(alloc, making, copy, numbers.as_slice())
 }
 

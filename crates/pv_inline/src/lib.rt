@@ -4,6 +4,7 @@
 //! terms, deeds and edges (`copying`), location by location (`walking`).
 #![tactic(auto)]
 
+mod blocks;
 mod called;
 mod copying;
 mod fault;
@@ -15,6 +16,6 @@ mod variables;
 mod walking;
 
 pub use fault::{MAX_EDGES, TooLarge};
-pub use inlining::inline;
+pub use inlining::{copy_calls, inline};
 pub use size::inlined_size;
 pub use variables::inlined_variables;

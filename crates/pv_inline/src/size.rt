@@ -1,14 +1,13 @@
 //! How many edges there are once calls are copied, before anything is.
-ghost use Rattle.std.specs.Prelude.{◌≡◌, ◌+◌, ◌<◌, ◌≤◌, map, length, MatchOption, IfOk, OnOk, IfErr, None, Some};
-ghost use Rattle.pv_flow.specs.AutomatonView.{automaton_of};
-ghost use Rattle.pv_flow.specs.Calls.{block_at};
+ghost use Rattle.std.specs.Prelude.{◌≡◌, ◌+◌, ◌<◌, ◌≤◌, map, length, IfOk, OnOk, IfErr};
 ghost use Rattle.pv_flow.specs.View.{call_edge_of};
-ghost use Rattle.pv_inline.specs.Blocks.{blocks_of};
+ghost use Rattle.pv_inline.specs.Blocks.{blocks_of, blocks_in, codes_in};
 ghost use Rattle.pv_inline.specs.Counts.{capped, size_after, calls_after};
 ghost use Rattle.pv_inline.specs.Tables.{copy_size};
 ghost use Rattle.pv_inline.specs.declared.fault.TheConstants.{BEYOND};
 ghost use Rattle.pv_inline.specs.Correct.{IsWithin, IsOver, IsSizeOf, IsTooLarge};
 
+use crate::blocks::Blocks;
 use crate::fault::{BEYOND, MAX_EDGES, TooLarge};
 use pv_call_tables::add;
 use pv_flow::{Automaton, CallEdge};
@@ -28,22 +27,11 @@ fn sum(a: u64, b: u64) -> u64
     capped(a.saturating_add(b))
 }
 
-/// The block of this number, if it has code.
-pub(crate) fn block_at(blocks: &[Option<Automaton>], block: u32) -> Option<&Automaton>
-    ensures { MatchOption result (block_at (blocks_of blocks.now) block ≡ None)
-        (λ a. block_at (blocks_of blocks.now) block ≡ Some (automaton_of a.now)) }
-{
-    match blocks.get(block as usize) {
-        Some(Some(automaton)) => Some(automaton),
-        _ => None,
-    }
-}
-
 /// The total with the block's edges, its calls copied down so many levels. Each call adds two edges at least, so where the count stops no
 /// more blocks were looked at than there may be edges.
 #[cycle(sizing)]
-fn size_after(blocks: &[Option<Automaton>], levels: usize, block: u32, total: u64) -> u64
-    ensures { result ≡ size_after (blocks_of blocks.now) levels block total }
+fn size_after(blocks: &Blocks<'_>, levels: usize, block: u32, total: u64) -> u64
+    ensures { result ≡ size_after (blocks_in (codes_in blocks.now)) levels block total }
 {
     if total >= BEYOND {
         return BEYOND;
@@ -51,9 +39,8 @@ fn size_after(blocks: &[Option<Automaton>], levels: usize, block: u32, total: u6
     if levels == 0 {
         return total;
     }
-    match block_at(blocks, block) {
-        Some(automaton) => {
-            let parts = automaton.parts();
+    match blocks.at(block) {
+        Some(parts) => {
             let own = parts.edges.as_slice();
             let calls = parts.calls.as_slice();
             calls_after(blocks, levels - 1, calls, sum(total, own.len() as u64))
@@ -64,8 +51,8 @@ fn size_after(blocks: &[Option<Automaton>], levels: usize, block: u32, total: u6
 
 /// The total with what the call edges become.
 #[cycle(sizing)]
-fn calls_after(blocks: &[Option<Automaton>], levels: usize, calls: &[CallEdge], total: u64) -> u64
-    ensures { result ≡ calls_after (blocks_of blocks.now) levels (map call_edge_of calls.now) total }
+fn calls_after(blocks: &Blocks<'_>, levels: usize, calls: &[CallEdge], total: u64) -> u64
+    ensures { result ≡ calls_after (blocks_in (codes_in blocks.now)) levels (map call_edge_of calls.now) total }
 {
     let mut all = total;
     for call in calls {
@@ -88,10 +75,10 @@ fn counted(size: u64) -> Result<u32, AllocError>
 }
 
 /// How many edges the copy of a called block has, that out included; more than there may be count as wanting memory.
-pub(crate) fn copy_size(blocks: &[Option<Automaton>], block: u32) -> Result<u32, AllocError>
-    ensures { IfOk result (λ n. n ≡ copy_size (blocks_of blocks.now) block) }
+pub(crate) fn copy_size(blocks: &Blocks<'_>, block: u32) -> Result<u32, AllocError>
+    ensures { IfOk result (λ n. n ≡ copy_size (blocks_in (codes_in blocks.now)) block) }
 {
-    let size = counted(size_after(blocks, blocks.len(), block, 0))?;
+    let size = counted(size_after(blocks, blocks.count(), block, 0))?;
     add(size, 1)
 }
 
@@ -107,12 +94,20 @@ fn within_limit(size: u64) -> Result<u64, TooLarge>
     }
 }
 
+/// How many edges there are once the calls of block `entry` are copied, if there may be so many.
+pub(crate) fn size_within(blocks: &Blocks<'_>, entry: u32) -> Result<u64, TooLarge>
+    ensures size { IfOk result (IsSizeOf (blocks_in (codes_in blocks.now)) entry) }
+    ensures large { IfErr result (IsTooLarge (blocks_in (codes_in blocks.now)) entry) }
+{
+    let size = size_after(blocks, blocks.count(), entry, 0);
+    within_limit(size)
+}
+
 /// How many edges the block of number `entry` has once each of its calls is a copy of the called block: each call edge becomes two edges
 /// and those of its block. 0 where there is no such block; `TooLarge::Edges` where there are more than [`MAX_EDGES`].
 pub fn inlined_size(blocks: &[Option<Automaton>], entry: u32) -> Result<u64, TooLarge>
     ensures size { IfOk result (IsSizeOf (blocks_of blocks.now) entry) }
     ensures large { IfErr result (IsTooLarge (blocks_of blocks.now) entry) }
 {
-    let size = size_after(blocks, blocks.len(), entry, 0);
-    within_limit(size)
+    size_within(&Blocks::Automata(blocks), entry)
 }

@@ -1,9 +1,11 @@
 //! The walk down the text: each location of a block with what stands behind it.
 ghost use Rattle.std.specs.Prelude.{◌≡◌, MatchOption, IfOk, None, Some, length, slice_get};
+ghost use Rattle.pv_inline.specs.Blocks.{codes_in};
 ghost use Rattle.pv_inline.specs.Walking.{below, with_deeds, called_made, call_made, location_made, locations_made, copy_made};
 ghost use Rattle.pv_inline.specs.Seen.{copy_seen, making_seen, IsCalleeBody};
 
-use crate::called::{own_count, parts_at};
+use crate::blocks::Blocks;
+use crate::called::own_count;
 use crate::copying::{
     Body, Copying, add_loops, aim, copy_tables, draw_edges, draw_in, draw_out, number,
 };
@@ -11,7 +13,7 @@ use crate::making::Making;
 use crate::table::table_of;
 use pv_call_tables::{Standing, add, call_at, number_at, standing_at};
 use pv_call_terms::Places;
-use pv_flow::{Automaton, CallEdge, Parts};
+use pv_flow::{CallEdge, Parts};
 use std::alloc::{AllocError, Global};
 
 /// The copy of what a call edge from location l runs.
@@ -25,7 +27,7 @@ fn callee_body(
     ensures { IfOk result (IsCalleeBody (copy_seen copy.now) l call.now callee.now own_at) }
 {
     let here = number(copy, l)?;
-    let drawn = number_at(copy.table.drawn.as_slice(), l as usize);
+    let drawn = number_at(copy.table.widths.drawn.as_slice(), l as usize);
     let before = add(copy.body.edges, drawn)?;
     Ok(Body {
         start: add(here, 1)?,
@@ -49,13 +51,13 @@ fn behind_deeds<'a>(copy: &Copying<'a>, deeds: u32) -> Copying<'a>
 fn add_called(
     alloc: Global,
     making: &mut Making,
-    blocks: &[Option<Automaton>],
+    blocks: &Blocks<'_>,
     levels: usize,
     copy: &Copying,
     from: u32,
 ) -> Result<(), AllocError>
     ensures { IfOk result (λ _. making_seen making.new
-        ≡ called_made (below blocks.now levels) (copy_seen copy.now) from (making_seen making.old)) }
+        ≡ called_made (below (codes_in blocks.now) levels) (copy_seen copy.now) from (making_seen making.old)) }
 {
     draw_in(alloc, making, copy, from)?;
     if levels == 0 {
@@ -77,22 +79,25 @@ fn call_of<'a>(copy: &Copying<'a>, j: usize) -> Option<&'a CallEdge>
 fn add_call(
     alloc: Global,
     making: &mut Making,
-    blocks: &[Option<Automaton>],
+    blocks: &Blocks<'_>,
     levels: usize,
     copy: &Copying,
     l: u32,
     j: usize,
 ) -> Result<(), AllocError>
     ensures { IfOk result (λ _. making_seen making.new
-        ≡ call_made blocks.now (below blocks.now levels) (copy_seen copy.now) l j (slice_get copy.now.parts.now.calls.items j) (making_seen making.old)) }
+        ≡ call_made (codes_in blocks.now) (below (codes_in blocks.now) levels) (copy_seen copy.now) l j (slice_get copy.now.parts.now.calls.items j) (making_seen making.old)) }
 {
     let Some(call) = call_of(copy, j) else {
         return Ok(());
     };
-    let Some(callee) = parts_at(blocks, call.block) else {
+    let Some(callee) = blocks.at(call.block) else {
         return Ok(());
     };
-    let own_at = add(copy.body.free, number_at(copy.table.bases.as_slice(), j))?;
+    let own_at = add(
+        copy.body.free,
+        number_at(copy.table.widths.bases.as_slice(), j),
+    )?;
     let places = copy.places.of_callee(alloc, call, callee, own_at)?;
     let table = table_of(alloc, blocks, callee, 1)?;
     let body = callee_body(copy, l, call, callee, own_at)?;
@@ -111,17 +116,17 @@ fn add_call(
 fn add_location(
     alloc: Global,
     making: &mut Making,
-    blocks: &[Option<Automaton>],
+    blocks: &Blocks<'_>,
     levels: usize,
     copy: &Copying,
     l: u32,
 ) -> Result<(), AllocError>
     ensures { IfOk result (λ _. making_seen making.new
-        ≡ location_made blocks.now (below blocks.now levels) (copy_seen copy.now) l (making_seen making.old)) }
+        ≡ location_made (codes_in blocks.now) (below (codes_in blocks.now) levels) (copy_seen copy.now) l (making_seen making.old)) }
 {
     add_loops(alloc, making, copy, l)?;
-    match standing_at(copy.table.ends.as_slice(), l as usize) {
-        Standing::Nothing => match call_at(copy.table.calls.as_slice(), l as usize) {
+    match standing_at(copy.table.marks.ends.as_slice(), l as usize) {
+        Standing::Nothing => match call_at(copy.table.marks.calls.as_slice(), l as usize) {
             Some(j) => add_call(alloc, making, blocks, levels, copy, l, j),
             None => draw_edges(alloc, making, copy, l),
         },
@@ -136,12 +141,12 @@ fn add_location(
 fn add_locations(
     alloc: Global,
     making: &mut Making,
-    blocks: &[Option<Automaton>],
+    blocks: &Blocks<'_>,
     levels: usize,
     copy: &Copying,
 ) -> Result<(), AllocError>
     ensures { IfOk result (λ _. making_seen making.new
-        ≡ locations_made blocks.now (below blocks.now levels) (copy_seen copy.now) copy.now.parts.now.locations (making_seen making.old)) }
+        ≡ locations_made (codes_in blocks.now) (below (codes_in blocks.now) levels) (copy_seen copy.now) copy.now.parts.now.locations (making_seen making.old)) }
 {
     for l in 0..copy.parts.locations {
         add_location(alloc, making, blocks, levels, copy, l)?;
@@ -154,12 +159,12 @@ fn add_locations(
 pub(crate) fn add_copy(
     alloc: Global,
     making: &mut Making,
-    blocks: &[Option<Automaton>],
+    blocks: &Blocks<'_>,
     levels: usize,
     copy: &Copying,
 ) -> Result<(), AllocError>
     ensures { IfOk result (λ _. making_seen making.new
-        ≡ copy_made blocks.now (below blocks.now levels) (copy_seen copy.now) (making_seen making.old)) }
+        ≡ copy_made (codes_in blocks.now) (below (codes_in blocks.now) levels) (copy_seen copy.now) (making_seen making.old)) }
 {
     let deeds = making.next_deed()?;
     copy_tables(alloc, making, copy)?;

@@ -1,5 +1,5 @@
 use Rattle.std.proofs.Common.{◌≡◌, ◌+◌, ◌*◌, take}
-use Rattle.pv_inline.specs.Blocks.{blocks_of}
+use Rattle.pv_inline.specs.Blocks.{blocks_in, codes_in}
 use Rattle.pv_inline.specs.Tables.{spans_of, span_below}
 use Rattle.pv_inline.proofs.called.+spanning.Given as goal
 
@@ -10,4 +10,4 @@ abbrev pub decreases-span : goal.decreases-span
 decreases-span l = 2 * l.levels
 
 abbrev pub invariant-spans-loop-call : goal.invariant-spans-loop-call
-invariant-spans-loop-call l = l.made.items ≡ spans_of (span_below (blocks_of l.blocks) l.levels) (take l.call-index l.calls)
+invariant-spans-loop-call l = l.made.items ≡ spans_of (span_below (blocks_in (codes_in l.blocks)) l.levels) (take l.call-index l.calls)

@@ -1,6 +1,6 @@
 use Rattle.std.proofs.Common.{rules, ◌≡◌, length, refl, ◌∙◌}
 use Rattle.pv_inline.specs.Seen.{copy_seen, making_seen}
-use Rattle.pv_inline.proofs.Needing.{ok_by}
+use Rattle.pv_inline.proofs.Coded.{ok_by}
 use Rattle.pv_inline.proofs.Coding.{tables_are}
 use Rattle.pv_inline.proofs.copying.copy_tables.Goals as goal
 

@@ -1,4 +1,5 @@
 use Rattle.std.proofs.Common.{◌≡◌, ◌+◌, ◌*◌}
+use Rattle.pv_inline.specs.Blocks.{codes_in}
 use Rattle.pv_inline.specs.Seen.{copy_seen, making_seen}
 use Rattle.pv_inline.specs.Walking.{below, locations_made}
 use Rattle.pv_inline.proofs.walking.+copying.Given as goal
@@ -20,4 +21,4 @@ decreases-add_called l = 5 * l.levels
 
 abbrev pub invariant-add_locations-loop-l : goal.invariant-add_locations-loop-l
 invariant-add_locations-loop-l l = making_seen l.making
-    ≡ locations_made l.blocks (below l.blocks l.levels) (copy_seen l.copy) l.l (making_seen l.fn.making)
+    ≡ locations_made (codes_in l.blocks) (below (codes_in l.blocks) l.levels) (copy_seen l.copy) l.l (making_seen l.fn.making)
