@@ -3,9 +3,9 @@ ghost use Rattle.std.specs.Prelude.{◌<◌, ◌≤◌, IfOk, IfErr, OnOk};
 ghost use Rattle.pv_flow.specs.Calls.{block_at};
 ghost use Rattle.pv_flow.specs.Fitting.{AreFitting};
 ghost use Rattle.pv_call_copies.specs.Inlined.{inlined_size};
-ghost use Rattle.pv_inline.specs.Blocks.{blocks_of};
+ghost use Rattle.pv_inline.specs.Blocks.{blocks_of, blocks_in};
 ghost use Rattle.pv_inline.specs.Correct.{IsSizeOf, IsTooLarge};
-ghost use Rattle.pv_inline.specs.Inlining.{IsThere, IsInlinedAs, HasTheMachine, IsTooMany};
+ghost use Rattle.pv_inline.specs.Inlining.{IsThere, CanCopy, IsCopied, IsWithoutCalls, IsInlinedAs, HasTheMachine, IsTooMany};
 ghost use Rattle.pv_inline.specs.declared.fault.TheConstants.{MAX_EDGES};
 ghost use Rattle.pv_contracts_flow.specs.Rows.{IsOneCall};
 
@@ -39,6 +39,16 @@ pub fn inline(
     ensures large { IfErr result (IsTooMany (blocks_of blocks.now) entry) }
 {
     pv_inline::inline(alloc, blocks, entry, bound)
+}
+
+/// [`pv_inline::copy_calls`].
+pub fn copy_calls(alloc: Global, blocks: &[Option<Parts>], entry: u32) -> Result<Parts, TooLarge>
+    ensures copies { CanCopy blocks.now entry → IfOk result (IsCopied (blocks_in blocks.now) entry) }
+    ensures sound { CanCopy blocks.now entry → IfOk result IsWithoutCalls }
+    ensures fits { OnOk result (inlined_size (blocks_in blocks.now) entry ≤ MAX_EDGES) }
+    ensures large { IfErr result (IsTooMany (blocks_in blocks.now) entry) }
+{
+    pv_inline::copy_calls(alloc, blocks, entry)
 }
 
 /// Two locations, and a call edge from the one to the other, which runs block 0.

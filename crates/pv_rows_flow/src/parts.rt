@@ -66,7 +66,7 @@ fn push_loop(alloc: Global, loops: &mut Vec<Loop>, said: &str) -> Result<(), All
     Ok(())
 }
 
-fn push_loops(alloc: Global, loops: &mut Vec<Loop>, said: &str) -> Result<(), AllocError> {
+pub fn push_loops(alloc: Global, loops: &mut Vec<Loop>, said: &str) -> Result<(), AllocError> {
     for one in said.split(',') {
         if !one.is_empty() {
             push_loop(alloc, loops, one.trim())?;
@@ -95,7 +95,7 @@ fn push_end(parts: &mut Parts, said: &str) -> Result<(), AllocError> {
     Ok(())
 }
 
-fn push_ends(parts: &mut Parts, said: &str) -> Result<(), AllocError> {
+pub fn push_ends(parts: &mut Parts, said: &str) -> Result<(), AllocError> {
     for one in said.split(',') {
         push_end(parts, one.trim())?;
     }
@@ -103,7 +103,7 @@ fn push_ends(parts: &mut Parts, said: &str) -> Result<(), AllocError> {
 }
 
 /// Locations and their end, and nothing else.
-fn bare(alloc: Global, locations: u32, done: u32) -> Parts {
+pub fn bare(alloc: Global, locations: u32, done: u32) -> Parts {
     Parts {
         nodes: Vec::new(alloc),
         deeds: Vec::new(alloc),

@@ -1,6 +1,6 @@
 //! What is told of copies.
 
-use pv_flow::{CallEdge, Edge, Loop, OverEnd, Parts, TrapEnd};
+use pv_flow::{CallEdge, Edge, Loop, Node, OverEnd, Parts, Set, TrapEnd};
 use pv_rows_form::Told;
 use pv_unroll::TooLarge;
 
@@ -96,5 +96,65 @@ pub fn tell_fault(fault: TooLarge, told: &mut Told) {
             told.number(size as i128);
         }
         TooLarge::NoMemory => told.lose(),
+    }
+}
+
+pub fn tell_large(fault: pv_inline::TooLarge, told: &mut Told) {
+    match fault {
+        pv_inline::TooLarge::Edges => told.text("too many edges"),
+        pv_inline::TooLarge::NoMemory => told.lose(),
+    }
+}
+
+/// A set of a variable to a number, or to another variable.
+fn tell_set(nodes: &[Node], set: Set, told: &mut Told) {
+    told.text(" ");
+    told.number(set.variable as i128);
+    match nodes.get(set.value as usize) {
+        Some(Node::Constant(_, value)) => {
+            told.text("=");
+            told.number(*value);
+        }
+        Some(Node::Variable(other)) => {
+            told.text(":");
+            told.number(*other as i128);
+        }
+        _ => told.text("?"),
+    }
+}
+
+fn tell_sets(parts: &Parts, deed: u32, told: &mut Told) {
+    if let Some(deed) = parts.deeds.as_slice().get(deed as usize) {
+        for set in deed.sets.as_slice() {
+            tell_set(parts.nodes.as_slice(), *set, told);
+        }
+    }
+}
+
+/// The edges, each with its sets.
+fn tell_ways(parts: &Parts, told: &mut Told) {
+    for edge in parts.edges.as_slice() {
+        told.text(", ");
+        told.number(edge.from as i128);
+        told.text(">");
+        told.number(edge.to as i128);
+        tell_sets(parts, edge.deed, told);
+    }
+}
+
+/// How many edges, locations and variables a copy has, and what it is.
+pub fn tell_copy(parts: &Parts, whole: bool, told: &mut Told) {
+    tell_parts(parts, false, told);
+    told.text(", ");
+    told.number(parts.vars.as_slice().len() as i128);
+    told.text(" variables, done ");
+    told.number(parts.done as i128);
+    if whole {
+        tell_ways(parts, told);
+        told.text("; traps");
+        tell_traps(parts.traps.as_slice(), told);
+        told.text("; overs");
+        tell_overs(parts.overs.as_slice(), told);
+        tell_loops(parts.loops.as_slice(), told);
     }
 }
