@@ -121,7 +121,7 @@ reads conv frame w place ty Nowhere moves (fixed u) inside is = absurd is
 abbrev Tells : (ℕ → ℕ) → Valuation → Valuation → Set → Type 0
 Tells place old g set = value_of old set.value ≡ g (place set.variable)
 
-put_one : (w : Valuation) (n : ℕ) (v : ℤ) (x : ℕ) (r : ℤ) → (x ≡ n → v ≡ r) → ((x ≡ n → ⊥) → w x ≡ r) → put w n v x ≡ r
+pub put_one : (w : Valuation) (n : ℕ) (v : ℤ) (x : ℕ) (r : ℤ) → (x ≡ n → v ≡ r) → ((x ≡ n → ⊥) → w x ≡ r) → put w n v x ≡ r
 put_one w n v x r same other = lead (x == n) refl
   where
     lead : (b : Truth) → (x == n) ≡ b → cond (x == n) v (w x) ≡ r
@@ -206,7 +206,7 @@ put_cell place w ty wr moves n c x inside nested apart is = lead (x == place c) 
         (sym (ap (λ (b : Truth). cond b v (w x)) e))
 
 -- with its 'set'
-abbrev put_both : (ℕ → ℕ) → Valuation → ℕ → ℤ → ℤ → Valuation
+abbrev pub put_both : (ℕ → ℕ) → Valuation → ℕ → ℤ → ℤ → Valuation
 put_both place w c v p = put (put w (place c) v) (place (suc c)) p
 
 brief_tells : (place : ℕ → ℕ) (w : Valuation) (n count c : ℕ) (v p : ℤ) → AreApart place n count → n ≤ c → suc c < n + count → (s : Set)

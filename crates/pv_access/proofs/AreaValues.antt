@@ -24,14 +24,14 @@ use Rattle.pv_access.specs.Correct.{AreBytes}
 
 -- ---- numbers of types without a sign
 
-plain_in_range : (ty : Ty) (n : ℕ) → is_signed_of ty ≡ false → n < 2 ^ width_of ty → InRange ty (pos n)
+pub plain_in_range : (ty : Ty) (n : ℕ) → is_signed_of ty ≡ false → n < 2 ^ width_of ty → InRange ty (pos n)
 plain_in_range ty n plain lt =
     subst (λ s. IsInRange (width_of ty) s (pos n)) (sym plain) (record { from = omega (arith, ints); to = omega (arith, ints, lt) })
 
 plain_above : (ty : Ty) (v : ℤ) → is_signed_of ty ≡ false → InRange ty v → pos 0 ≤ℤ v
 plain_above ty v plain is = subst (λ s. least_at (width_of ty) s ≤ℤ v) plain is.from
 
-plain_pattern : (ty : Ty) (v : ℤ) → is_signed_of ty ≡ false → InRange ty v → pos (pattern_of ty v) ≡ v
+pub plain_pattern : (ty : Ty) (v : ℤ) → is_signed_of ty ≡ false → InRange ty v → pos (pattern_of ty v) ≡ v
 plain_pattern ty v plain is = pattern-not_negative (width_of ty) (is_signed_of ty) v (wide ty) is (plain_above ty v plain is)
 
 pub plain_wrap : (ty : Ty) (n : ℕ) → is_signed_of ty ≡ false → wrap_of ty (pos n) ≡ pos (n % 2 ^ width_of ty)
@@ -42,7 +42,7 @@ plain_wrap ty n plain =
 plain_small : (ty : Ty) (n : ℕ) → is_signed_of ty ≡ false → n < 2 ^ width_of ty → wrap_of ty (pos n) ≡ pos n
 plain_small ty n plain lt = wrap-own (wide ty) (plain_in_range ty n plain lt)
 
-small_pattern : (ty : Ty) (n : ℕ) → n < 2 ^ width_of ty → pattern_of ty (pos n) ≡ n
+pub small_pattern : (ty : Ty) (n : ℕ) → n < 2 ^ width_of ty → pattern_of ty (pos n) ≡ n
 small_pattern ty n lt = pattern-pos (width_of ty) n ∙ mod-eq_of_lt lt
 
 -- ---- shifts

@@ -1,3 +1,6 @@
+mod Pushing
+mod Steps
 mod AreaValues
 mod ElementLaws
 mod Accessing
+mod Choosing

@@ -13,7 +13,7 @@ use Rattle.pv_flow.specs.Runs.{put}
 use Rattle.pv_flow.specs.Calls.{set_through}
 use Rattle.pv_access.specs.declared.access.Storage.{Storage}
 use Rattle.pv_access.specs.declared.access.Storage.TheVariants.{Cell, Brief, Bit, Bytes, Fixed, Nowhere}
-use Rattle.pv_access.specs.Accesses.{Check, Move, steps_of, assigning, read_term, unset_checks, write_sets}
+use Rattle.pv_access.specs.Accesses.{Check, Move, steps_of, assigning, choosing, read_term, unset_checks, write_sets}
 
 -- ---- checks
 
@@ -121,3 +121,22 @@ WritesHold = (place : ℕ → ℕ) (w : Valuation) (storage : Storage) (moves : 
     → AreInside (through place w) moves → CanTake place storage moves (value_of (through place w) t)
     → set_through place (through place w) (write_sets storage moves (assigning t)) w x
     ≡ written place w (moved (moved_by (through place w) moves) storage) (value_of (through place w) t) x
+
+-- ---- writes where a term is true
+
+-- a bit's byte is one, and no bytes are written so
+abbrev pub CanChoose : (ℕ → ℕ) → Valuation → Storage → Type 0
+CanChoose place w (Cell ty n) = Unit {0}
+CanChoose place w (Brief ty n) = Unit {0}
+CanChoose place w (Bit n b) = InRange Byte (w (place n))
+CanChoose place w (Bytes ty n count) = ⊥
+CanChoose place w (Fixed u) = Unit {0}
+CanChoose place w Nowhere = Unit {0}
+
+-- setting what such a write sets puts the value where the term is true, and else changes nothing
+abbrev pub ChoicesHold : Type 0
+ChoicesHold = (place : ℕ → ℕ) (w : Valuation) (storage : Storage) (moves : List Move) (on t : Term) (x : ℕ)
+    → AreInside (through place w) moves → CanTake place storage moves (value_of (through place w) t) → CanChoose place w storage
+    → set_through place (through place w) (write_sets storage moves (choosing on t)) w x
+    ≡ (if holds_in (through place w) on
+    then written place w (moved (moved_by (through place w) moves) storage) (value_of (through place w) t) x else w x)

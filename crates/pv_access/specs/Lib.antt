@@ -1,3 +1,5 @@
 -- what public clauses cite
 pub mod Accesses
+pub mod Pushed
+pub mod Given
 pub mod Correct

@@ -4,6 +4,16 @@
 #![tactic(auto)]
 
 mod access;
+mod areas;
+mod check;
+mod elements;
 pub mod laws;
+mod numbers;
+mod reading;
+mod setting;
+mod writing;
 
-pub use access::Storage;
+pub use access::{Move, Storage, Writing};
+pub use check::Check;
+pub use reading::{push_read, push_unset};
+pub use writing::push_write;
