@@ -62,7 +62,8 @@ def query(text, invariant, kind, number):
         clauses += [[-gate, a], [-gate, b], [gate, -a, -b]]
     clauses += [[-end] for end in ends[:-1]] + [[ends[-1]]]
     lines = [" ".join(map(str, [*clause, 0])) for clause in clauses]
-    return f"p cnf {len(frames.gates.nodes)} {len(clauses)}\n" + "\n".join(lines) + "\n"
+    variables = max(abs(literal) for clause in clauses for literal in clause)
+    return f"p cnf {variables} {len(clauses)}\n" + "\n".join(lines) + "\n"
 
 
 def leb(number):
@@ -97,14 +98,16 @@ def aiger(text, invariant):
 
 
 def registers(n, is_open):
-    """n latches in groups of four; the first bit of the last group can be set where it is open."""
+    """n latches in groups of four; the first bit of the last group can be set where it is open. That a last bit is set is gathered in one cell,
+    as an expression nests at most 64 deep."""
     groups = range(n // 4)
-    rows = ["FUNCTION_BLOCK Bench", "VAR_INPUT", *(f"x_{g:04} : BOOL;" for g in groups), "END_VAR", "VAR"]
+    rows = ["FUNCTION_BLOCK Bench", "VAR_INPUT", *(f"x_{g:04} : BOOL;" for g in groups), "END_VAR", "VAR", "bad : BOOL;"]
     rows += [*(f"{name}_{g:04} : BOOL;" for g in groups for name in "abcd"), "END_VAR", "BEGIN"]
     for g in groups:
         first = f"x_{g:04}" if is_open and g == n // 4 - 1 else f"a_{g:04} AND x_{g:04}"
         rows += [f"d_{g:04} := c_{g:04};", f"c_{g:04} := b_{g:04};", f"b_{g:04} := a_{g:04};", f"a_{g:04} := {first};"]
-    return "\n".join([*rows, "END_FUNCTION_BLOCK"]) + "\n", " AND ".join(f"NOT d_{g:04}" for g in groups)
+    rows += ["bad := d_0000;", *(f"bad := bad OR d_{g:04};" for g in groups if g)]
+    return "\n".join([*rows, "END_FUNCTION_BLOCK"]) + "\n", "NOT bad"
 
 
 def chain(n):
@@ -200,7 +203,7 @@ def main():
         row(place, f"{20 * n} cells", *chain(20 * n))
         folder = ROOT / "examples" / "conveyor"
         made = json.loads((folder / "case.json").read_text())
-        row(place, "examples/conveyor", read(folder / made["sources"][0]["file"]), made["pattern"]["a"], made["entry"])
+        row(place, "examples/conveyor", read(ROOT / made["sources"][0]["file"]), made["pattern"]["a"], made["entry"])
 
 
 if __name__ == "__main__":
