@@ -4,7 +4,7 @@
 use Rattle.std.proofs.Common.{◌≡◌, ℕ, ◌<◌, List, [], ◌∷◌, ◌++◌, length, take, Option, Some, None, refl, sym, ◌∙◌, ap, arith, append_assoc, append-nil, length-append, drop, subst, inl, inr}
 use Rattle.std.proofs.lemmas.List.{take-append-drop}
 use Rattle.std.proofs.Math.Seq.{take-append_seam}
-use Rattle.std.specs.Prelude.{option_map}
+use Rattle.std.specs.Prelude.{option_map, ◌≢◌}
 use Rattle.std.specs.Prelude.{Result, Ok, Err}
 use Rattle.pv_edge.specs.declared.outside.SinkFault.{SinkFault}
 use Rattle.pv_edge.specs.declared.outside.SinkFault.TheVariants.{Failed}
@@ -48,8 +48,8 @@ pub less-part : (bytes : List ℕ) (old new : Option (List ℕ)) → TakesLess b
 less-part bytes old new h = (h.0, omega (arith, h.1), h.2)
 
 -- one call more, which is offered what the others left
-pub offered-more : {S : Type 0} (call : List ℕ → Result ℕ SinkFault → S → S → Type 0) (bytes : List ℕ) (old : S) (rest left : List ℕ) (n : ℕ) (mid new : S) → Offered call bytes old rest mid → call rest (Ok n) mid new → left ≡ drop n rest → Offered call bytes old left new
-offered-more call bytes old rest left n mid new h k is = rw is (Offered.more h k)
+pub offered-more : {S : Type 0} (call : List ℕ → Result ℕ SinkFault → S → S → Type 0) (bytes : List ℕ) (old : S) (rest left : List ℕ) (n : ℕ) (mid new : S) → 0 < length rest → n ≢ 0 → Offered call bytes old rest mid → call rest (Ok n) mid new → left ≡ drop n rest → Offered call bytes old left new
+offered-more call bytes old rest left n mid new some taken h k is = rw is (Offered.more h (λ none. absurd (omega (arith, some, ap length none))) taken k)
 
 -- calls that leave nothing
 pub offered-all : {S : Type 0} (call : List ℕ → Result ℕ SinkFault → S → S → Type 0) (bytes : List ℕ) (old : S) (rest : List ℕ) (new : S) → Offered call bytes old rest new → length rest ≡ 0 → Offered call bytes old [] new

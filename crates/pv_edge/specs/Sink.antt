@@ -33,10 +33,10 @@ pub record IsPiece (n : ℕ) (bytes : List ℕ) (piece calls next_piece next_cal
   pub same : next_piece ≡ piece
   pub counted : next_calls ≡ next_count calls
 
--- calls one behind the other, from the first that is offered all of the bytes on, each of which is offered what those before it left; with what is left behind them and the sink there
+-- calls one behind the other, from the first that is offered all of the bytes on, each of which is offered what those before it left, which is something, and takes some of it; with what is left behind them and the sink there
 pub data Offered {S : Type 0} (call : List ℕ → Result ℕ SinkFault → S → S → Type 0) (bytes : List ℕ) (old : S) : List ℕ → S → Type 0 where
   none : Offered call bytes old bytes old
-  more : {n : ℕ} {left : List ℕ} {mid new : S} → Offered call bytes old left mid → call left (Ok n) mid new → Offered call bytes old (drop n left) new
+  more : {n : ℕ} {left : List ℕ} {mid new : S} → Offered call bytes old left mid → left ≢ [] → n ≢ 0 → call left (Ok n) mid new → Offered call bytes old (drop n left) new
 
 -- behind such calls some bytes are left, and the call that is offered them fails so, or takes nothing, which is a failure
 pub record StopsOffering {S : Type 0} (call : List ℕ → Result ℕ SinkFault → S → S → Type 0) (bytes : List ℕ) (old : S) (fault : SinkFault) (new : S) : Type 0 where

@@ -14,7 +14,7 @@ loop-rest-preserved g c =
     let more : 0 < length c.loop-rest.rest.now = search rules in
     record {
       front = takes-step _ inv.front.0 _ _ _ _ _ inv.front.1 inv.front.2 c.in-Ok.ensures.ok _ c.split_at.ensures.back;
-      calls = offered-more g.S.Sink.call _ _ _ _ _ _ _ inv.calls c.in-Ok.ensures.called c.split_at.ensures.back;
+      calls = offered-more g.S.Sink.call _ _ _ _ _ _ _ more (λ none. absurd (c.in-Ok.n-test.1 none)) inv.calls c.in-Ok.ensures.called c.split_at.ensures.back;
       faults = c.in-Ok.ensures.only_faults (λ none. absurd (c.in-Ok.n-test.1 none)) ∙ inv.faults;
       idle = λ none. offered _ inv.front.0 _ more inv.front.1 none;
     }
