@@ -12,10 +12,13 @@ ghost use Rattle.pv_names.specs.Tables.{project_of};
 ghost use Rattle.pv_resolve.specs.Begins.{HasSpot, begin_at, begins_behind};
 ghost use Rattle.pv_resolve.specs.Contexts.{IsContext, block_in};
 ghost use Rattle.pv_resolve.specs.Firsts.{AreFirsts};
-ghost use Rattle.pv_resolve.specs.declared.fault.ResolveFault.TheVariants.{TooLarge};
+ghost use Rattle.pv_resolve.specs.Rooms.{BeginsRoomy, FitsExpr, FitsOperand, FitsRoot, HasRoom};
+ghost use Rattle.pv_resolve.specs.declared.fault.ResolveFault.TheVariants.{NoMemory, TooLarge};
+ghost use Rattle.pv_tree.specs.Rules.{KeepsRules};
 ghost use Rattle.pv_tree.specs.View.{block_tree, expr_tree, operand_tree};
 ghost use Rattle.pv_types.specs.Leaves.{start_value};
-ghost use Rattle.std.specs.Prelude.{Err, IfOk, Option, ℕ, ℤ, ◌+◌, ◌↔◌, ◌≡◌, ◌≤◌};
+ghost use Rattle.std.specs.Int.{w64};
+ghost use Rattle.std.specs.Prelude.{Err, FitsSigned, IfErr, IfOk, IsOk, Option, ℕ, ℤ, ◌+◌, ◌↔◌, ◌≡◌, ◌≤◌};
 
 use pv_bytes::AreaBytes;
 use pv_eval::{Expression, Target};
@@ -28,14 +31,17 @@ use std::alloc::{AllocError, Global};
 
 /// [`pv_resolve::start_of`].
 pub fn start_of(var: &Var) -> Result<i64, ResolveFault>
-    ensures { IfOk result (λ v. v ≡ start_value var.now.start) }
+    ensures value { IfOk result (λ v. v ≡ start_value var.now.start) }
+    ensures fits { FitsSigned w64 (start_value var.now.start) → IsOk result }
 {
     pv_resolve::start_of(var)
 }
 
 /// [`pv_resolve::number_of`].
 pub fn number_of(n: &i128) -> Result<i64, ResolveFault>
-    ensures { IfOk result (λ v. v ≡ n.now) }
+    ensures value { IfOk result (λ v. v ≡ n.now) }
+    ensures fits { FitsSigned w64 n.now → IsOk result }
+    ensures too_large { IfErr result (λ e. (e ≡ TooLarge) × (FitsSigned w64 n.now → ⊥)) }
 {
     pv_resolve::number_of(n)
 }
@@ -46,6 +52,8 @@ pub fn word<'p>(context: &Context<'p>, name: &Name, hash: bool) -> Result<Begin<
         → IfOk result (λ b. begin_at b first ≡ act.word_begins source
         (activation (block_in context.now) first) name.now.key hash) }
     ensures spot { IfOk result HasSpot }
+    ensures room { (source : Source) → IsContext context.now source
+        → HasRoom source (block_in context.now) → IsOk result }
 {
     context.word(name, hash)
 }
@@ -56,6 +64,8 @@ pub fn name<'p>(context: &Context<'p>, name: &Name) -> Result<Begin<'p>, Resolve
         → IfOk result (λ b. begin_at b first ≡ act.name_begins source
         (activation (block_in context.now) first) name.now.key) }
     ensures spot { IfOk result HasSpot }
+    ensures room { (source : Source) → IsContext context.now source
+        → HasRoom source (block_in context.now) → IsOk result }
 {
     context.name(name)
 }
@@ -66,6 +76,8 @@ pub fn root<'p>(context: &Context<'p>, root: &Root) -> Result<Begin<'p>, Resolve
         → IfOk result (λ b. begin_at b first ≡ act.root_begins source
         (activation (block_in context.now) first) root.now) }
     ensures spot { IfOk result HasSpot }
+    ensures room { (source : Source) → IsContext context.now source
+        → HasRoom source (block_in context.now) → FitsRoot root.now → IsOk result }
 {
     context.root(root)
 }
@@ -81,6 +93,9 @@ pub fn field<'p>(
         → begins_behind address a (begin_at b first)
         ≡ field_begins source (begins_behind address a (begin_at begin.entry first)) name.now.key) }
     ensures spot { IfOk result HasSpot }
+    ensures room { (source : Source) (more : ℕ) → IsContext context.now source
+        → KeepsRules source.project
+        → BeginsRoomy source.project more (begin_at begin.entry 0) → IsOk result }
 {
     context.field(begin, name)
 }
@@ -123,16 +138,22 @@ pub fn firsts_of<'p>(alloc: Global, context: &Context<'p>) -> Result<FirstCells<
 
 /// [`Context::expression`].
 pub fn expression(context: &Context, alloc: Global, e: &Expr) -> Result<Expression, ResolveFault>
-    ensures { (source : Source) → IsContext context.now source
+    ensures evaluates { (source : Source) → IsContext context.now source
         → IfOk result (λ x. Evaluates source (block_in context.now) x (expr_tree e.now)) }
+    ensures room { (source : Source) → IsContext context.now source
+        → HasRoom source (block_in context.now) → FitsExpr (expr_tree e.now)
+        → IfErr result (λ e. e ≡ NoMemory) }
 {
     context.expression(alloc, e)
 }
 
 /// [`Context::target`].
 pub fn target(context: &Context, alloc: Global, operand: &Operand) -> Result<Target, ResolveFault>
-    ensures { (source : Source) → IsContext context.now source
+    ensures locates { (source : Source) → IsContext context.now source
         → IfOk result (λ t. Locates source (block_in context.now) t (operand_tree operand.now)) }
+    ensures room { (source : Source) → IsContext context.now source
+        → HasRoom source (block_in context.now) → FitsOperand (operand_tree operand.now)
+        → IfErr result (λ e. e ≡ NoMemory) }
 {
     context.target(alloc, operand)
 }

@@ -25,11 +25,13 @@ use Rattle.pv_eval.specs.declared.node.Node.TheVariants.{Constant, Read, Two}
 use Rattle.pv_eval.specs.Operators.{two_result}
 use Rattle.pv_eval.specs.Operands.{at, spot_at}
 use Rattle.pv_eval.specs.Nodes.{node_value}
+use Rattle.pv_eval.specs.Order.{most_at}
 use Rattle.pv_eval.specs.Means.{Makes, Means, Names, activation}
 use Rattle.pv_eval.proofs.ForCallers.{and_then-assoc, and_then-same, makes-none, makes-along, makes-then, makes-push}
 use Rattle.pv_resolve.specs.Growing.{Adds, Grows}
 use Rattle.pv_resolve.specs.Kinds.{two_of}
 use Rattle.pv_resolve.specs.Functions.{function_value, AppliesTo, AreArguments}
+use Rattle.pv_resolve.proofs.Ordered.{most_push}
 
 -- ---- a node more, as the code adds it
 
@@ -49,10 +51,15 @@ pub added_grows : (old new : List Node) (x : Node) (n : ℕ) → Adds old new x 
 added_grows old new x n adds = record {
   ordered = adds.ordered;
   longer = omega (arith, ap length adds.nodes, length-append old (x ∷ []));
+  same_most = λ k m is. subst (λ ns. most_at ns k ≡ Some m) (sym adds.nodes) (most_push old x k m is);
 }
 
 pub grows_twice : (old mid new : List Node) → Grows old mid → Grows mid new → Grows old new
-grows_twice old mid new g h = record { ordered = h.ordered; longer = omega (arith, g.longer, h.longer) }
+grows_twice old mid new g h = record {
+  ordered = h.ordered;
+  longer = omega (arith, g.longer, h.longer);
+  same_most = λ k m is. h.same_most k m (g.same_most k m is);
+}
 
 -- something else that is the same is read off
 pub makes-read : {A : Type 0} (old new : List Node) (out other : ℕ → List ℤ → A) (meaning : ℕ → Frame → Tried A)

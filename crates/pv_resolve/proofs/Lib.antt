@@ -11,4 +11,9 @@ mod Fields
 mod Walking
 mod Elements
 mod Loops
+mod Instances
+mod Rooms
+mod Roots
+mod Nears
+mod Fits
 pub mod ForCallers

@@ -31,7 +31,7 @@ use Rattle.pv_resolve.proofs.Arguments.{no_values, one_more, as_arguments, padde
 use Rattle.pv_resolve.proofs.Walking.{walk_begins, walk_ends}
 
 pub grows_none : (old : List Node) → AreNodes old → Grows old old
-grows_none old h = record { ordered = h; longer = omega arith }
+grows_none old h = record { ordered = h; longer = omega arith; same_most = λ k m is. is }
 
 -- one element more of what was gone through
 pub mapped_more : {A B : Type 0} (f : A → B) (xs : List A) (i : ℕ) (x : A) → i < length xs → x ≡ get_or xs i x

@@ -2,11 +2,11 @@
 use Rattle.std.proofs.Common.{◌≡◌, ℕ, zero, suc, ◌⊎◌, inl, inr, List, [], ◌∷◌, ◌++◌, length, Some, refl, sym, subst, ap, arith}
 use Rattle.std.specs.Prelude.{slice_get, None, ℤ, pos, negsuc, ◌<ℤ◌, ◌≤ℤ◌, unsigned_abs}
 use Rattle.std.proofs.lemmas.Int.{ints}
-use Rattle.std.proofs.lemmas.Option.{slice_get_within}
+use Rattle.std.proofs.lemmas.Option.{slice_get_within, none-some}
 use Rattle.std.proofs.lemmas.List.{take-append-le, take_at}
 use Rattle.pv_eval.specs.declared.node.Node.{Node}
 use Rattle.pv_eval.specs.declared.node.Node.TheVariants.{Constant}
-use Rattle.pv_eval.specs.Order.{most_of, MayFollow, AreNodes}
+use Rattle.pv_eval.specs.Order.{most_of, most_at, MayFollow, AreNodes}
 
 got_push : {X : Type 0} (xs : List X) (x : X) (k : ℕ) (y : X) → slice_get (xs ++ x ∷ []) k ≡ Some y → (slice_get xs k ≡ Some y) ⊎ ((k ≡ length xs) × (x ≡ y))
 got_push [] x zero y h = inr (refl, cc)
@@ -22,6 +22,20 @@ ordered_push nodes node h next = record {
     | inr p ↦ subst (λ before. MayFollow before x) (sym (take_at nodes (node ∷ []) k (sym p.0))) (subst (MayFollow nodes) p.1 next)
   ];
 }
+
+-- the most that a number of a cell is stays, and that of the last is its node's
+pub most_push : (nodes : List Node) (x : Node) (k m : ℕ) → most_at nodes k ≡ Some m → most_at (nodes ++ x ∷ []) k ≡ Some m
+most_push [] x k m is = absurd (none-some m (by k is))
+  where
+    by : (i : ℕ) → most_at [] i ≡ Some m → None ≡ Some m
+    by zero e = e
+    by (suc i) e = e
+most_push (y ∷ ys) x zero m is = is
+most_push (y ∷ ys) x (suc k) m is = most_push ys x k m is
+
+pub most_last : (nodes : List Node) (x : Node) → most_at (nodes ++ x ∷ []) (length nodes) ≡ most_of x
+most_last [] x = refl
+most_last (y ∷ ys) x = most_last ys x
 
 pub no_nodes : AreNodes []
 no_nodes = record { each = λ k x at. cc }

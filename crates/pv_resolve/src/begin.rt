@@ -1,5 +1,6 @@
 //! Where the names of a block begin.
-ghost use Rattle.std.specs.Prelude.{◌≡◌, ◌≤◌, ℕ, nat_eq, length, IfOk, option_map};
+ghost use Rattle.std.specs.Prelude.{◌≡◌, ◌+◌, ◌<◌, ◌≤◌, ℕ, false, true, nat_eq, length, FitsSigned, IfOk, IfErr, IfSome, IsOk, option_map};
+ghost use Rattle.std.specs.Int.{w64};
 ghost use Rattle.std.specs.List.{position_or_len};
 ghost use Rattle.pv_types.specs.View as view;
 ghost use Rattle.pv_types.specs.Leaves.{start_value};
@@ -18,7 +19,10 @@ ghost use Rattle.pv_mean.specs.LaidOut as counted;
 ghost use Rattle.pv_mean.specs.Sized.{sized_project};
 ghost use Rattle.pv_eval.specs.Operands.{spot_of, IsSpot};
 ghost use Rattle.pv_eval.specs.Means.{activation};
+ghost use Rattle.pv_mean.specs.declared.count.TheConstants.{BEYOND};
+ghost use Rattle.pv_resolve.specs.declared.fault.ResolveFault.TheVariants.{TooLarge};
 ghost use Rattle.pv_resolve.specs.Laying.{laid_tree};
+ghost use Rattle.pv_resolve.specs.Rooms.{IsShort, FitsRoot, HasRoom};
 ghost use Rattle.pv_bytes.specs.Lent.{bytes_tree};
 ghost use Rattle.pv_resolve.specs.Contexts.{IsContext, block_in, address_spot_at, area_spot};
 ghost use Rattle.pv_resolve.specs.Begins.{begin_at, begins_found, cells_begin, undeclared_begins, HasSpot, type_held};
@@ -52,7 +56,8 @@ pub enum Where {
 
 /// The value of a constant.
 pub fn start_of(var: &Var) -> Result<i64, ResolveFault>
-    ensures { IfOk result (λ v. v ≡ start_value var.now.start) }
+    ensures value { IfOk result (λ v. v ≡ start_value var.now.start) }
+    ensures fits { FitsSigned w64 (start_value var.now.start) → IsOk result }
 {
     let Some(literal) = var.start else {
         return Ok(0);
@@ -62,7 +67,9 @@ pub fn start_of(var: &Var) -> Result<i64, ResolveFault>
 
 /// The number, where 64 bits hold it.
 pub fn number_of(n: &i128) -> Result<i64, ResolveFault>
-    ensures { IfOk result (λ v. v ≡ n.now) }
+    ensures value { IfOk result (λ v. v ≡ n.now) }
+    ensures fits { FitsSigned w64 n.now → IsOk result }
+    ensures too_large { IfErr result (λ e. (e ≡ TooLarge) × (FitsSigned w64 n.now → ⊥)) }
 {
     match i64::try_from(*n) {
         Ok(v) => Ok(v),
@@ -87,7 +94,9 @@ fn place_in(bytes: &[u64], n: u64) -> usize
 
 /// Where a byte of an area stands among those of all areas.
 fn place_of(bytes: AreaBytes, area: Area, n: u64) -> usize
-    ensures { result ≡ place_of_byte (bytes_tree bytes.entry) area n }
+    ensures place { result ≡ place_of_byte (bytes_tree bytes.entry) area n }
+    ensures within { result ≤ length bytes.entry.inputs.now + length bytes.entry.outputs.now
+        + length bytes.entry.flags.now }
 {
     match area {
         Area::I => place_in(bytes.inputs, n),
@@ -113,6 +122,7 @@ fn held_by<'p>(block: &'p Block) -> Option<Held<'p>>
 fn address_spot(ty: Ty, bits: u32, number: u32, n: u64) -> Result<Spot, ResolveFault>
     ensures value { IfOk result (λ s. spot_of s ≡ address_spot_at ty bits number n) }
     ensures spot { IfOk result IsSpot }
+    ensures short { IsShort bits n → IsOk result }
 {
     if bits <= 1 {
         if n >= 8 {
@@ -141,8 +151,10 @@ pub(crate) fn begin_with<'p>(part: Where, found: Option<LaidLevel<'p>>) -> Begin
 impl<'p> Context<'p> {
     /// The number of the cell of an area's byte.
     fn byte_number(&self, area: Area, byte: u64) -> Result<u32, ResolveFault>
-        ensures { (source : Source) → IsContext self.now source
+        ensures value { (source : Source) → IsContext self.now source
             → IfOk result (λ n. n ≡ byte_number source area byte) }
+        ensures room { (source : Source) → IsContext self.now source
+            → HasRoom source (block_in self.now) → IsOk result }
     {
         let place = place_of(self.bytes, area, byte);
         let number = (self.bytes_first as usize).saturating_add(place);
@@ -160,9 +172,11 @@ impl<'p> Context<'p> {
         name: &Name,
         first: u32,
     ) -> Result<Option<LaidLevel<'p>>, ResolveFault>
-        ensures { IfOk result (λ o. option_map laid_tree o
+        ensures value { IfOk result (λ o. option_map laid_tree o
             ≡ layout.laid_among (sized_project self.now.sizes.now) (test_of part)
             (view.var_trees vars.now) name.now.key first) }
+        ensures near { IfSome (layout.laid_among (sized_project self.now.sizes.now) (test_of part)
+            (view.var_trees vars.now) name.now.key first) (λ l. l.first < BEYOND) → IsOk result }
     {
         exact(self.sizes.variable(vars, part, name, first))
     }
@@ -174,10 +188,14 @@ impl<'p> Context<'p> {
         name: &Name,
         first: u32,
     ) -> Result<Option<LaidLevel<'p>>, ResolveFault>
-        ensures { (source : Source) → IsContext self.now source
+        ensures value { (source : Source) → IsContext self.now source
             → IfOk result (λ o. option_map laid_tree o
             ≡ layout.field_among source.project scopes.is_of_instance
             (scopes.type_named source.project ty.now.key) name.now.key first) }
+        ensures near { (source : Source) → IsContext self.now source
+            → IfSome (layout.field_among source.project scopes.is_of_instance
+            (scopes.type_named source.project ty.now.key) name.now.key first)
+            (λ l. l.first < BEYOND) → IsOk result }
     {
         match self.scope.find_type(ty) {
             Some(entry) => {
@@ -194,9 +212,12 @@ impl<'p> Context<'p> {
         laid: LaidLevel<'p>,
         name: &Name,
     ) -> Result<Option<LaidLevel<'p>>, ResolveFault>
-        ensures { (source : Source) → IsContext self.now source
+        ensures value { (source : Source) → IsContext self.now source
             → IfOk result (λ o. option_map laid_tree o
             ≡ layout.field_laid source.project (laid_tree laid.entry) name.now.key) }
+        ensures near { (source : Source) → IsContext self.now source
+            → IfSome (layout.field_laid source.project (laid_tree laid.entry) name.now.key)
+            (λ l. l.first < BEYOND) → IsOk result }
     {
         match laid.ty {
             Held::Struct(vars) => self.among(vars, Part::Fields, name, laid.first),
@@ -261,6 +282,9 @@ impl<'p> Context<'p> {
             (layout.laid_among source.project (layout.is_brief_in (block_in self.now))
             (block_in self.now).vars name.now.key 0)) }
         ensures spot { IfOk result HasSpot }
+        ensures near { (source : Source) → IsContext self.now source
+            → IfSome (layout.laid_among source.project (layout.is_brief_in (block_in self.now))
+            (block_in self.now).vars name.now.key 0) (λ l. l.first < BEYOND) → IsOk result }
     {
         let found = exact(self.brief_found(name))?;
         Ok(begin_with(Where::Brief, found))
@@ -273,6 +297,9 @@ impl<'p> Context<'p> {
             (layout.laid_among source.project scopes.is_of_instance
             (block_in self.now).vars name.now.key first)) }
         ensures spot { IfOk result HasSpot }
+        ensures near { (source : Source) → IsContext self.now source
+            → IfSome (layout.laid_among source.project scopes.is_of_instance
+            (block_in self.now).vars name.now.key 0) (λ l. l.first < BEYOND) → IsOk result }
     {
         let found = exact(self.own_found(name))?;
         Ok(begin_with(Where::Own, found))
@@ -284,6 +311,8 @@ impl<'p> Context<'p> {
             → IfOk result (λ b. begin_at b first ≡ cells_begin source
             (activation (block_in self.now) first) name.now.key section) }
         ensures spot { IfOk result HasSpot }
+        ensures room { (source : Source) → IsContext self.now source
+            → HasRoom source (block_in self.now) → IsOk result }
     {
         let block = self.scope.entry.block();
         if activation_part(&block.kind).has(section) {
@@ -299,6 +328,9 @@ impl<'p> Context<'p> {
             → IfOk result (λ b. begin_at b first ≡ act.variable_begins source
             (activation (block_in self.now) first) name.now.key (view.var_tree var.now)) }
         ensures spot { IfOk result HasSpot }
+        ensures room { (source : Source) → IsContext self.now source
+            → HasRoom source (block_in self.now) → FitsSigned w64 (start_value var.now.start)
+            → IsOk result }
     {
         if is_const(var.section) {
             let value = start_of(var)?;
@@ -316,6 +348,8 @@ impl<'p> Context<'p> {
               first = data_block_first source block.now.name.key;
             })) }
         ensures spot { IfOk result HasSpot }
+        ensures room { (source : Source) → IsContext self.now source
+            → HasRoom source (block_in self.now) → IsOk result }
     {
         let first = self.sizes.data_first(&block.name, self.data_first);
         if first >= BEYOND {
@@ -329,6 +363,8 @@ impl<'p> Context<'p> {
         ensures value { (source : Source) (first : ℕ) → IsContext self.now source
             → IfOk result (λ b. begin_at b first ≡ act.block_begins source (block_of entry.now)) }
         ensures spot { IfOk result HasSpot }
+        ensures room { (source : Source) → IsContext self.now source
+            → HasRoom source (block_in self.now) → IsOk result }
     {
         let block = entry.block();
         match held_by(block) {
@@ -343,6 +379,8 @@ impl<'p> Context<'p> {
             → IfOk result (λ b. begin_at b first
             ≡ act.at (spots.brief ty (act.value_number source (block_in self.now)))) }
         ensures spot { IfOk result HasSpot }
+        ensures room { (source : Source) → IsContext self.now source
+            → HasRoom source (block_in self.now) → IsOk result }
     {
         let block = self.scope.entry.block();
         let number = self.sizes.of_activation(block);
@@ -358,6 +396,8 @@ impl<'p> Context<'p> {
             → IfOk result (λ b. begin_at b first ≡ act.block_or source
             (scopes.first_block source.project.blocks name.now.key) (act.at spots.nowhere)) }
         ensures spot { IfOk result HasSpot }
+        ensures room { (source : Source) → IsContext self.now source
+            → HasRoom source (block_in self.now) → IsOk result }
     {
         match self.scope.tables.find_block(name) {
             Some(entry) => self.block(entry),
@@ -371,6 +411,8 @@ impl<'p> Context<'p> {
             → IfOk result (λ b. begin_at b first ≡ undeclared_begins source
             (activation (block_in self.now) first) name.now.key hash) }
         ensures spot { IfOk result HasSpot }
+        ensures room { (source : Source) → IsContext self.now source
+            → HasRoom source (block_in self.now) → IsOk result }
     {
         match own_value(self.scope.entry.block(), name, hash) {
             Some(ty) => self.value(ty),
@@ -390,6 +432,8 @@ impl<'p> Context<'p> {
             → IfOk result (λ b. begin_at b first ≡ act.word_begins source
             (activation (block_in self.now) first) name.now.key hash) }
         ensures spot { IfOk result HasSpot }
+        ensures room { (source : Source) → IsContext self.now source
+            → HasRoom source (block_in self.now) → IsOk result }
     {
         match self.scope.entry.find(name) {
             Some(var) => self.variable(name, var),
@@ -402,6 +446,8 @@ impl<'p> Context<'p> {
         ensures value { (source : Source) → IsContext self.now source
             → IfOk result (λ s. spot_of s ≡ area_spot source ty at.now) }
         ensures spot { IfOk result IsSpot }
+        ensures room { (source : Source) → IsContext self.now source
+            → HasRoom source (block_in self.now) → FitsRoot at.now → IsOk result }
     {
         match at {
             Root::Area {
@@ -423,6 +469,8 @@ impl<'p> Context<'p> {
             → IfOk result (λ b. begin_at b first ≡ act.symbol_or_none source
             (scopes.first_symbol source.project.symbols name.now.key)) }
         ensures spot { IfOk result HasSpot }
+        ensures room { (source : Source) → IsContext self.now source
+            → HasRoom source (block_in self.now) → IsOk result }
     {
         match self.scope.tables.find_symbol(name) {
             Some(symbol) => {
@@ -440,6 +488,8 @@ impl<'p> Context<'p> {
             (scopes.first_block source.project.blocks name.now.key) (act.symbol_or_none source
             (scopes.first_symbol source.project.symbols name.now.key))) }
         ensures spot { IfOk result HasSpot }
+        ensures room { (source : Source) → IsContext self.now source
+            → HasRoom source (block_in self.now) → IsOk result }
     {
         match self.scope.tables.find_block(name) {
             Some(entry) => self.block(entry),
@@ -453,6 +503,8 @@ impl<'p> Context<'p> {
             → IfOk result (λ b. begin_at b first ≡ act.name_begins source
             (activation (block_in self.now) first) name.now.key) }
         ensures spot { IfOk result HasSpot }
+        ensures room { (source : Source) → IsContext self.now source
+            → HasRoom source (block_in self.now) → IsOk result }
     {
         match quoted_value(self.scope.entry.block(), name) {
             Some(ty) => self.value(ty),
@@ -466,6 +518,8 @@ impl<'p> Context<'p> {
             → IfOk result (λ b. begin_at b first
             ≡ act.at (area_spot source (things.type_of_bits bits) root.now)) }
         ensures spot { IfOk result HasSpot }
+        ensures room { (source : Source) → IsContext self.now source
+            → HasRoom source (block_in self.now) → FitsRoot root.now → IsOk result }
     {
         let spot = self.address(type_of_bits(bits), root)?;
         Ok(Begin::At(spot))
@@ -477,6 +531,8 @@ impl<'p> Context<'p> {
             → IfOk result (λ b. begin_at b first ≡ act.root_begins source
             (activation (block_in self.now) first) root.now) }
         ensures spot { IfOk result HasSpot }
+        ensures room { (source : Source) → IsContext self.now source
+            → HasRoom source (block_in self.now) → FitsRoot root.now → IsOk result }
     {
         match root {
             Root::Local { name, hash, .. } => self.word(name, *hash),

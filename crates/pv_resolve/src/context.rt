@@ -1,5 +1,5 @@
 //! A block of a project whose names are found.
-ghost use Rattle.std.specs.Prelude.{◌≡◌, ◌+◌, ◌≤◌, ◌↔◌, IfOk, Err};
+ghost use Rattle.std.specs.Prelude.{◌≡◌, ◌+◌, ◌≤◌, ◌↔◌, IfOk, IfErr, Err};
 ghost use Rattle.pv_mean.specs.declared.count.TheConstants.{BEYOND};
 ghost use Rattle.pv_resolve.specs.declared.fault.ResolveFault.TheVariants.{TooLarge};
 ghost use Rattle.pv_tree.specs.View.{block_tree};
@@ -48,6 +48,7 @@ pub fn context_of<'p>(
     ensures too_large { (result ≡ Err TooLarge)
         ↔ (BEYOND ≤ layout.entry_size (sized_project sizes.now) (block_tree entered.now)
         + layout.data_size (sized_project sizes.now) (sized_project sizes.now).blocks) }
+    ensures fault { IfErr result (λ e. e ≡ TooLarge) }
 {
     let data_first = sizes.of_entry(entered);
     let behind = sizes.of_data_blocks();

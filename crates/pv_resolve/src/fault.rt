@@ -8,8 +8,8 @@ use thiserror::Error;
 /// Why names aren't resolved.
 #[derive(Clone, Copy, PartialEq, Eq, Debug, Drop, Error)]
 pub enum ResolveFault {
-    /// There are more cells than a table may have, or a number is greater than 64 bits hold. A project that keeps the rules and
-    /// has a table should meet it nowhere; no clause says so but that of the cells.
+    /// There are more cells than a table may have, or a number is greater than 64 bits hold. Where a block has room what fits
+    /// meets it nowhere.
     #[error("a number is too large")]
     TooLarge,
     #[error("out of memory")]

@@ -1,5 +1,5 @@
 //! One node more for each form of expression, behind the nodes of its parts.
-ghost use Rattle.std.specs.Prelude.{◌≡◌, ◌<◌, ◌≤◌, ℕ, List, map, length, All, Some, None, IfOk, OnOk};
+ghost use Rattle.std.specs.Prelude.{◌≡◌, ◌<◌, ◌≤◌, ℕ, List, map, length, All, Some, None, IfOk, IfErr, OnOk};
 ghost use Rattle.pv_place.specs.declared.place.Place.{Place as PlaceOf};
 ghost use Rattle.pv_tree.specs.Tree.{ExprTree, ExprTrees, OperandTree, BlockTree, read, unary, binary, std};
 ghost use Rattle.pv_tree.specs.Things.{place_of_operand};
@@ -11,6 +11,7 @@ ghost use Rattle.pv_eval.specs.declared.node.Node.TheVariants.{One};
 ghost use Rattle.pv_eval.specs.Operands.{IsOperand};
 ghost use Rattle.pv_eval.specs.Order.{AreNodes};
 ghost use Rattle.pv_eval.specs.Means.{Means, Names};
+ghost use Rattle.pv_resolve.specs.declared.fault.ResolveFault.TheVariants.{NoMemory};
 ghost use Rattle.pv_resolve.specs.Growing.{Adds, Grows};
 ghost use Rattle.pv_resolve.specs.Kinds as kinds;
 ghost use Rattle.pv_resolve.specs.Functions.{arity, AreArguments};
@@ -28,6 +29,7 @@ pub(crate) fn push_literal(nodes: &mut Vec<Node>, v: &i64) -> Result<u32, Resolv
     requires { AreNodes nodes.old.items }
     ensures grows { OnOk result (Grows nodes.old.items nodes.new.items) }
     ensures within { IfOk result (λ n. n < length nodes.new.items) }
+    ensures memory { IfErr result (λ e. e ≡ NoMemory) }
     ensures means { (source : Source) (block : BlockTree) (e : ExprTree) (w : Written)
         → literal_of e ≡ Some w → v.now ≡ w.value
         → IfOk result (λ n. Means source block nodes.old.items nodes.new.items n e) }
@@ -45,6 +47,7 @@ pub(crate) fn push_read(
     requires operand { IsOperand (length nodes.old.items) from }
     ensures grows { OnOk result (Grows nodes.old.items nodes.new.items) }
     ensures within { IfOk result (λ n. n < length nodes.new.items) }
+    ensures memory { IfErr result (λ e. e ≡ NoMemory) }
     ensures means { (source : Source) (block : BlockTree) (base : List NodeOf) (e : ExprTree)
         (o : OperandTree) → e ≡ read o → place ≡ place_of_operand o
         → Names source block base nodes.old.items from o
@@ -56,7 +59,8 @@ pub(crate) fn push_read(
 fn push_one(nodes: &mut Vec<Node>, op: OneOp, ty: Ty, arg: u32) -> Result<u32, ResolveFault>
     requires nodes { AreNodes nodes.old.items }
     requires arg { arg < length nodes.old.items }
-    ensures { IfOk result (Adds nodes.old.items nodes.new.items (One op ty arg)) }
+    ensures adds { IfOk result (Adds nodes.old.items nodes.new.items (One op ty arg)) }
+    ensures memory { IfErr result (λ e. e ≡ NoMemory) }
 {
     push(nodes, Node::One { op, ty, arg })
 }
@@ -72,6 +76,7 @@ pub(crate) fn push_unary(
     requires arg { arg < length nodes.old.items }
     ensures grows { OnOk result (Grows nodes.old.items nodes.new.items) }
     ensures within { IfOk result (λ n. n < length nodes.new.items) }
+    ensures memory { IfErr result (λ e. e ≡ NoMemory) }
     ensures means { (source : Source) (block : BlockTree) (base : List NodeOf) (e : ExprTree)
         (place : PlaceOf) (inner : ExprTree) → e ≡ unary op place inner → literal_of e ≡ None
         → ty ≡ result_type (record { project = source.project; block = block }) e
@@ -120,6 +125,7 @@ pub(crate) fn push_binary(
     requires right { right < length nodes.old.items }
     ensures grows { OnOk result (Grows nodes.old.items nodes.new.items) }
     ensures within { IfOk result (λ n. n < length nodes.new.items) }
+    ensures memory { IfErr result (λ e. e ≡ NoMemory) }
     ensures means { (source : Source) (block : BlockTree) (base mid : List NodeOf) (e : ExprTree)
         (l r : ExprTree) → e ≡ binary op place l r
         → ty ≡ result_type (record { project = source.project; block = block }) e
@@ -151,6 +157,7 @@ pub(crate) fn push_function(
     requires enough { arity function ≤ length numbers.now }
     ensures grows { OnOk result (Grows nodes.old.items nodes.new.items) }
     ensures within { IfOk result (λ n. n < length nodes.new.items) }
+    ensures memory { IfErr result (λ e. e ≡ NoMemory) }
     ensures means { (source : Source) (block : BlockTree) (base : List NodeOf) (e : ExprTree)
         (at : PlaceOf) (args : ExprTrees) → e ≡ std function at args
         → ty ≡ result_type (record { project = source.project; block = block }) e

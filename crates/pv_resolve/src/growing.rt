@@ -1,8 +1,9 @@
 //! Arrays of nodes that grow.
-ghost use Rattle.std.specs.Prelude.{◌≡◌, ◌+◌, ◌<◌, ◌≤◌, ℕ, length, IfOk, IfSome};
+ghost use Rattle.std.specs.Prelude.{◌≡◌, ◌+◌, ◌<◌, ◌≤◌, ◌^◌, ℕ, length, Some, IfOk, IfErr, IfSome, IfNone};
 ghost use Rattle.pv_eval.specs.Operands.{span};
 ghost use Rattle.pv_eval.specs.declared.node.Node.TheVariants.{Constant, Element};
 ghost use Rattle.pv_eval.specs.Order.{most_of, most_at, IsMost, MayFollow, AreNodes};
+ghost use Rattle.pv_resolve.specs.declared.fault.ResolveFault.TheVariants.{NoMemory};
 ghost use Rattle.pv_resolve.specs.Growing.{Adds};
 
 use crate::fault::ResolveFault;
@@ -13,7 +14,8 @@ use pv_place::Place;
 pub(crate) fn push(nodes: &mut Vec<Node>, node: Node) -> Result<u32, ResolveFault>
     requires ordered { AreNodes nodes.old.items }
     requires follows { MayFollow nodes.old.items node }
-    ensures { IfOk result (Adds nodes.old.items nodes.new.items node) }
+    ensures adds { IfOk result (Adds nodes.old.items nodes.new.items node) }
+    ensures memory { IfErr result (λ e. e ≡ NoMemory) }
 {
     let Ok(n) = u32::try_from(nodes.len()) else {
         return Err(ResolveFault::NoMemory);
@@ -60,8 +62,10 @@ fn most_at(nodes: &[Node], n: u32) -> Option<u64>
 
 /// The most that the number of a cell is behind an index.
 fn most_behind(before: u64, elements: &Elements) -> Option<u32>
-    ensures { IfSome result (λ most.
-        before + span elements.now.low elements.now.high elements.now.stride ≤ most) }
+    ensures is { IfSome result (λ most.
+        before + span elements.now.low elements.now.high elements.now.stride ≡ most) }
+    ensures none { IfNone result
+        (2 ^ 32 ≤ before + span elements.now.low elements.now.high elements.now.stride) }
 {
     let between = elements.high.abs_diff(elements.low);
     let span = between.checked_mul(u64::from(elements.stride))?;
@@ -74,8 +78,11 @@ fn most_behind(before: u64, elements: &Elements) -> Option<u32>
 
 /// The same behind the node of this number.
 fn most_behind_node(nodes: &[Node], from: u32, elements: &Elements) -> Option<u32>
-    ensures { IfSome result (IsMost (most_at nodes.now from)
+    ensures most { IfSome result (IsMost (most_at nodes.now from)
         (span elements.now.low elements.now.high elements.now.stride)) }
+    ensures is { (before : ℕ) → most_at nodes.now from ≡ Some before
+        → before + span elements.now.low elements.now.high elements.now.stride < 2 ^ 32
+        → result ≡ Some (before + span elements.now.low elements.now.high elements.now.stride) }
 {
     match most_at(nodes, from) {
         Some(before) => most_behind(before, elements),
@@ -94,8 +101,16 @@ pub(crate) fn push_element(
     requires ordered { AreNodes nodes.old.items }
     requires from { from < length nodes.old.items }
     requires index { index < length nodes.old.items }
-    ensures { IfOk result (λ n. (most : ℕ) × Adds nodes.old.items nodes.new.items (Element from index
+    ensures adds { IfOk result (λ n. (most : ℕ) × Adds nodes.old.items nodes.new.items (Element from index
         elements.now.low elements.now.high elements.now.stride most place) n) }
+    ensures most { (before : ℕ) → most_at nodes.old.items from ≡ Some before
+        → before + span elements.now.low elements.now.high elements.now.stride < 2 ^ 32
+        → IfOk result (λ n. Adds nodes.old.items nodes.new.items (Element from index elements.now.low
+        elements.now.high elements.now.stride (before
+        + span elements.now.low elements.now.high elements.now.stride) place) n) }
+    ensures memory { (before : ℕ) → most_at nodes.old.items from ≡ Some before
+        → before + span elements.now.low elements.now.high elements.now.stride < 2 ^ 32
+        → IfErr result (λ e. e ≡ NoMemory) }
 {
     match most_behind_node(nodes.as_slice(), from, elements) {
         Some(most) => push(

@@ -1,5 +1,6 @@
 //! What is laid out, level by level, with the exact number of its first cell.
-ghost use Rattle.std.specs.Prelude.{◌≡◌, Option, IfOk, option_map};
+ghost use Rattle.std.specs.Prelude.{◌≡◌, ◌<◌, Option, IfOk, IsOk, IfSome, option_map};
+ghost use Rattle.pv_mean.specs.declared.count.TheConstants.{BEYOND};
 ghost use Rattle.pv_mean.specs.Layout as layout;
 ghost use Rattle.pv_mean.specs.LaidOut as counted;
 ghost use Rattle.pv_resolve.specs.Laying.{laid_tree};
@@ -17,8 +18,10 @@ pub struct LaidLevel<'p> {
 
 /// What was found, where its number is exact.
 fn exact_one(found: Laid) -> Result<LaidLevel, ResolveFault>
-    ensures { (l : layout.Laid) → counted.laid_tree found.entry ≡ counted.capped_laid l
+    ensures value { (l : layout.Laid) → counted.laid_tree found.entry ≡ counted.capped_laid l
         → IfOk result (λ laid. laid_tree laid ≡ l) }
+    ensures near { (l : layout.Laid) → counted.laid_tree found.entry ≡ counted.capped_laid l
+        → l.first < BEYOND → IsOk result }
 {
     if found.first >= BEYOND {
         return Err(ResolveFault::TooLarge);
@@ -30,9 +33,12 @@ fn exact_one(found: Laid) -> Result<LaidLevel, ResolveFault>
 
 /// The same where it may be that nothing was found.
 pub(crate) fn exact(found: Option<Laid>) -> Result<Option<LaidLevel>, ResolveFault>
-    ensures { (o : Option layout.Laid)
+    ensures value { (o : Option layout.Laid)
         → option_map counted.laid_tree found.entry ≡ option_map counted.capped_laid o
         → IfOk result (λ laid. option_map laid_tree laid ≡ o) }
+    ensures near { (o : Option layout.Laid)
+        → option_map counted.laid_tree found.entry ≡ option_map counted.capped_laid o
+        → IfSome o (λ l. l.first < BEYOND) → IsOk result }
 {
     match found {
         Some(found) => {

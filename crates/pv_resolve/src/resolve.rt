@@ -1,5 +1,6 @@
 //! Expressions and operands: their nodes stand behind those that are there.
-ghost use Rattle.std.specs.Prelude.{◌≡◌, ◌<◌, ◌≤◌, ◌++◌, [], ◌∷◌, ℕ, List, map, length, unwrap_or, Some, All, IfOk, IfSome, OnOk};
+ghost use Rattle.std.specs.Prelude.{◌≡◌, ◌<◌, ◌≤◌, ◌++◌, [], ◌∷◌, ℕ, List, map, length, unwrap_or, Some, All, FitsSigned, IfOk, IfErr, IfSome, IfNone, IsOk, OnOk};
+ghost use Rattle.std.specs.Int.{w64};
 ghost use Rattle.pv_word.specs.declared.types.Ty.TheVariants.{Dint};
 ghost use Rattle.pv_place.specs.declared.place.Place.{Place as PlaceOf};
 ghost use Rattle.pv_tree.specs.Tree.{StepTree, ExprTree, ExprTrees, BlockTree, std};
@@ -18,6 +19,8 @@ ghost use Rattle.pv_eval.specs.Means.{Means, Names};
 ghost use Rattle.pv_resolve.specs.Contexts.{IsContext, block_in};
 ghost use Rattle.pv_resolve.specs.Begins.{HasSpot};
 ghost use Rattle.pv_resolve.specs.Functions.{AreArguments};
+ghost use Rattle.pv_resolve.specs.declared.fault.ResolveFault.TheVariants.{NoMemory};
+ghost use Rattle.pv_resolve.specs.Rooms.{FitsExpr, FitsOperand, FitsStep, HasRoom, WalkRoomy};
 ghost use Rattle.pv_resolve.specs.Growing.{Grows};
 ghost use Rattle.pv_resolve.specs.Walks.{IsWalk, HasAddress};
 
@@ -37,7 +40,8 @@ use std::alloc::{AllocError, Global};
 
 /// A literal's number with its sign, where 128 bits hold it.
 fn signed_value(n: &Number) -> Option<i128>
-    ensures { IfSome result (λ v. v ≡ number_value n.now) }
+    ensures value { IfSome result (λ v. v ≡ number_value n.now) }
+    ensures none { IfNone result (FitsSigned w64 (number_value n.now) → ⊥) }
 {
     if n.negated {
         n.value.checked_neg()
@@ -48,7 +52,8 @@ fn signed_value(n: &Number) -> Option<i128>
 
 /// A literal, where 64 bits hold it.
 fn constant_of(n: &Number) -> Result<i64, ResolveFault>
-    ensures { IfOk result (λ v. v ≡ number_value n.now) }
+    ensures value { IfOk result (λ v. v ≡ number_value n.now) }
+    ensures fits { FitsSigned w64 (number_value n.now) → IsOk result }
 {
     match signed_value(n) {
         Some(value) => number_of(&value),
@@ -61,6 +66,8 @@ fn push_written(nodes: &mut Vec<Node>, literal: &Written) -> Result<u32, Resolve
     requires { AreNodes nodes.old.items }
     ensures grows { OnOk result (Grows nodes.old.items nodes.new.items) }
     ensures within { IfOk result (λ n. n < length nodes.new.items) }
+    ensures memory { FitsSigned w64 (number_value literal.now.number)
+        → IfErr result (λ e. e ≡ NoMemory) }
     ensures means { (source : Source) (block : BlockTree) (e : ExprTree)
         → literal_of e ≡ Some (written_tree literal.now)
         → IfOk result (λ n. Means source block nodes.old.items nodes.new.items n e) }
@@ -86,6 +93,7 @@ fn pad(nodes: &mut Vec<Node>, numbers: &mut Vec<u32>, count: usize) -> Result<()
     ensures grows { OnOk result (Grows nodes.old.items nodes.new.items) }
     ensures within { OnOk result (All (λ k. k < length nodes.new.items) numbers.new.items) }
     ensures enough { OnOk result (count ≤ length numbers.new.items) }
+    ensures memory { IfErr result (λ e. e ≡ NoMemory) }
     ensures args { (source : Source) (block : BlockTree) (base : List NodeOf) (es : ExprTrees)
         → AreArguments source block base nodes.old.items numbers.old.items es
         → OnOk result (AreArguments source block base nodes.new.items numbers.new.items es) }
@@ -122,6 +130,7 @@ impl<'p> Context<'p> {
         requires numbers { All (λ k. k < length nodes.old.items) numbers.items }
         ensures grows { OnOk result (Grows nodes.old.items nodes.new.items) }
         ensures within { IfOk result (λ n. n < length nodes.new.items) }
+        ensures memory { IfErr result (λ e. e ≡ NoMemory) }
         ensures means { (source : Source) (base : List NodeOf) (at : PlaceOf) (args : ExprTrees)
             → IsContext self.now source → expr_tree e.now ≡ std function at args
             → AreArguments source (block_in self.now) base nodes.old.items numbers.items args
@@ -145,6 +154,9 @@ impl<'p> Context<'p> {
         requires { AreNodes nodes.old.items }
         ensures grows { OnOk result (Grows nodes.old.items nodes.new.items) }
         ensures within { IfOk result (λ n. n < length nodes.new.items) }
+        ensures room { (source : Source) → IsContext self.now source
+            → HasRoom source (block_in self.now) → FitsExpr (expr_tree e.now)
+            → IfErr result (λ e. e ≡ NoMemory) }
         ensures means { (source : Source) → IsContext self.now source
             → IfOk result (λ n. Means source (block_in self.now) nodes.old.items nodes.new.items n
             (expr_tree e.now)) }
@@ -201,6 +213,9 @@ impl<'p> Context<'p> {
         requires { AreNodes nodes.old.items }
         ensures grows { OnOk result (Grows nodes.old.items nodes.new.items) }
         ensures within { IfOk result (IsOperand (length nodes.new.items)) }
+        ensures room { (source : Source) → IsContext self.now source
+            → HasRoom source (block_in self.now) → FitsOperand (operand_tree operand.now)
+            → IfErr result (λ e. e ≡ NoMemory) }
         ensures names { (source : Source) → IsContext self.now source
             → IfOk result (λ o. Names source (block_in self.now) nodes.old.items nodes.new.items o
             (operand_tree operand.now)) }
@@ -231,6 +246,11 @@ impl<'p> Context<'p> {
         ensures grows { OnOk result (Grows nodes.old.items nodes.new.items) }
         ensures spot { IfOk result (λ w. HasSpot w.begin) }
         ensures address { IfOk result (HasAddress nodes.new.items) }
+        ensures room { (source : Source) → IsContext self.now source
+            → HasRoom source (block_in self.now) → FitsStep (step_tree step.now)
+            → WalkRoomy source.project nodes.old.items walk.entry
+            → IfErr result (λ e. e ≡ NoMemory)
+            × IfOk result (WalkRoomy source.project nodes.new.items) }
         ensures leads { (source : Source) (base : List NodeOf) (root : RootOf)
             (so_far : List StepTree) → IsContext self.now source
             → IsWalk source (block_in self.now) base nodes.old.items walk.entry root

@@ -1,5 +1,5 @@
 //! The way along an operand's steps.
-ghost use Rattle.std.specs.Prelude.{◌≡◌, ℕ, List, ℤ, unsigned_abs, Option, Some, ◌<◌, length, IfOk, OnOk, IfSome};
+ghost use Rattle.std.specs.Prelude.{◌≡◌, ℕ, List, ℤ, unsigned_abs, Option, Some, ◌<◌, length, IfOk, IfErr, IsOk, OnOk, IfSome};
 ghost use Rattle.pv_place.specs.declared.place.Place.{Place as PlaceOf};
 ghost use Rattle.pv_types.specs.Tree.{plain, array};
 ghost use Rattle.pv_types.specs.View.{type_tree};
@@ -19,6 +19,10 @@ ghost use Rattle.pv_resolve.specs.Contexts.{IsContext};
 ghost use Rattle.pv_resolve.specs.Laying.{laid_tree};
 ghost use Rattle.pv_resolve.specs.declared.begin.Begin.TheVariants.{In};
 ghost use Rattle.pv_resolve.specs.Begins.{HasSpot, begin_at, begins_in, begins_further, begins_behind, walk_at, address_value};
+ghost use Rattle.pv_tree.specs.Rules.{KeepsRules};
+ghost use Rattle.pv_eval.specs.Order.{most_at};
+ghost use Rattle.pv_resolve.specs.declared.fault.ResolveFault.TheVariants.{NoMemory};
+ghost use Rattle.pv_resolve.specs.Rooms.{IsMostOf, BeginsRoomy, IsRoomy, WalkRoomy};
 ghost use Rattle.pv_resolve.specs.Growing.{Grows};
 ghost use Rattle.pv_resolve.specs.Walks.{IsWalk, HasAddress, number_and_index, GoesOn};
 
@@ -124,6 +128,9 @@ pub(crate) fn address_of(nodes: &mut Vec<Node>, walk: Walk) -> Result<u32, Resol
     requires address { IfSome walk.address (λ n. n < length nodes.old.items) }
     ensures grows { OnOk result (Grows nodes.old.items nodes.new.items) }
     ensures there { IfOk result (λ n. n < length nodes.new.items) }
+    ensures memory { IfErr result (λ e. e ≡ NoMemory) }
+    ensures most { (most : ℕ) → IsMostOf nodes.old.items walk.entry.address most
+        → IfOk result (λ n. most_at nodes.new.items n ≡ Some most) }
     ensures leads { (source : Source) (block : BlockTree) (base : List NodeOf) (root : RootOf)
         (more : StepTrees) → IsWalk source block base nodes.old.items walk.entry root more
         → IfOk result (λ n. IsWalk source block base nodes.new.items
@@ -143,6 +150,9 @@ impl<'p> Context<'p> {
             → begins_behind address a (begin_at b first)
             ≡ field_begins source (begins_behind address a (begin_at begin.entry first)) name.now.key) }
         ensures spot { IfOk result HasSpot }
+        ensures room { (source : Source) (more : ℕ) → IsContext self.now source
+            → KeepsRules source.project
+            → BeginsRoomy source.project more (begin_at begin.entry 0) → IsOk result }
     {
         match begin {
             Begin::In(part, laid) => {
@@ -170,6 +180,12 @@ impl<'p> Context<'p> {
         ensures grows { OnOk result (Grows nodes.old.items nodes.new.items) }
         ensures spot { IfOk result (λ w. HasSpot w.begin) }
         ensures address { IfOk result (HasAddress nodes.new.items) }
+        ensures room { (source : Source) (more : ℕ) (p : PlaceOf) → IsContext self.now source
+            → held_tree laid.entry.ty ≡ array bounds.entry.low bounds.entry.high
+            (type_tree bounds.entry.of.now) p → most_at nodes.old.items from ≡ Some more
+            → BeginsRoomy source.project more (begin_at (In part laid.entry) 0)
+            → IfErr result (λ e. e ≡ NoMemory)
+            × IfOk result (WalkRoomy source.project nodes.new.items) }
         ensures goes { (source : Source) (base : List NodeOf) (p : PlaceOf)
             (values : ℕ → Frame → Tried (List ℤ)) → IsContext self.now source
             → held_tree laid.entry.ty ≡ array bounds.entry.low bounds.entry.high
@@ -210,6 +226,11 @@ impl<'p> Context<'p> {
         ensures grows { OnOk result (Grows nodes.old.items nodes.new.items) }
         ensures spot { IfOk result (λ w. HasSpot w.begin) }
         ensures address { IfOk result (HasAddress nodes.new.items) }
+        ensures room { (source : Source) (more : ℕ) → IsContext self.now source
+            → most_at nodes.old.items from ≡ Some more
+            → BeginsRoomy source.project more (begin_at (In part laid.entry) 0)
+            → IfErr result (λ e. e ≡ NoMemory)
+            × IfOk result (WalkRoomy source.project nodes.new.items) }
         ensures goes { (source : Source) (base : List NodeOf)
             (values : ℕ → Frame → Tried (List ℤ)) → IsContext self.now source
             → Makes base nodes.old.items (λ first ws. number_and_index from index ws) values
@@ -251,6 +272,11 @@ impl<'p> Context<'p> {
         ensures grows { OnOk result (Grows nodes.old.items nodes.new.items) }
         ensures spot { IfOk result (λ w. HasSpot w.begin) }
         ensures address { IfOk result (HasAddress nodes.new.items) }
+        ensures room { (source : Source) (more : ℕ) → IsContext self.now source
+            → most_at nodes.old.items from ≡ Some more
+            → BeginsRoomy source.project more (begin_at begin.entry 0)
+            → IfErr result (λ e. e ≡ NoMemory)
+            × IfOk result (WalkRoomy source.project nodes.new.items) }
         ensures goes { (source : Source) (base : List NodeOf)
             (values : ℕ → Frame → Tried (List ℤ)) → IsContext self.now source
             → Makes base nodes.old.items (λ first ws. number_and_index from index ws) values

@@ -1,4 +1,7 @@
 use Rattle.pv_contracts_interpreter.proofs.names.expression.Goals as goal
 
-pub returns : goal.returns
-returns c = c.expression.ensures
+pub returns-clause-evaluates : goal.returns-clause-evaluates
+returns-clause-evaluates c = c.expression.ensures.evaluates
+
+pub returns-clause-room : goal.returns-clause-room
+returns-clause-room c = c.expression.ensures.room

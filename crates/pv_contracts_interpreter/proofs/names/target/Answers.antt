@@ -1,4 +1,7 @@
 use Rattle.pv_contracts_interpreter.proofs.names.target.Goals as goal
 
-pub returns : goal.returns
-returns c = c.target.ensures
+pub returns-clause-locates : goal.returns-clause-locates
+returns-clause-locates c = c.target.ensures.locates
+
+pub returns-clause-room : goal.returns-clause-room
+returns-clause-room c = c.target.ensures.room

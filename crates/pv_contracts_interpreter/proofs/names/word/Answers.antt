@@ -5,3 +5,6 @@ returns-clause-value c = c.word.ensures.value
 
 pub returns-clause-spot : goal.returns-clause-spot
 returns-clause-spot c = c.word.ensures.spot
+
+pub returns-clause-room : goal.returns-clause-room
+returns-clause-room c = c.word.ensures.room

@@ -13,4 +13,4 @@ pub returns-in-Ok : goal.returns-in-Ok
 returns-in-Ok c = λ source is entered.
     subst (λ (b : BlockTree). IfOk c.located.result
     (λ spot. locate source (activation b 0) bare (operand_tree c.args.operand.now) ≡ got (spot_of spot))) entered
-    (c.located.ensures source (block_in c.args.context.now) (operand_tree c.args.operand.now) (c.in-Ok.ensures source is))
+    (c.located.ensures source (block_in c.args.context.now) (operand_tree c.args.operand.now) (c.in-Ok.ensures.locates source is))

@@ -7,6 +7,6 @@ returns c = record {
     target = c.in_ok-target.target;
     at = c.in_ok-n.ensures.at;
     fits = c.in_ok-n.ensures.fits;
-    locates = c.in_ok-target.ensures source is;
+    locates = c.in_ok-target.ensures.locates source is;
   };
 }

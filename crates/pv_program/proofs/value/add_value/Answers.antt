@@ -7,6 +7,6 @@ returns c = record {
     expression = c.in_ok-value.value;
     at = c.in_ok-n.ensures.at;
     fits = c.in_ok-n.ensures.fits;
-    means = c.in_ok-value.ensures source is;
+    means = c.in_ok-value.ensures.evaluates source is;
   };
 }

@@ -7,11 +7,12 @@ push-requires-clause-follows c = c.node_of_function.ensures.follows _ c.requires
 
 pub returns : goal.returns
 returns c = record {
-  grows = IfOk-weaker c.push.result _ _ (λ n adds. added_grows _ _ _ n adds) c.push.ensures;
-  within = IfOk-weaker c.push.result _ _ (λ n adds. added_within _ _ _ n adds) c.push.ensures;
+  grows = IfOk-weaker c.push.result _ _ (λ n adds. added_grows _ _ _ n adds) c.push.ensures.adds;
+  within = IfOk-weaker c.push.result _ _ (λ n adds. added_within _ _ _ n adds) c.push.ensures.adds;
+  memory = c.push.ensures.memory;
   means = λ source block base e at args is type_is a.
       IfOk-weaker c.push.result _ _
       (λ k adds. function_means source block base _ _ c.args.numbers.now c.node_of_function.result k c.args.function c.args.ty at e args
       c.node_of_function.ensures is type_is a adds)
-      c.push.ensures;
+      c.push.ensures.adds;
 }

@@ -13,9 +13,10 @@ pub returns : goal.returns
 returns c =
     let fits : FitsSigned w64 c.args.v.now = search rules in
     record {
-      grows = IfOk-weaker c.push.result _ _ (λ n adds. added_grows _ _ _ n adds) c.push.ensures;
-      within = IfOk-weaker c.push.result _ _ (λ n adds. added_within _ _ _ n adds) c.push.ensures;
+      grows = IfOk-weaker c.push.result _ _ (λ n adds. added_grows _ _ _ n adds) c.push.ensures.adds;
+      within = IfOk-weaker c.push.result _ _ (λ n adds. added_within _ _ _ n adds) c.push.ensures.adds;
+      memory = c.push.ensures.memory;
       means = λ source block e w is same.
           IfOk-weaker c.push.result _ _
-          (λ n adds. literal_means source block _ _ n e w _ is (to_z-of_z w64 c.args.v.now fits ∙ same) adds) c.push.ensures;
+          (λ n adds. literal_means source block _ _ n e w _ is (to_z-of_z w64 c.args.v.now fits ∙ same) adds) c.push.ensures.adds;
     }

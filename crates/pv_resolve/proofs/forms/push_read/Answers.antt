@@ -7,9 +7,10 @@ push-requires-clause-follows c = record { below = c.requires.operand; most = tt 
 
 pub returns : goal.returns
 returns c = record {
-  grows = IfOk-weaker c.push.result _ _ (λ n adds. added_grows _ _ _ n adds) c.push.ensures;
-  within = IfOk-weaker c.push.result _ _ (λ n adds. added_within _ _ _ n adds) c.push.ensures;
+  grows = IfOk-weaker c.push.result _ _ (λ n adds. added_grows _ _ _ n adds) c.push.ensures.adds;
+  within = IfOk-weaker c.push.result _ _ (λ n adds. added_within _ _ _ n adds) c.push.ensures.adds;
+  memory = c.push.ensures.memory;
   means = λ source block base e o is at names.
       IfOk-weaker c.push.result _ _
-      (λ n adds. read_means_of source block base _ _ c.args.from e o c.args.place n is at names adds) c.push.ensures;
+      (λ n adds. read_means_of source block base _ _ c.args.from e o c.args.place n is at names adds) c.push.ensures.adds;
 }

@@ -3,8 +3,8 @@ use Rattle.pv_eval.specs.Order.{AreNodes}
 use Rattle.pv_resolve.proofs.Ordered.{ordered_push}
 use Rattle.pv_resolve.proofs.growing.push.Goals as goal
 
-pub returns : goal.returns
-returns c =
+pub returns-clause-adds : goal.returns-clause-adds
+returns-clause-adds c =
     let grown : c.push.new.self.items ≡ c.args.nodes.now.items ++ c.args.node ∷ [] = c.in_ok-push.ensures.items in
     record {
       nodes = grown;

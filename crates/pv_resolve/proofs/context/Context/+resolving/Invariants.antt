@@ -1,5 +1,8 @@
 use Rattle.std.proofs.Common.{map, take}
-use Rattle.pv_tree.specs.View.{expr_tree, step_tree}
+use Rattle.pv_tree.specs.View.{expr_tree, step_tree, operand_tree}
+use Rattle.pv_mean.specs.Sources.{Source}
+use Rattle.pv_resolve.specs.Contexts.{IsContext, block_in}
+use Rattle.pv_resolve.specs.Rooms.{HasRoom, FitsOperand, WalkRoomy}
 use Rattle.pv_resolve.proofs.Loops.{HasArguments, HasWalked}
 use Rattle.pv_resolve.proofs.context.Context.+resolving.Given as goal
 
@@ -8,5 +11,8 @@ invariant-expr-loop-arg l =
     HasArguments l.self l.fn.nodes.items l.nodes.items l.numbers.items (map expr_tree (take l.arg-index l.arg-items))
 
 abbrev pub invariant-operand-loop-step : goal.invariant-operand-loop-step
-invariant-operand-loop-step l =
-    HasWalked l.self l.fn.nodes.items l.nodes.items l.walk l.operand.root (map step_tree (take l.step-index l.step-items))
+invariant-operand-loop-step l = record {
+  walked : HasWalked l.self l.fn.nodes.items l.nodes.items l.walk l.operand.root (map step_tree (take l.step-index l.step-items));
+  room : (source : Source) → IsContext l.self source → HasRoom source (block_in l.self) → FitsOperand (operand_tree l.operand)
+      → WalkRoomy source.project l.nodes.items l.walk;
+}

@@ -17,3 +17,7 @@ pub returns-in-None-clause-value : goal.returns-in-None-clause-value
 returns-in-None-clause-value c =
     λ source first is. unheld_block source (block_tree c.block-block.result.now) c.in-None.ensures
     ∙ ap (block_begins source) c.block-block.ensures
+
+pub returns-in-Some-clause-room : goal.returns-in-Some-clause-room
+returns-in-Some-clause-room c =
+    λ source is h. c.data_block.ensures.room source is h

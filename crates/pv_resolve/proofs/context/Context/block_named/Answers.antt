@@ -16,3 +16,7 @@ returns-in-Some-clause-value c =
 pub returns-in-None-clause-value : goal.returns-in-None-clause-value
 returns-in-None-clause-value c =
     λ source first is. block_missing c.args.self.now source c.args.name.now.key (at nowhere) (at nowhere) is c.in-None.ensures refl
+
+pub returns-in-Some-clause-room : goal.returns-in-Some-clause-room
+returns-in-Some-clause-room c =
+    λ source is h. c.block.ensures.room source is h

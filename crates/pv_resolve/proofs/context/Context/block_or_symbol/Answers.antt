@@ -19,3 +19,11 @@ returns-in-None-clause-value c =
     block_missing c.args.self.now source c.args.name.now.key (begin_at b first) (symbol_or_none source (first_symbol source.project.symbols c.args.name.now.key)) is
     c.in-None.ensures e)
     (c.symbol.ensures.value source first is)
+
+pub returns-in-Some-clause-room : goal.returns-in-Some-clause-room
+returns-in-Some-clause-room c =
+    λ source is h. c.block.ensures.room source is h
+
+pub returns-in-None-clause-room : goal.returns-in-None-clause-room
+returns-in-None-clause-room c =
+    λ source is h. c.symbol.ensures.room source is h

@@ -3,6 +3,9 @@ use Rattle.std.proofs.lemmas.Result.{IfOk-weaker}
 use Rattle.pv_tree.specs.View.{block_tree}
 use Rattle.pv_resolve.specs.Begins.{begin_at}
 use Rattle.pv_resolve.proofs.Naming.{brief_cells, own_cells}
+use Rattle.pv_resolve.specs.Contexts.{block_in}
+use Rattle.pv_resolve.proofs.Nears.{roomy_near}
+use Rattle.pv_resolve.proofs.Roots.{brief_var_roomy, own_roomy}
 use Rattle.pv_resolve.proofs.context.Context.cells_of.Goals as goal
 
 pub returns-then-has-clause-value : goal.returns-then-has-clause-value
@@ -20,3 +23,11 @@ returns-else-has-clause-value c =
     (begin_at b first) c.block-block.ensures
     (c.has.ensures ∙ c.activation_part.ensures (block_tree c.block-block.result.now) c.args.section refl) c.if-has.false e)
     (c.own.ensures.value source first is)
+
+pub returns-then-has-clause-room : goal.returns-then-has-clause-room
+returns-then-has-clause-room c =
+    λ source is h. c.brief.ensures.near source is (roomy_near source.project 0 _ (brief_var_roomy source (block_in c.args.self.now) h c.args.name.now.key))
+
+pub returns-else-has-clause-room : goal.returns-else-has-clause-room
+returns-else-has-clause-room c =
+    λ source is h. c.own.ensures.near source is (roomy_near source.project 0 _ (own_roomy source (block_in c.args.self.now) h c.args.name.now.key))

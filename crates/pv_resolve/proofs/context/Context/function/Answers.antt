@@ -4,6 +4,7 @@ use Rattle.pv_tree.specs.View.{expr_tree}
 use Rattle.pv_resolve.specs.Contexts.{block_in}
 use Rattle.pv_resolve.specs.Functions.{AreArguments}
 use Rattle.pv_resolve.proofs.FormLaws.{grows_twice}
+use Rattle.pv_resolve.proofs.Fits.{failed}
 use Rattle.pv_resolve.proofs.context.Context.function.Goals as goal
 
 pub returns-clause-grows : goal.returns-clause-grows
@@ -16,3 +17,11 @@ returns-clause-means c =
     (c.in_ok-ty.ensures source is)
     (subst (λ ns. AreArguments source (block_in c.args.self.now) base c.pad.new.nodes.items ns args) (sym c.as_slice.ensures.value)
     (c.in_ok-pad.ensures.args source (block_in c.args.self.now) base args a))
+
+pub returns-in_err-pad-clause-memory : goal.returns-in_err-pad-clause-memory
+returns-in_err-pad-clause-memory c =
+    failed _ _ c.from_residual.ensures.1 c.in_err-pad.ensures.memory
+
+pub returns-clause-memory : goal.returns-clause-memory
+returns-clause-memory c =
+    c.push_function.ensures.memory

@@ -25,3 +25,11 @@ returns-in-None-clause-value c =
     (block_or source (first_block source.project.blocks c.args.name.now.key) (symbol_or_none source (first_symbol source.project.symbols c.args.name.now.key)))
     (quoted_value_seen (block_in c.args.self.now) (block_tree c.block.result.now) c.args.name.now.key None c.block.ensures c.in-None.ensures) e)
     (c.block_or_symbol.ensures.value source first is)
+
+pub returns-in-Some-clause-room : goal.returns-in-Some-clause-room
+returns-in-Some-clause-room c =
+    λ source is h. c.value.ensures.room source is h
+
+pub returns-in-None-clause-room : goal.returns-in-None-clause-room
+returns-in-None-clause-room c =
+    λ source is h. c.block_or_symbol.ensures.room source is h

@@ -24,3 +24,15 @@ returns-in-Area-clause-value c =
     λ source first is. IfOk-weaker c.area.result _ _ (λ b e.
     area_begins source (activation (block_in c.args.self.now) first) c.args.root.now _ c.in-Area.bits _ _ (begin_at b first) c.in-Area.is e)
     (c.area.ensures.value source first is)
+
+pub returns-in-Local-clause-room : goal.returns-in-Local-clause-room
+returns-in-Local-clause-room c =
+    λ source is h fits. c.word.ensures.room source is h
+
+pub returns-in-Named-clause-room : goal.returns-in-Named-clause-room
+returns-in-Named-clause-room c =
+    λ source is h fits. c.name.ensures.room source is h
+
+pub returns-in-Area-clause-room : goal.returns-in-Area-clause-room
+returns-in-Area-clause-room c =
+    λ source is h fits. c.area.ensures.room source is h fits

@@ -33,3 +33,11 @@ returns-else-hash-clause-value c =
     (own_value_seen (block_in c.args.self.now) (block_tree c.block.result.now) c.args.name.now.key c.args.hash None c.block.ensures c.in-None.ensures)
     (hash_other c.args.hash (begin_at b first) (block_or source (first_block source.project.blocks c.args.name.now.key) (at nowhere)) c.if-hash.false e))
     (c.block_named.ensures.value source first is)
+
+pub returns-in-Some-clause-room : goal.returns-in-Some-clause-room
+returns-in-Some-clause-room c =
+    λ source is h. c.value.ensures.room source is h
+
+pub returns-else-hash-clause-room : goal.returns-else-hash-clause-room
+returns-else-hash-clause-room c =
+    λ source is h. c.block_named.ensures.room source is h
