@@ -6,3 +6,4 @@ pub mod Parts
 pub mod Things
 pub mod Broken
 pub mod Stops
+pub mod ForCallers

@@ -1,10 +1,12 @@
 -- What holds of the places of tokens holds of each place that the tree keeps which they spell: expressions, calls and statements.
 use Prim.Native.String.{String}
-use Rattle.std.proofs.Common.{◌≡◌, inl, inr, List, [], ◌∷◌, Option, Some, None, true, false, sym, ap, subst}
-use Rattle.std.specs.Prelude.{unwrap_or, Bool as Truth}
+use Rattle.std.proofs.Common.{◌≡◌, inl, inr, ℕ, List, [], ◌∷◌, Option, Some, None, true, false, refl, sym, ap, subst}
+use Rattle.std.specs.Prelude.{unwrap_or, drop, if◌then◌else◌, Bool as Truth}
 use Rattle.std.specs.List.{AllByRecursion}
 use Rattle.std.proofs.lemmas.Option.{none-some}
 use Rattle.pv_place.specs.declared.place.Place.{Place}
+use Rattle.pv_lex.specs.declared.class.Class.TheVariants.{Either}
+use Rattle.pv_lex.specs.Shapes.{begins}
 use Rattle.pv_types.specs.declared.name.Name.{Name}
 use Rattle.pv_types.specs.declared.declaration.Literal.{Literal}
 use Rattle.pv_tree.specs.declared.expr.Root.{Root}
@@ -14,11 +16,11 @@ use Rattle.pv_tree.specs.declared.stmt.Choice.TheVariants.{Lit, Const}
 use Rattle.pv_tree.specs.Tree.{PlacedName, ExprTree, lit, read, unary, binary, std, paren, ExprTrees, no_exprs, exprs, OperandTree, operand, StepTree, field, index, StepTrees, no_steps, steps, ArgTree, CallPlain, Choices, StmtTree, assign, assign_call, if_, case_, for_, while_, repeat_, exit_, continue_, return_, call_, empty_, StmtTrees, no_stmts, stmts, ArmTrees, no_arms, arms, BranchTrees, no_branches, branches, ElseTree, no_else, else_}
 use Rattle.pv_tree.specs.Lexemes.{Lexeme, Form, first_place, IsAt, IsOne, IsJoined, each_behind, listed}
 use Rattle.pv_tree.specs.Words.{SpellsFirm, SpellsName}
-use Rattle.pv_tree.specs.Literals.{SpellsNumber, SpellsLiteral}
+use Rattle.pv_tree.specs.Literals.{SpellsNumber, SpellsLiteral, bare_address, address_bits}
 use Rattle.pv_tree.specs.Expressions.{SpellsRoot, SpellsExpr, SpellsArguments, SpellsOperand, SpellsSteps, SpellsStep}
 use Rattle.pv_tree.specs.Calls.{SpellsArrow, SpellsNamed, SpellsArg, SpellsArgs, SpellsCalled, SpellsBase, SpellsCall}
 use Rattle.pv_tree.specs.Statements.{SpellsChoice, SpellsUpTo, SpellsRange, SpellsBy, SpellsStmt, SpellsEnd, SpellsStmts, SpellsArmWord, SpellsArms, SpellsBranches, SpellsElse}
-use Rattle.pv_laws_places.specs.Kept.{EachOfName, EachOfLiteral, EachOfRoot, EachOfExpr, EachOfExprs, EachOfOperand, EachOfSteps, EachOfStep, EachOfArg, EachOfCall, EachOfChoice, EachOfUpper, EachOfRange, EachOfChoices, EachOfStmt, EachOfStmts, EachOfArms, EachOfBranches, EachOfElse}
+use Rattle.pv_laws_places.specs.Kept.{IsWidth, EachOfName, EachOfLiteral, EachOfRoot, EachOfExpr, EachOfExprs, EachOfOperand, EachOfSteps, EachOfStep, EachOfArg, EachOfCall, EachOfChoice, EachOfUpper, EachOfRange, EachOfChoices, EachOfStmt, EachOfStmts, EachOfArms, EachOfBranches, EachOfElse}
 use Rattle.pv_laws_places.proofs.Lists.{each-front, each-behind}
 
 -- the place of each token is so
@@ -61,6 +63,16 @@ at-literal P l ts (inr d) s = at-one P l.place ts d s
 
 -- ---- expressions
 
+-- the letter behind an area's says how wide an address is
+address-width : (text : List ℕ) → IsWidth (address_bits text)
+address-width text = lead (begins (Either 66 98) (drop 1 text)) (begins (Either 87 119) (drop 1 text)) (begins (Either 68 100) (drop 1 text))
+  where
+    lead : (b w d : Truth) → IsWidth (if b then 8 else (if w then 16 else (if d then 32 else 1)))
+    lead true w d = inr (inl refl)
+    lead false true d = inr (inr (inl refl))
+    lead false false true = inr (inr (inr refl))
+    lead false false false = inl refl
+
 root-first : (P : Place → Type 0) (root : Root) (place : Place) (ts : List Lexeme) → SpellsRoot root place ts → Stand P ts
     → P place × EachOfRoot P root
 root-first P (Local name true at) place ts d s =
@@ -68,7 +80,8 @@ root-first P (Local name true at) place ts d s =
 root-first P (Local name false at) place ts d s =
     (at-one P place ts d s, subst P d.is.is.at (subst (Stand P) d.alone s).0)
 root-first P (Named name) place ts d s = (at-firm P name place ts d s, tt)
-root-first P (Area area bits byte bit) place ts d s = (at-one P place ts d s, tt)
+root-first P (Area area bits byte bit) place ts d s =
+    (at-one P place ts d s, subst IsWidth (sym d.is.is.of_bits) (address-width (bare_address d.token.bytes)))
 
 mutual
   pub each-expr : (P : Place → Type 0) (e : ExprTree) (ts : List Lexeme) → SpellsExpr e ts → Stand P ts → EachOfExpr P e

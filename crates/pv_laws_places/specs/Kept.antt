@@ -1,5 +1,5 @@
--- The places that a tree keeps, all of them: `EachOf..` says that each one is so.
-use Rattle.std.specs.Prelude.{⊤, Option, Some, None, List}
+-- The places that a tree keeps, all of them: `EachOf..` says that each one is so, and that addresses have the widths that texts give them.
+use Rattle.std.specs.Prelude.{◌≡◌, ◌⊎◌, ℕ, ⊤, Option, Some, None, List}
 use Rattle.std.specs.List.{AllByRecursion}
 use Rattle.pv_place.specs.declared.place.Place.{Place}
 use Rattle.pv_types.specs.declared.declaration.Literal.{Literal}
@@ -23,10 +23,14 @@ abbrev pub EachOfLiteral : (Place → Type 0) → Option Literal → Type 0
 EachOfLiteral P None = ⊤
 EachOfLiteral P (Some literal) = P literal.place
 
+-- the bits of an address: one, or those of a byte, a word or a double word
+abbrev pub IsWidth : ℕ → Type 0
+IsWidth bits = (bits ≡ 1) ⊎ ((bits ≡ 8) ⊎ ((bits ≡ 16) ⊎ (bits ≡ 32)))
+
 abbrev pub EachOfRoot : (Place → Type 0) → Root → Type 0
 EachOfRoot P (Local name hash place) = P place
 EachOfRoot P (Named name) = ⊤
-EachOfRoot P (Area area bits byte bit) = ⊤
+EachOfRoot P (Area area bits byte bit) = IsWidth bits
 
 abbrev mutual
   pub EachOfExpr : (Place → Type 0) → ExprTree → Type 0

@@ -1,0 +1,5 @@
+mod Fitting
+mod Bodied
+mod Reaching
+mod Roomy
+pub mod ForCallers

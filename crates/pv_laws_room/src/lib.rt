@@ -1,0 +1,6 @@
+//! Where a block has room.
+//!
+//! The definitions stand in `specs/`; each law is the contract of a function that does nothing.
+#![tactic(auto)]
+
+pub mod laws;

@@ -1,0 +1,3 @@
+mod Widths
+mod Functions
+pub mod ForCallers
