@@ -8,3 +8,5 @@ mod Numbering
 mod Filling
 mod Finding
 mod Listing
+mod Roomy
+mod Bounded

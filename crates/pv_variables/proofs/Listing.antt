@@ -1,6 +1,6 @@
 -- Variables that are put behind others, leaf by leaf and cell by cell, are those that the definition lists.
 use Rattle.std.proofs.Common.{◌≡◌, ◌<◌, ℕ, zero, suc, ◌+◌, ◌-◌, List, [], ◌∷◌, ◌++◌, map, drop, get_or, length, cond, append_assoc, refl, sym, ap, ◌∙◌, add-one, arith}
-use Rattle.std.specs.Prelude.{take, filter, flat_map, Bool as Truth, true, false, ◌&&◌, not, if◌then◌else◌}
+use Rattle.std.specs.Prelude.{take, filter, flat_map, Bool as Truth, true, false, not, if◌then◌else◌}
 use Rattle.std.proofs.Math.Seq.{drop-cons}
 use Rattle.std.proofs.lemmas.List.{append-nil, map-append}
 use Rattle.pv_place.specs.declared.role.Role.TheVariants.{Kept, Brief}

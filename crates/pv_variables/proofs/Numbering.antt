@@ -1,5 +1,5 @@
 -- The numbers of brief cells, as they are found variable by variable, are those of the definition.
-use Rattle.std.proofs.Common.{◌≡◌, ◌<◌, ℕ, zero, suc, ◌+◌, ◌-◌, ◌*◌, List, [], ◌∷◌, ◌++◌, length, Some, refl, sym, ap, ◌∙◌, arith}
+use Rattle.std.proofs.Common.{◌≡◌, ◌<◌, ℕ, zero, suc, ◌+◌, ◌-◌, ◌*◌, List, [], ◌∷◌, ◌++◌, length, Some, refl, sym, ap, subst, ◌∙◌, arith}
 use Rattle.std.specs.Prelude.{nat_lt, slice_get, Bool as Truth, true, false, ◌&&◌, not, if◌then◌else◌}
 use Rattle.std.proofs.lemmas.Bool.{ltb-true, ltb-false}
 use Rattle.std.proofs.lemmas.List.{length-append, length-drop}
@@ -220,6 +220,29 @@ numbers_are source block b own start next mid final same none is_own found last 
         ∙ ap (λ (x : BlockTree). with_variables source.project x x.vars (found_so_far [] start)) same
         ∙ ap (λ (n : ℕ). with_variables source.project block block.vars (record { cells = []; bound = n; own = start.own })) none
         ∙ ap (λ (n : ℕ). with_variables source.project block block.vars (record { cells = []; bound = 0; own = n })) is_own
+
+-- and no others
+pub counts_are : (source : Source) (block b : BlockTree) (start next : Next) (mid final : List ℕ) → b ≡ block
+    → found_so_far mid next ≡ with_variables source.project b b.vars (found_so_far [] start)
+    → final ≡ mid ++ two_apart (value_count b) next.bound
+    → length final ≡ value_number source block + value_count block
+counts_are source block b start next mid final same found last =
+    subst (λ (x : BlockTree). length final ≡ value_number source x + value_count x) same (omega (arith, l, a, m, c, t))
+  where
+    l : length final ≡ length (mid ++ two_apart (value_count b) next.bound)
+    l = ap length last
+
+    a : length (mid ++ two_apart (value_count b) next.bound) ≡ length mid + length (two_apart (value_count b) next.bound)
+    a = length-append mid (two_apart (value_count b) next.bound)
+
+    m : length mid ≡ length (with_variables source.project b b.vars (found_so_far [] start)).cells
+    m = ap (λ (f : Found). length f.cells) found
+
+    c : length (with_variables source.project b b.vars (found_so_far [] start)).cells ≡ 0 + value_number source b
+    c = counted source.project b b.vars (found_so_far [] start)
+
+    t : length (two_apart (value_count b) next.bound) ≡ value_count b
+    t = length-two (value_count b) next.bound
 
 pub shared_is : (source : Source) (cells : List Cell) (v first s : ℕ) → source.cells ≡ cells → v ≡ visible_len cells
     → first ≡ entry_size source.project source.entry → s ≡ v - first → s ≡ shared_count source

@@ -1,14 +1,16 @@
 -- What the code finds of a name, as where it begins.
-use Rattle.std.specs.Prelude.{◌≡◌, ℕ, ◌+◌, ◌*◌, ℤ, ◌-ℤ◌, unsigned_abs, int_le, ◌&&◌, if◌then◌else◌, Option, Some, None}
+use Rattle.std.specs.Prelude.{◌≡◌, ◌<◌, ◌^◌, ℕ, ◌+◌, ◌*◌, ℤ, ◌-ℤ◌, unsigned_abs, int_le, ◌&&◌, if◌then◌else◌, Option, Some, None}
 use Rattle.pv_tree.specs.Scopes.{ProjectTree}
 use Rattle.pv_mean.specs.Layout.{Laid, size_in}
 use Rattle.pv_mean.specs.Spots.{nowhere}
-use Rattle.pv_eval.specs.Operands.{spot_of}
+use Rattle.pv_eval.specs.Operands.{spot_of, span}
 use Rattle.pv_resolve.specs.declared.begin.Begin.{Begin}
 use Rattle.pv_resolve.specs.declared.begin.Begin.TheVariants.{In, At}
 use Rattle.pv_resolve.specs.declared.begin.Where.{Where}
 use Rattle.pv_resolve.specs.declared.begin.Where.TheVariants.{Own, Visible, Brief}
 use Rattle.pv_resolve.specs.Laying.{laid_tree}
+use Rattle.pv_resolve.specs.Begins.{begin_at}
+use Rattle.pv_resolve.specs.Rooms.{BeginsRoomy}
 use Rattle.pv_variables.specs.declared.begun.Elements.{Elements as CodeElements}
 use Rattle.pv_variables.specs.Origins.{Origin, Elements, in_instance, in_table, in_activation, at_spot}
 
@@ -45,3 +47,8 @@ IsElements project None None = Unit {0}
 IsElements project None (Some code) = ⊥
 IsElements project (Some e) None = ⊥
 IsElements project (Some e) (Some code) = AreElements project e code
+
+-- they lie within what a table may have, also so many cells further, wherever the index says
+pub record ElementsLie (project : ProjectTree) (more : ℕ) (code : CodeElements) : Type 0 where
+  pub few : unsigned_abs (code.high -ℤ code.low) < 2 ^ 32
+  pub head : BeginsRoomy project (more + span code.low code.high code.stride) (begin_at code.head 0)

@@ -1,5 +1,5 @@
 -- The code's numbers of a block's variables.
-use Rattle.std.specs.Prelude.{◌≡◌, ℕ, zero, suc, ◌+◌, ◌<◌, ◌≤◌, List, [], ◌∷◌, ◌++◌, Bool as Truth, not, if◌then◌else◌, Some, slice_get}
+use Rattle.std.specs.Prelude.{◌≡◌, ℕ, zero, suc, ◌+◌, ◌^◌, ◌<◌, ◌≤◌, List, [], ◌∷◌, ◌++◌, length, Bool as Truth, not, if◌then◌else◌, Some, slice_get}
 use Rattle.pv_types.specs.Tree.{VarTree, var}
 use Rattle.pv_tree.specs.Tree.{BlockTree}
 use Rattle.pv_tree.specs.Scopes.{ProjectTree}
@@ -13,11 +13,12 @@ use Rattle.pv_variables.specs.Variables.{is_bound_in, behind, bound_count, share
 use Rattle.pv_variables.specs.declared.numbers.Numbers.{Numbers}
 use Rattle.pv_variables.specs.declared.numbers.Next.{Next}
 
--- they are those of the block; each brief cell that an operand may name has one, and the registers are behind its own
+-- they are those of the block; each brief cell that an operand may name has one, and no other, and the registers are behind its own
 pub record AreNumbers (n : Numbers) (source : Source) (block : BlockTree) : Type 0 where
   pub bound : n.bound ≡ bound_count source block
   pub shared : n.shared ≡ shared_count source
   pub entry : n.entry ≡ entry_size source.project source.entry
+  pub count : length n.briefs.items ≡ value_number source block + value_count block
   pub cells : (j : ℕ) → j < value_number source block + value_count block
       → slice_get n.briefs.items j ≡ Some (brief_variable source block j)
   pub registers : n.registers ≡ registers_first source block
@@ -37,6 +38,11 @@ pub record Found : Type 0 where
 
 abbrev pub found_so_far : List ℕ → Next → Found
 found_so_far cells next = record { cells = cells; bound = next.bound; own = next.own }
+
+-- 32 bits hold the next numbers
+pub record HasNext (f : Found) : Type 0 where
+  pub bound : f.bound < 2 ^ 32
+  pub own : f.own < 2 ^ 32
 
 abbrev pub with_cells : Truth → ℕ → Found → Found
 with_cells is_bound size f = record {

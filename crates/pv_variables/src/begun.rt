@@ -1,14 +1,16 @@
 //! Where names begin, and steps behind them, as the definitions have them apart from the activation.
-ghost use Rattle.std.specs.Prelude.{◌≡◌, ◌+◌, ◌*◌, ◌-ℤ◌, ◌&&◌, int_le, unsigned_abs, IfOk, IfSome};
+ghost use Rattle.std.specs.Prelude.{◌≡◌, ◌<◌, ◌+◌, ◌*◌, ◌^◌, ◌-ℤ◌, ◌&&◌, ℕ, true, int_le, unsigned_abs, IfOk, IfSome, IsOk, IsOkAnd};
 ghost use Rattle.pv_tree.specs.Scopes.{ProjectTree};
 ghost use Rattle.pv_mean.specs.Sources.{Source};
 ghost use Rattle.pv_resolve.specs.declared.begin.Begin.TheVariants.{In};
-ghost use Rattle.pv_resolve.specs.Begins.{HasSpot};
+ghost use Rattle.pv_tree.specs.Rules.{KeepsRules};
+ghost use Rattle.pv_resolve.specs.Begins.{HasSpot, begin_at};
+ghost use Rattle.pv_resolve.specs.Rooms.{HasRoom, FitsRoot, BeginsRoomy};
 ghost use Rattle.pv_resolve.specs.Contexts.{IsContext, block_in};
-ghost use Rattle.pv_variables.specs.Begun.{origin_of, origin_moved, code_element, IsElements};
+ghost use Rattle.pv_variables.specs.Begun.{origin_of, origin_moved, code_element, IsElements, ElementsLie};
 ghost use Rattle.pv_variables.specs.Origins as origins;
 
-use crate::count::{added, size_of};
+use crate::count::size_of;
 use pv_eval::Spot;
 use pv_names::{Held, level_of};
 use pv_resolve::{Begin, Context, LaidLevel, ResolveFault, Where};
@@ -29,6 +31,9 @@ pub fn placed<'p>(context: &Context<'p>, root: &Root) -> Result<Begin<'p>, Resol
     ensures value { (source : Source) → IsContext context.now source
         → IfOk result (λ b. origin_of b ≡ origins.placed source (block_in context.now) root.now) }
     ensures spot { IfOk result HasSpot }
+    ensures room { (source : Source) → IsContext context.now source
+        → HasRoom source (block_in context.now) → FitsRoot root.now
+        → IsOkAnd result (λ b. BeginsRoomy source.project 0 (begin_at b 0)) }
 {
     context.root(root)
 }
@@ -43,6 +48,9 @@ pub fn field_placed<'p>(
         → IfOk result (λ b. origin_of b
         ≡ origins.field_placed source.project (origin_of begin.entry) name.now.key) }
     ensures spot { IfOk result HasSpot }
+    ensures room { (source : Source) (more : ℕ) → IsContext context.now source
+        → KeepsRules source.project → BeginsRoomy source.project more (begin_at begin.entry 0)
+        → IsOkAnd result (λ b. BeginsRoomy source.project more (begin_at b 0)) }
 {
     context.field(begin, name)
 }
@@ -56,6 +64,9 @@ fn elements_in<'p>(
     ensures value { (source : Source) → IsContext context.now source
         → IfOk result (IsElements source.project (origins.elements_placed (origin_of (In part laid.entry)))) }
     ensures spot { IfOk result (λ o. IfSome o (λ e. HasSpot e.head)) }
+    ensures room { (source : Source) (more : ℕ) → IsContext context.now source
+        → BeginsRoomy source.project more (begin_at (In part laid.entry) 0)
+        → IsOkAnd result (λ o. IfSome o (ElementsLie source.project more)) }
 {
     match laid.ty {
         Held::Array { low, high, of, .. } => {
@@ -81,6 +92,9 @@ pub fn elements_placed<'p>(
     ensures value { (source : Source) → IsContext context.now source
         → IfOk result (IsElements source.project (origins.elements_placed (origin_of begin.entry))) }
     ensures spot { IfOk result (λ o. IfSome o (λ e. HasSpot e.head)) }
+    ensures room { (source : Source) (more : ℕ) → IsContext context.now source
+        → BeginsRoomy source.project more (begin_at begin.entry 0)
+        → IsOkAnd result (λ o. IfSome o (ElementsLie source.project more)) }
 {
     match begin {
         Begin::In(part, laid) => elements_in(context, part, laid),
@@ -90,13 +104,17 @@ pub fn elements_placed<'p>(
 
 /// So many cells further, where 32 bits hold the number.
 fn moved(first: u32, steps: u128, stride: u32) -> Result<u32, ResolveFault>
-    ensures { IfOk result (λ n. n ≡ first + steps * stride) }
+    ensures value { IfOk result (λ n. n ≡ first + steps * stride) }
+    ensures room { steps < 2 ^ 32 → first + steps * stride < 2 ^ 32 → IsOk result }
 {
     let Ok(few) = u32::try_from(steps) else {
         return Err(ResolveFault::TooLarge);
     };
-    match few.checked_mul(stride) {
-        Some(behind) => added(first, behind),
+    let Some(behind) = few.checked_mul(stride) else {
+        return Err(ResolveFault::TooLarge);
+    };
+    match first.checked_add(behind) {
+        Some(n) => Ok(n),
         None => Err(ResolveFault::TooLarge),
     }
 }
@@ -106,6 +124,9 @@ fn element_in<'p>(elements: &Elements<'p>, index: &i128) -> Result<Begin<'p>, Re
     ensures value { IfOk result (λ b. origin_of b
         ≡ origin_moved (unsigned_abs (index.now -ℤ elements.now.low) * elements.now.stride) (origin_of elements.now.head)) }
     ensures spot { HasSpot elements.now.head → IfOk result HasSpot }
+    ensures room { (project : ProjectTree) (more : ℕ) → ElementsLie project more elements.now
+        → int_le elements.now.low index.now && int_le index.now elements.now.high ≡ true
+        → IsOkAnd result (λ b. BeginsRoomy project more (begin_at b 0)) }
 {
     match elements.head {
         Begin::In(part, laid) => {
@@ -128,6 +149,8 @@ fn lies_between(low: &i128, index: &i128, high: &i128) -> bool
 fn element_among<'p>(elements: &Elements<'p>, index: &i128) -> Result<Begin<'p>, ResolveFault>
     ensures value { IfOk result (λ b. origin_of b ≡ code_element elements.now index.now) }
     ensures spot { HasSpot elements.now.head → IfOk result HasSpot }
+    ensures room { (project : ProjectTree) (more : ℕ) → ElementsLie project more elements.now
+        → IsOkAnd result (λ b. BeginsRoomy project more (begin_at b 0)) }
 {
     if lies_between(&elements.low, index, &elements.high) {
         element_in(elements, index)
@@ -141,6 +164,8 @@ fn element_of<'p>(found: Option<Elements<'p>>, index: &i128) -> Result<Begin<'p>
     ensures value { (project : ProjectTree) (o : origins.Origin) → IsElements project (origins.elements_placed o) found.entry
         → IfOk result (λ b. origin_of b ≡ origins.element_placed project o index.now) }
     ensures spot { IfSome found.entry (λ e. HasSpot e.head) → IfOk result HasSpot }
+    ensures room { (project : ProjectTree) (more : ℕ) → IfSome found.entry (ElementsLie project more)
+        → IsOkAnd result (λ b. BeginsRoomy project more (begin_at b 0)) }
 {
     match found {
         Some(elements) => element_among(&elements, index),
@@ -158,6 +183,9 @@ pub fn element_placed<'p>(
         → IfOk result (λ b. origin_of b
         ≡ origins.element_placed source.project (origin_of begin.entry) index.now) }
     ensures spot { IfOk result HasSpot }
+    ensures room { (source : Source) (more : ℕ) → IsContext context.now source
+        → BeginsRoomy source.project more (begin_at begin.entry 0)
+        → IsOkAnd result (λ b. BeginsRoomy source.project more (begin_at b 0)) }
 {
     let found = elements_placed(context, begin)?;
     element_of(found, index)

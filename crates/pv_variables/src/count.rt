@@ -1,5 +1,6 @@
 //! Numbers of cells and of variables, exact or refused.
-ghost use Rattle.std.specs.Prelude.{◌≡◌, ◌+◌, ◌*◌, IfOk, not, if◌then◌else◌};
+ghost use Rattle.std.specs.Prelude.{◌≡◌, ◌<◌, ◌+◌, ◌*◌, ◌^◌, IfOk, IsOk, not, if◌then◌else◌};
+ghost use Rattle.pv_mean.specs.declared.count.TheConstants.{BEYOND};
 ghost use Rattle.pv_types.specs.View.{type_tree};
 ghost use Rattle.pv_tree.specs.View.{block_tree};
 ghost use Rattle.pv_mean.specs.Layout as layout;
@@ -16,7 +17,8 @@ use pv_types::DeclType;
 
 /// The sum, where 32 bits hold it.
 pub(crate) fn added(a: u32, b: u32) -> Result<u32, ResolveFault>
-    ensures { IfOk result (λ n. n ≡ a + b) }
+    ensures value { IfOk result (λ n. n ≡ a + b) }
+    ensures room { a + b < 2 ^ 32 → IsOk result }
 {
     match a.checked_add(b) {
         Some(n) => Ok(n),
@@ -26,7 +28,8 @@ pub(crate) fn added(a: u32, b: u32) -> Result<u32, ResolveFault>
 
 /// Behind so many cells, each with its 'set'.
 pub(crate) fn behind(n: u32, count: u32) -> Result<u32, ResolveFault>
-    ensures { IfOk result (λ m. m ≡ n + 2 * count) }
+    ensures value { IfOk result (λ m. m ≡ n + 2 * count) }
+    ensures room { n + 2 * count < 2 ^ 32 → IsOk result }
 {
     let once = added(n, count)?;
     added(once, count)
@@ -34,8 +37,10 @@ pub(crate) fn behind(n: u32, count: u32) -> Result<u32, ResolveFault>
 
 /// How many cells a type has.
 pub(crate) fn size_of(context: &Context, ty: &DeclType) -> Result<u32, ResolveFault>
-    ensures { (source : Source) → IsContext context.now source
+    ensures value { (source : Source) → IsContext context.now source
         → IfOk result (λ n. n ≡ size_in source.project (type_tree ty.now)) }
+    ensures room { (source : Source) → IsContext context.now source
+        → size_in source.project (type_tree ty.now) < BEYOND → IsOk result }
 {
     let size = context.sizes.of_type(ty);
     if size >= BEYOND {
@@ -46,8 +51,10 @@ pub(crate) fn size_of(context: &Context, ty: &DeclType) -> Result<u32, ResolveFa
 
 /// How many visible cells a block has of its own, where it is entered.
 pub(crate) fn entry_size(context: &Context, block: &Block) -> Result<u32, ResolveFault>
-    ensures { (source : Source) → IsContext context.now source
+    ensures value { (source : Source) → IsContext context.now source
         → IfOk result (λ n. n ≡ layout.entry_size source.project (block_tree block.now)) }
+    ensures room { (source : Source) → IsContext context.now source
+        → layout.entry_size source.project (block_tree block.now) < BEYOND → IsOk result }
 {
     let own = context.sizes.of_entry(block);
     if own >= BEYOND {
@@ -68,7 +75,8 @@ fn shown(role: Role) -> u32
 
 /// How many of the cells are visible.
 pub(crate) fn visible_in(cells: &[Cell]) -> Result<u32, ResolveFault>
-    ensures { IfOk result (λ n. n ≡ visible_len cells.now) }
+    ensures value { IfOk result (λ n. n ≡ visible_len cells.now) }
+    ensures room { visible_len cells.now < 2 ^ 32 → IsOk result }
 {
     let mut n = 0;
     for cell in cells {

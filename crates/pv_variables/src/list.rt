@@ -1,5 +1,5 @@
 //! The variables of a block's automaton, in their order.
-ghost use Rattle.std.specs.Prelude.{◌≡◌, ◌∷◌, [], ◌++◌, List, map, flat_map, option_to_list, not, IfOk, OnOk, if◌then◌else◌};
+ghost use Rattle.std.specs.Prelude.{◌≡◌, ◌<◌, ◌∷◌, [], ◌++◌, List, length, map, flat_map, option_to_list, not, IfOk, IfErr, OnOk, if◌then◌else◌};
 ghost use Rattle.pv_place.specs.declared.role.Role.TheVariants.{Kept, Brief};
 ghost use Rattle.pv_types.specs.Named.{types_of};
 ghost use Rattle.pv_types.specs.Leaves as layout;
@@ -7,12 +7,15 @@ ghost use Rattle.pv_tree.specs.NamedTypes.{types_of_project};
 ghost use Rattle.pv_tree.specs.Scopes.{ProjectTree, has_key};
 ghost use Rattle.pv_tree.specs.View.{block_tree};
 ghost use Rattle.pv_mean.specs.declared.cell.Cell.{Cell};
+ghost use Rattle.pv_mean.specs.declared.count.TheConstants.{BEYOND};
 ghost use Rattle.pv_mean.specs.Cells.{leaves_of_block, entry_cells};
 ghost use Rattle.pv_mean.specs.Frames.{is_brief};
 ghost use Rattle.pv_mean.specs.Layout as sections;
 ghost use Rattle.pv_mean.specs.Sources.{Source};
 ghost use Rattle.pv_flow.specs.View.{variable_of};
+ghost use Rattle.pv_resolve.specs.declared.fault.ResolveFault.TheVariants.{NoMemory};
 ghost use Rattle.pv_resolve.specs.Contexts.{IsContext, block_in};
+ghost use Rattle.pv_resolve.specs.Rooms.{HasRoom};
 ghost use Rattle.pv_variables.specs.Listed.{Adds, is_own_in, leaf_variables, front_of, rest_of};
 ghost use Rattle.pv_variables.specs.Variables as variables;
 
@@ -300,9 +303,11 @@ fn push_entered(
     block: &Block,
     cells: &[Cell],
 ) -> Result<(), ResolveFault>
-    ensures { (source : Source) → IsContext context.now source → source.cells ≡ cells.now
+    ensures adds { (source : Source) → IsContext context.now source → source.cells ≡ cells.now
         → OnOk result (Adds vars.old.items vars.new.items
         (front_of (sections.entry_size source.project (block_tree block.now)) source.cells)) }
+    ensures room { (source : Source) → IsContext context.now source
+        → HasRoom source (block_tree block.now) → IfErr result (λ e. e ≡ NoMemory) }
 {
     let own = entry_size(context, block)?;
     push_front(vars, cells, own)?;
@@ -325,9 +330,11 @@ fn push_bound(
     leaves: &[Leaf],
     cells: &[Cell],
 ) -> Result<(), ResolveFault>
-    ensures { (source : Source) → IsContext context.now source → block_tree entered.now ≡ source.entry
+    ensures adds { (source : Source) → IsContext context.now source → block_tree entered.now ≡ source.entry
         → source.cells ≡ cells.now → leaves.now ≡ leaves_of_block source.project (block_tree block.now)
         → OnOk result (Adds vars.old.items vars.new.items (variables.bound_variables source (block_tree block.now))) }
+    ensures room { (source : Source) → IsContext context.now source
+        → HasRoom source (block_tree block.now) → IfErr result (λ e. e ≡ NoMemory) }
 {
     if is_entry(entered, block) {
         return push_entered(vars, context, block, cells);
@@ -354,9 +361,11 @@ fn push_all(
     leaves: &[Leaf],
     cells: &[Cell],
 ) -> Result<(), ResolveFault>
-    ensures { (source : Source) → IsContext context.now source → block_tree entered.now ≡ source.entry
+    ensures adds { (source : Source) → IsContext context.now source → block_tree entered.now ≡ source.entry
         → source.cells ≡ cells.now → leaves.now ≡ leaves_of_block source.project (block_tree block.now)
         → OnOk result (Adds vars.old.items vars.new.items (variables.variables_of source (block_tree block.now))) }
+    ensures room { (source : Source) → IsContext context.now source
+        → HasRoom source (block_tree block.now) → IfErr result (λ e. e ≡ NoMemory) }
 {
     push_bound(vars, context, block, entered, leaves, cells)?;
     push_rest(vars, cells, context.data_first)?;
@@ -366,7 +375,9 @@ fn push_all(
 
 /// The leaves of a block's declarations.
 fn leaves_in(alloc: Global, block: &Block, types: &Types) -> Result<Leaves, ResolveFault>
-    ensures { IfOk result (λ leaves. leaves ≡ layout.leaves_of (types_of types.now) (block_tree block.now).vars) }
+    ensures leaves { IfOk result (λ leaves. leaves ≡ layout.leaves_of (types_of types.now) (block_tree block.now).vars) }
+    ensures room { length (layout.leaves_of (types_of types.now) (block_tree block.now).vars) < BEYOND
+        → IfErr result (λ e. e ≡ NoMemory) }
 {
     match flatten(alloc, block.interface.vars.as_slice(), types) {
         Ok(leaves) => Ok(leaves),
@@ -378,7 +389,7 @@ fn leaves_in(alloc: Global, block: &Block, types: &Types) -> Result<Leaves, Reso
 /// The variables of the automaton of a context's block, in a project with these named types and this table, which is entered at a block:
 /// each with its type, its role, its start and the one value that a bound parameter may have.
 ///
-/// `TooLarge` where the block's declarations have more cells than a table may have.
+/// `TooLarge` where the block's declarations, or an instance of it, have more cells than a table may have.
 pub fn variables_of(
     alloc: Global,
     context: &Context,
@@ -386,9 +397,12 @@ pub fn variables_of(
     entered: &Block,
     cells: &[Cell],
 ) -> Result<Vec<Variable>, ResolveFault>
-    ensures { (source : Source) → IsContext context.now source → types_of types.now ≡ types_of_project source.project
+    ensures variables { (source : Source) → IsContext context.now source → types_of types.now ≡ types_of_project source.project
         → block_tree entered.now ≡ source.entry → source.cells ≡ cells.now
         → IfOk result (λ v. map variable_of v.items ≡ variables.variables_of source (block_in context.now)) }
+    ensures room { (source : Source) → IsContext context.now source → types_of types.now ≡ types_of_project source.project
+        → HasRoom source (block_in context.now) → length (leaves_of_block source.project (block_in context.now)) < BEYOND
+        → IfErr result (λ e. e ≡ NoMemory) }
 {
     let block = context.scope.entry.block();
     let leaves = leaves_in(alloc, block, types)?;

@@ -1,11 +1,14 @@
 //! Where the variables of a block's automaton lie.
-ghost use Rattle.std.specs.Prelude.{◌≡◌, ◌<◌, ◌+◌, ◌-◌, ℕ, ◌*◌, ◌∷◌, [], ◌++◌, IfOk, OnOk, Some, slice_get, is_some, if◌then◌else◌};
+ghost use Rattle.std.specs.Prelude.{◌≡◌, ◌<◌, ◌+◌, ◌-◌, ℕ, ◌*◌, ◌^◌, ◌∷◌, [], ◌++◌, length, IfOk, IfErr, IsOk, OnOk, Some, slice_get, is_some, if◌then◌else◌};
 ghost use Rattle.pv_types.specs.View.{type_tree, var_tree, var_trees};
 ghost use Rattle.pv_tree.specs.View.{block_tree};
-ghost use Rattle.pv_mean.specs.Layout.{size_in, size_among};
+ghost use Rattle.pv_mean.specs.declared.count.TheConstants.{BEYOND};
+ghost use Rattle.pv_mean.specs.Layout.{size_in, size_among, is_brief_in};
 ghost use Rattle.pv_mean.specs.Sources.{Source};
+ghost use Rattle.pv_resolve.specs.declared.fault.ResolveFault.TheVariants.{NoMemory};
 ghost use Rattle.pv_resolve.specs.Contexts.{IsContext, block_in};
-ghost use Rattle.pv_variables.specs.Numbered.{AreNumbers, two_apart, found_so_far, with_cells, with_variable, with_variables};
+ghost use Rattle.pv_resolve.specs.Rooms.{HasRoom};
+ghost use Rattle.pv_variables.specs.Numbered.{AreNumbers, HasNext, two_apart, found_so_far, with_cells, with_variable, with_variables};
 ghost use Rattle.pv_variables.specs.Variables as variables;
 
 use crate::count::{added, behind, entry_size, size_of, visible_in};
@@ -48,9 +51,12 @@ pub(crate) fn is_bound_in(block: &Block, section: Section) -> bool
 
 /// How many cells a variable has that lies where its caller puts it.
 fn bound_in(context: &Context, block: &Block, var: &Var) -> Result<u32, ResolveFault>
-    ensures { (source : Source) → IsContext context.now source
+    ensures value { (source : Source) → IsContext context.now source
         → IfOk result (λ n. n ≡ (if variables.is_bound_in (block_tree block.now) var.now.section
         then size_in source.project (type_tree var.now.ty) else 0)) }
+    ensures room { (source : Source) → IsContext context.now source
+        → (if variables.is_bound_in (block_tree block.now) var.now.section
+        then size_in source.project (type_tree var.now.ty) else 0) < BEYOND → IsOk result }
 {
     if is_bound_in(block, var.section) {
         size_of(context, &var.ty)
@@ -61,8 +67,11 @@ fn bound_in(context: &Context, block: &Block, var: &Var) -> Result<u32, ResolveF
 
 /// How many cells those of these variables have.
 fn bound_among(context: &Context, block: &Block, vars: &[Var]) -> Result<u32, ResolveFault>
-    ensures { (source : Source) → IsContext context.now source
+    ensures value { (source : Source) → IsContext context.now source
         → IfOk result (λ n. n ≡ size_among source.project (variables.is_bound_in (block_tree block.now)) (var_trees vars.now)) }
+    ensures room { (source : Source) → IsContext context.now source
+        → size_among source.project (variables.is_bound_in (block_tree block.now)) (var_trees vars.now) < BEYOND
+        → IsOk result }
 {
     let mut cells = 0;
     for var in vars {
@@ -83,8 +92,10 @@ fn value_count(block: &Block) -> u32
 
 /// How many variables of the block are bound.
 fn bound_count(context: &Context, block: &Block) -> Result<u32, ResolveFault>
-    ensures { (source : Source) → IsContext context.now source
+    ensures value { (source : Source) → IsContext context.now source
         → IfOk result (λ n. n ≡ variables.bound_count source (block_tree block.now)) }
+    ensures room { (source : Source) → IsContext context.now source
+        → HasRoom source (block_tree block.now) → IsOk result }
 {
     let own = entry_size(context, block)?;
     let params = bound_among(context, block, block.interface.vars.as_slice())?;
@@ -96,6 +107,7 @@ fn bound_count(context: &Context, block: &Block) -> Result<u32, ResolveFault>
 fn push_cells(briefs: &mut Vec<u32>, first: u32, count: u32) -> Result<u32, ResolveFault>
     ensures cells { OnOk result (briefs.new.items ≡ briefs.old.items ++ two_apart count first) }
     ensures next { IfOk result (λ n. n ≡ first + 2 * count) }
+    ensures room { first + 2 * count < 2 ^ 32 → IfErr result (λ e. e ≡ NoMemory) }
 {
     let mut n = first;
     for _k in 0..count {
@@ -112,8 +124,10 @@ fn push_sized(
     count: u32,
     next: Next,
 ) -> Result<Next, ResolveFault>
-    ensures { IfOk result (λ n. found_so_far briefs.new.items n
+    ensures value { IfOk result (λ n. found_so_far briefs.new.items n
         ≡ with_cells bound count (found_so_far briefs.old.items next)) }
+    ensures room { HasNext (with_cells bound count (found_so_far briefs.old.items next))
+        → IfErr result (λ e. e ≡ NoMemory) }
 {
     if bound {
         let behind = push_cells(briefs, next.bound, count)?;
@@ -122,10 +136,10 @@ fn push_sized(
             own: next.own,
         })
     } else {
-        let behind = push_cells(briefs, next.own, count)?;
+        let own = push_cells(briefs, next.own, count)?;
         Ok(Next {
             bound: next.bound,
-            own: behind,
+            own,
         })
     }
 }
@@ -138,10 +152,15 @@ fn push_brief(
     next: Next,
     var: &Var,
 ) -> Result<Next, ResolveFault>
-    ensures { (source : Source) → IsContext context.now source
+    ensures value { (source : Source) → IsContext context.now source
         → IfOk result (λ n. found_so_far briefs.new.items n
         ≡ with_cells (variables.is_bound_in (block_tree block.now) var.now.section) (size_in source.project (type_tree var.now.ty))
         (found_so_far briefs.old.items next)) }
+    ensures room { (source : Source) → IsContext context.now source
+        → size_in source.project (type_tree var.now.ty) < BEYOND
+        → HasNext (with_cells (variables.is_bound_in (block_tree block.now) var.now.section)
+        (size_in source.project (type_tree var.now.ty)) (found_so_far briefs.old.items next))
+        → IfErr result (λ e. e ≡ NoMemory) }
 {
     let count = size_of(context, &var.ty)?;
     push_sized(briefs, is_bound_in(block, var.section), count, next)
@@ -155,9 +174,14 @@ fn push_variable(
     next: Next,
     var: &Var,
 ) -> Result<Next, ResolveFault>
-    ensures { (source : Source) → IsContext context.now source
+    ensures value { (source : Source) → IsContext context.now source
         → IfOk result (λ n. found_so_far briefs.new.items n
         ≡ with_variable source.project (block_tree block.now) (var_tree var.now) (found_so_far briefs.old.items next)) }
+    ensures room { (source : Source) → IsContext context.now source
+        → (if is_brief_in (block_tree block.now) var.now.section
+        then size_in source.project (type_tree var.now.ty) else 0) < BEYOND
+        → HasNext (with_variable source.project (block_tree block.now) (var_tree var.now) (found_so_far briefs.old.items next))
+        → IfErr result (λ e. e ≡ NoMemory) }
 {
     if activation_part(&block.kind).has(var.section) {
         push_brief(context, block, briefs, next, var)
@@ -174,9 +198,13 @@ fn push_variables(
     next: Next,
     vars: &[Var],
 ) -> Result<Next, ResolveFault>
-    ensures { (source : Source) → IsContext context.now source
+    ensures value { (source : Source) → IsContext context.now source
         → IfOk result (λ n. found_so_far briefs.new.items n
         ≡ with_variables source.project (block_tree block.now) (var_trees vars.now) (found_so_far briefs.old.items next)) }
+    ensures room { (source : Source) → IsContext context.now source
+        → size_among source.project (is_brief_in (block_tree block.now)) (var_trees vars.now) < BEYOND
+        → HasNext (with_variables source.project (block_tree block.now) (var_trees vars.now) (found_so_far briefs.old.items next))
+        → IfErr result (λ e. e ≡ NoMemory) }
 {
     let mut so_far = next;
     for var in vars {
@@ -187,7 +215,8 @@ fn push_variables(
 
 /// The number of a function's value, behind its parameters.
 fn push_value(briefs: &mut Vec<u32>, block: &Block, next: u32) -> Result<(), ResolveFault>
-    ensures { OnOk result (briefs.new.items ≡ briefs.old.items ++ two_apart (variables.value_count (block_tree block.now)) next) }
+    ensures value { OnOk result (briefs.new.items ≡ briefs.old.items ++ two_apart (variables.value_count (block_tree block.now)) next) }
+    ensures memory { IfErr result (λ e. e ≡ NoMemory) }
 {
     if let Some(_) = block.interface.value {
         briefs.push(next)?;
@@ -217,8 +246,11 @@ impl Numbers {
 
 /// The numbers of the block of a context, where the project has this table.
 pub fn numbers_of(alloc: Global, context: &Context, cells: &[Cell]) -> Result<Numbers, ResolveFault>
-    ensures { (source : Source) → IsContext context.now source → source.cells ≡ cells.now
+    ensures numbers { (source : Source) → IsContext context.now source → source.cells ≡ cells.now
         → IfOk result (λ n. AreNumbers n source (block_in context.now)) }
+    ensures room { (source : Source) → IsContext context.now source → source.cells ≡ cells.now
+        → HasRoom source (block_in context.now) → length source.cells < BEYOND
+        → IfErr result (λ e. e ≡ NoMemory) }
 {
     let block = context.scope.entry.block();
     let bound = bound_count(context, block)?;

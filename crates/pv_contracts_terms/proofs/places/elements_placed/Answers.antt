@@ -5,3 +5,6 @@ returns-clause-value c = c.elements_placed.ensures.value
 
 pub returns-clause-spot : goal.returns-clause-spot
 returns-clause-spot c = c.elements_placed.ensures.spot
+
+pub returns-clause-room : goal.returns-clause-room
+returns-clause-room c = c.elements_placed.ensures.room

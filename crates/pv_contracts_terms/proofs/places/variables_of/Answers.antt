@@ -1,4 +1,7 @@
 use Rattle.pv_contracts_terms.proofs.places.variables_of.Goals as goal
 
-pub returns : goal.returns
-returns c = c.variables_of.ensures
+pub returns-clause-variables : goal.returns-clause-variables
+returns-clause-variables c = c.variables_of.ensures.variables
+
+pub returns-clause-room : goal.returns-clause-room
+returns-clause-room c = c.variables_of.ensures.room
