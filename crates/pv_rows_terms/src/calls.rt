@@ -1,5 +1,6 @@
 //! What answers a row.
 use crate::accesses::tell_accesses;
+use crate::lowered::{Asked as Lowered, tell_lowered};
 use crate::places::tell_places;
 use crate::reading::{project_of, said};
 use crate::terms::tell_terms;
@@ -12,19 +13,28 @@ use pv_rows_form::{Calls, Row, Told, last};
 use pv_tree::Project;
 
 /// What may stand at the beginning of a line that is no row.
-pub const NAMES: [&str; 7] = ["#", "call ", "source", "entry", "block", "params", "bound"];
+pub const NAMES: [&str; 8] = [
+    "#", "call ", "source", "entry", "block", "params", "bound", "want",
+];
 
 /// The calls on automata of blocks.
 pub struct Automata;
 
-/// What is asked of a project: the numbers of the block that is entered and of the one that is asked about, what a case says of cells,
-/// and the operands whose places are asked, if they are.
+/// What is asked of a block: its variables, where operands begin, or what an expression or an assignment becomes.
+#[derive(Clone, Copy)]
+pub enum What<'a> {
+    Variables,
+    Places(&'a str),
+    Lowered(Lowered<'a>),
+}
+
+/// What is asked of a project: the numbers of the block that is entered and of the one that is asked about, and what a case says of cells.
 #[derive(Clone, Copy)]
 pub struct Question<'a> {
     pub entry: u32,
     pub block: u32,
     pub view: &'a CaseView,
-    pub operands: Option<&'a str>,
+    pub what: What<'a>,
 }
 
 /// Answers in the context of the block that is asked about.
@@ -36,9 +46,10 @@ fn tell_in(
     asked: &Question<'_>,
     told: &mut Told,
 ) {
-    match asked.operands {
-        Some(text) => tell_places(context, table.cells(), text, told),
-        None => tell_variables(project, context, entered.block(), table.cells(), told),
+    match asked.what {
+        What::Variables => tell_variables(project, context, entered.block(), table.cells(), told),
+        What::Places(text) => tell_places(context, table.cells(), text, told),
+        What::Lowered(row) => tell_lowered(context, table.cells(), &row, told),
     }
 }
 
@@ -139,7 +150,7 @@ fn tell_project(project: &Project, asked: &Question<'_>, told: &mut Told) {
 }
 
 /// Answers for the row's project.
-fn tell_source(row: Row<'_>, operands: Option<&str>, told: &mut Told) {
+fn tell_source(row: Row<'_>, what: What<'_>, told: &mut Told) {
     let view = crate::reading::view_of(row, told);
     let entry = crate::reading::number_of(said(row, "entry", told).as_str());
     let block = crate::reading::number_of(said(row, "block", told).as_str());
@@ -150,7 +161,7 @@ fn tell_source(row: Row<'_>, operands: Option<&str>, told: &mut Told) {
         entry,
         block,
         view: &view,
-        operands,
+        what,
     };
     tell_project(&project, &asked, told);
     drop(project);
@@ -162,14 +173,47 @@ fn first_field(row: Row<'_>, told: &mut Told) -> String {
     String::from_utf8(row.bytes(0, told)).unwrap_or(String::new(alloc))
 }
 
+/// What a value becomes, or its assignment to a target.
+fn tell_parts(
+    row: Row<'_>,
+    target: Option<&str>,
+    value: &str,
+    want: &str,
+    count: bool,
+    told: &mut Told,
+) {
+    let asked = Lowered {
+        target,
+        value,
+        want,
+        count,
+    };
+    tell_source(row, What::Lowered(asked), told);
+}
+
+/// What an expression becomes, or an assignment, in whose text the target stands before `:=`.
+fn tell_text(row: Row<'_>, assigns: bool, count: bool, told: &mut Told) {
+    let text = first_field(row, told);
+    let want = said(row, "want", told);
+    match text.as_str().split_once(":=") {
+        Some((target, value)) if assigns => {
+            tell_parts(row, Some(target), value, want.as_str(), count, told);
+        }
+        _ => tell_parts(row, None, text.as_str(), want.as_str(), count, told),
+    }
+}
+
 impl Calls for Automata {
     fn answer(&self, row: Row<'_>, told: &mut Told) {
         match last(row.head, "call ").unwrap_or("") {
-            "variables" => tell_source(row, None, told),
+            "variables" => tell_source(row, What::Variables, told),
             "places" => {
                 let operands = first_field(row, told);
-                tell_source(row, Some(operands.as_str()), told);
+                tell_source(row, What::Places(operands.as_str()), told);
             }
+            "lowered" => tell_text(row, false, false, told),
+            "assigned" => tell_text(row, true, false, told),
+            "counted" => tell_text(row, true, true, told),
             "terms" => tell_terms(row, told),
             "reads" => tell_accesses("reads", row, told),
             "unset" => tell_accesses("unset", row, told),

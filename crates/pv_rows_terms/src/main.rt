@@ -6,6 +6,7 @@
 
 mod accesses;
 mod calls;
+mod lowered;
 mod places;
 mod reading;
 mod terms;
