@@ -1,0 +1,5 @@
+use Rattle.pv_laws_lower.proofs.Operands.{all_spots_are_written_where}
+use Rattle.pv_laws_lower.proofs.laws.spots_are_written_where.Goals as goal
+
+pub returns : goal.returns
+returns c = all_spots_are_written_where c.laws_below_hold.ensures

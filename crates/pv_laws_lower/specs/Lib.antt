@@ -1,0 +1,4 @@
+pub mod Fit
+pub mod Agrees
+pub mod Below
+pub mod Correct
