@@ -14,11 +14,10 @@ import sys
 
 ROOT = pathlib.Path(__file__).resolve().parent.parent
 PROGRAM = "plcv"
-# `rt` lists what lies below a crate by going down each way, many times a command, so a line that repeats what another brings along costs
-# with all that stand above it. (`rt ci` builds each crate once, whatever the ways.) Most are those of the commands: each names what
-# pv_command_load has read and refused, pv_command_show what pv_command_replay ran besides, pv_command_check and pv_command_recheck what
-# pv_bool_load and pv_command_verdict say of a verdict, which joins all that a lift stands on, and pv_top all of them.
-PATHS = 170_000
+# `rt` lists what lies below a crate by going down each way, many times a command, and some kits sum each library's files anew on each way,
+# so a line that repeats what another brings along costs with all that stand above it. The commands hand on what those above them name of
+# pv_command_load and pv_bool_load (their modules `Handed`), as each way to these leads on to all readers and rules.
+PATHS = 60_000
 COMMENTS = {".rt": re.compile(r"//.*"), ".antt": re.compile(r"--.*")}
 NAMED = {
     ".rt": re.compile(r"(?<![\w:])(\w+)::|^(?:pub )?use (\w+)|\bRattle\.(\w+)\.", re.M),

@@ -3,3 +3,5 @@ pub mod Working
 pub mod Stages
 pub mod Joining
 pub mod OneFirst
+pub mod Staying
+pub mod ForCallers

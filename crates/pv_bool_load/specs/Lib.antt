@@ -6,3 +6,4 @@ pub mod Stops
 pub mod Correct
 -- what the code makes
 pub mod Made
+pub mod Handed

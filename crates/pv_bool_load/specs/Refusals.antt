@@ -1,4 +1,4 @@
--- Why a command stops at what it works on, in the order of work: the case by itself; a case that isn't of the first form; its source
+-- The files that are asked for, and why a command stops at what it works on, in the order of work: the case by itself; a case that isn't of the first form; its source
 -- by itself; the rules; a source that isn't one block of the first form; the entry and the count of cells; the requirement's faults; a
 -- requirement that isn't of the first form.
 use Rattle.std.specs.Prelude.{◌≡◌, ◌⊎◌, ℕ, List, [], ◌∷◌, Option}
@@ -8,12 +8,19 @@ use Rattle.pv_bool_form.specs.FirstForm.{IsFirstPattern}
 use Rattle.pv_command_load.specs.declared.subject.SubjectStop.{SubjectStop}
 use Rattle.pv_command_load.specs.declared.subject.SubjectStop.TheVariants as subject_stop
 use Rattle.pv_command_load.specs.Refusals.{Refusal, of_case, of_source, of_project, of_table, of_fit, refusal_status, refusal_line, form_line}
-use Rattle.pv_command_load.specs.Sources.{AtOne, IsRefused}
+use Rattle.pv_command_load.specs.Sources.{AtOne, IsAsked, IsRefused}
 use Rattle.pv_command_load.specs.Subjects.{blocks_of, RefusesProject, RefusesTable, RefusesFit, SubjectData}
 use Rattle.pv_command_load.specs.Reads.{OfCase, OfSources, OfProject, OfTable, RefusesCase, Reads}
 use Rattle.pv_command_load.specs.Stops.{StopsCase, StopsSource, StopsProject, StopsTable, StopsFit}
 use Rattle.pv_bool_case.specs.Forms.{IsFirstCase, IsFirstAlone}
 use Rattle.pv_bool_load.specs.Forms.{AreFirst}
+
+-- ---- the files that are asked for, each where all before it is as it should be: the case's, and its source's
+
+abbrev pub AsksFirst : Option FileMap → List ℕ → List ℕ → Type 0
+AsksFirst told case_file file =
+    (file ≡ case_file)
+    ⊎ OfCase told case_file (λ case. IsFirstCase case × AtOne (IsAsked file) told 0 case.sources)
 
 -- ---- the refusals
 

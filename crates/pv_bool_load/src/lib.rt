@@ -6,5 +6,9 @@ pub mod laws;
 mod stop;
 mod subject;
 
+pub use pv_command_load::{
+    NO_MEMORY, READ_FAULT, ReadStop, SOURCE_REFUSED, SourceText, Status, Subject, TEXT_REFUSED,
+    WRITE_FAULT, read, read_line,
+};
 pub use stop::FirstStop;
 pub use subject::{FirstSubject, first_subject_in};

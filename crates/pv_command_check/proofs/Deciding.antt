@@ -12,10 +12,7 @@ use Rattle.pv_cert.specs.declared.certificate.Certificate.{Certificate}
 use Rattle.pv_cert.specs.CertificateText.{IsTextOf}
 use Rattle.pv_kind.specs.declared.told.OracleFault.{OracleFault}
 use Rattle.pv_kind.specs.declared.told.OracleFault.TheVariants as oracle
-use Rattle.pv_command_load.specs.Subjects.{SubjectData}
-use Rattle.pv_bool_load.specs.declared.subject.FirstSubject.{FirstSubject}
-use Rattle.pv_bool_load.specs.Forms.{ReadsFirst}
-use Rattle.pv_bool_load.specs.Made.{IsFirstSubject}
+use Rattle.pv_command_verdict.specs.Handed.{SubjectData, FirstSubject, ReadsFirst, IsFirstSubject}
 use Rattle.pv_command_verdict.specs.Sizes.{edges_of, HasTooManyEdges, HasTooManyGates}
 use Rattle.pv_command_check.specs.declared.stop.CheckStop.{CheckStop}
 use Rattle.pv_command_check.specs.declared.stop.CheckStop.TheVariants as check_stop

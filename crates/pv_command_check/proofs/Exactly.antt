@@ -6,15 +6,9 @@ use Rattle.pv_claims.specs.declared.claim.Claim.{Claim}
 use Rattle.pv_claims.specs.declared.trace.Ending.{Ending}
 use Rattle.pv_cert.specs.declared.certificate.Certificate.{Certificate}
 use Rattle.pv_report.specs.Reports.{status_of}
-use Rattle.pv_command_load.specs.Subjects.{SubjectData}
-use Rattle.pv_bool_load.specs.declared.stop.FirstStop.{FirstStop}
-use Rattle.pv_bool_load.specs.declared.stop.FirstStop.TheVariants as first_stop
-use Rattle.pv_bool_load.specs.Stops.{first_stop_status, first_stop_text}
-use Rattle.pv_command_load.specs.declared.subject.SubjectStop.{SubjectStop}
-use Rattle.pv_command_load.specs.declared.subject.SubjectStop.TheVariants as subject_stop
-use Rattle.pv_command_load.specs.Refusals.{table_status, case_refusal_line, source_line, project_line, table_line, fit_line}
-use Rattle.pv_command_load.specs.Stopped.{Stopped, unread, refused, no_memory, stopped_status, stopped_text}
-use Rattle.pv_command_load.specs.Stops.{case_stopped, source_stopped, project_stopped, table_stopped, fit_stopped, subject_status, subject_text}
+use Rattle.pv_command_verdict.specs.Handed.{SubjectData, FirstStop, first_stop_status, first_stop_text, SubjectStop, table_status, case_refusal_line, source_line, project_line, table_line, fit_line, Stopped, unread, refused, no_memory, stopped_status, stopped_text, case_stopped, source_stopped, project_stopped, table_stopped, fit_stopped, subject_status, subject_text}
+use Rattle.pv_command_verdict.specs.Handed.first_stop
+use Rattle.pv_command_verdict.specs.Handed.subject_stop
 use Rattle.pv_command_verdict.specs.Verdicts.{verdict_text}
 use Rattle.pv_command_check.specs.declared.check.Checked.{Checked}
 use Rattle.pv_command_check.specs.declared.stop.CheckStop.{CheckStop}
@@ -22,7 +16,7 @@ use Rattle.pv_command_check.specs.declared.stop.CheckStop.TheVariants as check_s
 use Rattle.pv_command_check.specs.Refusals.{ReadsChecked, CheckRefusal, as_first, too_many_edges, too_many_gates, RefusesCheck, check_refusal_status, check_refusal_line, check_refusal_keeps}
 use Rattle.pv_command_check.specs.Checks.{ComesTo, SaysCheck, check_status, check_text, check_keeps}
 use Rattle.pv_command_check.specs.Files.{Writes, LeavesFiles}
-use Rattle.pv_command_check.specs.Decided.{HasVerdict, IsRefusedWith, IsHad, ChecksExactly, FilesDecideOneCheck}
+use Rattle.pv_command_check.specs.Decided.{HasVerdict, IsRefusedWith, IsHad, FilesDecideOneCheck, OneComes, ChecksExactly}
 use Rattle.pv_command_check.proofs.Stopping.{first_refusal_statuses, first_statuses, first_as}
 use Rattle.pv_command_check.proofs.Writing.{claim_statuses}
 
@@ -177,12 +171,18 @@ module _ (files : FileMap) (after : Option FileMap) (case_file : List ℕ) where
     refused_of (had s bytes c ending is a b k w) n e = absurd (claim_not c.claim status n a e)
     refused_of (refuses r is a b k w) n e = record { refusal = r; refuses = is; of_status = sym a ∙ e }
 
+    one_comes : Came → OneComes files case_file status
+    one_comes (had s bytes c ending is a b k w) =
+        record { comes = inl (record { subject = s; reads = is.reads; verdict = claim_has c.claim status a }); one = law }
+    one_comes (refuses r is a b k w) = record { comes = inr (record { refusal = r; refuses = is; of_status = sym a }); one = law }
+
     not_eight : Came → status ≢ 8
     not_eight (had s bytes c ending is a b k w) = claim_not c.claim status 5 a
     not_eight (refuses r is a b k w) = refusal_not_eight r status a
 
     pub checks_exactly : Came → ChecksExactly files after case_file status IsTaken IsKept
     checks_exactly came = record {
+      one = one_comes came;
       decided = (subject_of came, verdict_of came);
       verdict = had_of came;
       source = (refused_of came 0, λ h. (as_refused came h.refusal h.refuses).of_status ∙ h.of_status);

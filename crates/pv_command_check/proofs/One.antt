@@ -2,9 +2,7 @@
 -- large that is is said by it alone.
 use Rattle.std.proofs.Common.{◌≡◌, ℕ, List, Some, refl, ap, subst}
 use Rattle.pv_edge.specs.Files.{FileMap}
-use Rattle.pv_command_load.specs.Subjects.{SubjectData}
-use Rattle.pv_bool_load.specs.Forms.{ReadsFirst}
-use Rattle.pv_bool_load.specs.Correct.{FilesDecideOneFirst}
+use Rattle.pv_command_verdict.specs.Handed.{SubjectData, ReadsFirst, FilesDecideOneFirst}
 use Rattle.pv_command_verdict.specs.Sizes.{HasTooManyEdges, HasTooManyGates}
 use Rattle.pv_command_check.specs.Refusals.{ReadsSmall, ReadsChecked, CheckRefusal, as_first, too_many_edges, too_many_gates, RefusesCheck}
 use Rattle.pv_command_check.specs.Decided.{FilesDecideOneCheck}

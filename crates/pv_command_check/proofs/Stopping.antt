@@ -3,15 +3,9 @@
 use Rattle.std.proofs.Common.{◌≡◌, ◌≢◌, ℕ, List, Option, Some, refl, arith}
 use Rattle.std.specs.Prelude.{string_bytes}
 use Rattle.pv_edge.specs.Files.{FileMap}
-use Rattle.pv_command_load.specs.declared.subject.SubjectStop.{SubjectStop}
-use Rattle.pv_command_load.specs.declared.subject.SubjectStop.TheVariants as subject_stop
-use Rattle.pv_command_load.specs.Refusals.{Refusal, of_case, of_source, of_project, of_table, of_fit, TableRefusal, no_entry, too_many_cells, table_status, case_refusal_line, source_line, project_line, table_line, fit_line, refusal_status, refusal_line}
-use Rattle.pv_command_load.specs.Stopped.{Stopped, unread, refused, no_memory, StopsAt, stopped_status, stopped_text}
-use Rattle.pv_command_load.specs.Stops.{case_stopped, source_stopped, project_stopped, table_stopped, fit_stopped, subject_status, subject_text}
-use Rattle.pv_bool_load.specs.declared.stop.FirstStop.{FirstStop}
-use Rattle.pv_bool_load.specs.declared.stop.FirstStop.TheVariants as first_stop
-use Rattle.pv_bool_load.specs.Refusals.{FirstRefusal, as_any, case_form, source_form, first_refusal_status, first_refusal_line, RefusesAny, RefusesFirst, StopsAsAny}
-use Rattle.pv_bool_load.specs.Stops.{first_stop_status, first_stop_text, StopsFirst}
+use Rattle.pv_command_verdict.specs.Handed.{SubjectStop, Refusal, of_case, of_source, of_project, of_table, of_fit, TableRefusal, no_entry, too_many_cells, table_status, case_refusal_line, source_line, project_line, table_line, fit_line, refusal_status, refusal_line, Stopped, unread, refused, no_memory, StopsAt, stopped_status, stopped_text, case_stopped, source_stopped, project_stopped, table_stopped, fit_stopped, subject_status, subject_text, FirstStop, FirstRefusal, as_any, case_form, source_form, first_refusal_status, first_refusal_line, RefusesAny, RefusesFirst, StopsAsAny, first_stop_status, first_stop_text, StopsFirst}
+use Rattle.pv_command_verdict.specs.Handed.subject_stop
+use Rattle.pv_command_verdict.specs.Handed.first_stop
 
 -- ---- statuses
 

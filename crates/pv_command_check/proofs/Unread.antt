@@ -1,17 +1,10 @@
 -- A check with the status of a file that can't be read tells one that it asks for.
 use Rattle.std.proofs.Common.{◌≡◌, inl, inr, ℕ, List, Option, Result, Ok, Err, arith}
 use Rattle.pv_edge.specs.Files.{FileMap}
-use Rattle.pv_command_load.specs.declared.subject.SubjectStop.{SubjectStop}
-use Rattle.pv_command_load.specs.declared.subject.SubjectStop.TheVariants as subject_stop
-use Rattle.pv_command_load.specs.Refusals.{case_refusal_line, source_line}
-use Rattle.pv_command_load.specs.Sources.{AtOne, IsAsked, IsRefused}
-use Rattle.pv_command_load.specs.Reads.{RefusesCase}
-use Rattle.pv_command_load.specs.Stops.{case_stopped, source_stopped, subject_status, subject_unread, subject_text}
-use Rattle.pv_command_load.proofs.ForCallers.{TellsUnread, stopped_tells, tells_of, no_file_project, no_file_table, no_file_fit}
-use Rattle.pv_bool_load.specs.declared.stop.FirstStop.{FirstStop}
-use Rattle.pv_bool_load.specs.declared.stop.FirstStop.TheVariants as first_stop
-use Rattle.pv_bool_load.specs.Refusals.{StopsAsAny}
-use Rattle.pv_bool_load.specs.Stops.{first_stop_status, first_stop_unread, first_stop_text, StopsFirst}
+use Rattle.pv_command_verdict.specs.Handed.{SubjectStop, case_refusal_line, source_line, AtOne, IsAsked, IsRefused, RefusesCase, case_stopped, source_stopped, subject_status, subject_unread, subject_text, FirstStop, StopsAsAny, first_stop_status, first_stop_unread, first_stop_text, StopsFirst}
+use Rattle.pv_command_verdict.specs.Handed.subject_stop
+use Rattle.pv_command_verdict.proofs.ForCallers.{TellsUnread, stopped_tells, tells_of, no_file_project, no_file_table, no_file_fit}
+use Rattle.pv_command_verdict.specs.Handed.first_stop
 use Rattle.pv_command_check.specs.declared.check.Checked.{Checked}
 use Rattle.pv_command_check.specs.declared.stop.CheckStop.{CheckStop}
 use Rattle.pv_command_check.specs.declared.stop.CheckStop.TheVariants as check_stop

@@ -4,8 +4,7 @@ use Rattle.pv_edge.specs.Files.{FileMap}
 use Rattle.pv_claims.specs.declared.trace.Ending.{Ending}
 use Rattle.pv_cert.specs.declared.certificate.Certificate.{Certificate}
 use Rattle.pv_report.specs.Reports.{status_of}
-use Rattle.pv_command_load.specs.Subjects.{SubjectData, source_in}
-use Rattle.pv_bool_load.specs.Stops.{StopsFirst, first_stop_status, first_stop_unread, first_stop_text}
+use Rattle.pv_command_verdict.specs.Handed.{SubjectData, source_in, StopsFirst, first_stop_status, first_stop_unread, first_stop_text}
 use Rattle.pv_command_verdict.specs.Sizes.{edges_line, gates_line}
 use Rattle.pv_command_verdict.specs.Sayings.{IsInOrder}
 use Rattle.pv_command_verdict.specs.Bounds.{IsComplete}
@@ -17,8 +16,8 @@ use Rattle.pv_command_check.specs.Refusals.{ReadsChecked, RefusesCheck, too_many
 
 -- ---- a verdict
 
--- The files hold what the command works on, and this is a verdict on it: its certificate is right, what it says of the source is so, the
--- queries were asked in order, and what can be decided within the limits is decided. No reduction is made, whichever the case names.
+-- The files hold what the command works on, and this is a verdict on it: its certificate is right, what it says of the source is so, no step
+-- query before the last one closes, and what can be decided within the limits is decided. No reduction is made, whichever the case names.
 pub record ComesTo (told : Option FileMap) (file : List ℕ) (s : SubjectData) (bytes : List ℕ) (c : Certificate) (ending : Option Ending) : Type 0 where
   pub reads : ReadsChecked told file s
   pub is : IsVerdict s bytes c ending

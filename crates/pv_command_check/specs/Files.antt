@@ -4,7 +4,7 @@ use Rattle.pv_edge.specs.Faults.{HasRisen}
 use Rattle.pv_edge.specs.Files.{FileMap, Puts, PutsPart, Changes}
 use Rattle.pv_claims.specs.declared.trace.Ending.{Ending}
 use Rattle.pv_cert.specs.declared.certificate.Certificate.{Certificate}
-use Rattle.pv_command_load.specs.Subjects.{SubjectData}
+use Rattle.pv_command_verdict.specs.Handed.{SubjectData}
 use Rattle.pv_command_check.specs.declared.check.Checked.{Checked}
 use Rattle.pv_command_check.specs.declared.stop.CheckStop.{CheckStop}
 use Rattle.pv_command_check.specs.declared.stop.CheckStop.TheVariants as check_stop

@@ -5,3 +5,4 @@ pub mod Files
 pub mod Decided
 -- what private clauses cite
 pub mod Made
+pub mod Handed

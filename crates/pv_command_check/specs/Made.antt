@@ -5,7 +5,7 @@ use Rattle.pv_claims.specs.declared.trace.Ending.{Ending}
 use Rattle.pv_cert.specs.declared.certificate.Certificate.{Certificate}
 use Rattle.pv_kind.specs.declared.told.OracleFault.{OracleFault}
 use Rattle.pv_kind.specs.declared.told.OracleFault.TheVariants as oracle
-use Rattle.pv_command_load.specs.Subjects.{SubjectData}
+use Rattle.pv_command_verdict.specs.Handed.{SubjectData}
 use Rattle.pv_command_verdict.specs.Sizes.{HasTooManyEdges}
 use Rattle.pv_command_verdict.specs.Verdicts.{verdict_text}
 use Rattle.pv_command_verdict.specs.Made.{IsEvidenceOf}

@@ -1,15 +1,10 @@
 -- Why a check is refused, in the order of work: what it works on; a block with more assignments than there may be edges; a circuit with more
 -- gates than there may be.
-use Rattle.std.specs.Prelude.{◌⊎◌, ◌≡◌, ℕ, List, ◌++◌, codes, Option, Some, None}
+use Rattle.std.specs.Prelude.{ℕ, List, ◌++◌, codes, Option, Some, None}
 use Rattle.pv_edge.specs.Files.{FileMap}
 use Rattle.pv_cert.specs.CertificateText.{no_reduction}
 use Rattle.pv_cert.specs.ChainText.{chain_line}
-use Rattle.pv_command_load.specs.Sources.{AtOne, IsAsked}
-use Rattle.pv_command_load.specs.Subjects.{SubjectData}
-use Rattle.pv_command_load.specs.Reads.{OfCase}
-use Rattle.pv_bool_case.specs.Forms.{IsFirstCase}
-use Rattle.pv_bool_load.specs.Forms.{ReadsFirst}
-use Rattle.pv_bool_load.specs.Refusals.{FirstRefusal, first_refusal_status, first_refusal_line, RefusesFirst}
+use Rattle.pv_command_verdict.specs.Handed.{SubjectData, ReadsFirst, AsksFirst, FirstRefusal, first_refusal_status, first_refusal_line, RefusesFirst}
 use Rattle.pv_command_verdict.specs.Sizes.{HasTooManyEdges, HasTooManyGates, edges_line, gates_line}
 
 -- the files hold what the command works on, all of it of the form, and the block has no more edges than it may
@@ -22,12 +17,10 @@ pub record ReadsChecked (told : Option FileMap) (file : List ℕ) (s : SubjectDa
   pub reads : ReadsSmall told file s
   pub few : HasTooManyGates s → ⊥
 
--- ---- the files that a check asks for, each where all before it is as it should be: the case's, and its source's
+-- ---- the files that a check asks for: the case's, and its source's
 
 abbrev pub AsksCheck : Option FileMap → List ℕ → List ℕ → Type 0
-AsksCheck told case_file file =
-    (file ≡ case_file)
-    ⊎ OfCase told case_file (λ case. IsFirstCase case × AtOne (IsAsked file) told 0 case.sources)
+AsksCheck told case_file file = AsksFirst told case_file file
 
 -- ---- the refusals
 

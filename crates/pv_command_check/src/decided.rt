@@ -1,17 +1,14 @@
 //! The stage of a check that decides.
 ghost use Rattle.std.specs.Prelude.{◌≡◌, ◌≢◌, ℕ, List, Option, IfOk, IfErr};
 ghost use Rattle.pv_edge.specs.Files.{FileMap};
-ghost use Rattle.pv_command_load.specs.Subjects.{SubjectData};
-ghost use Rattle.pv_bool_load.specs.Forms.{ReadsFirst};
-ghost use Rattle.pv_bool_load.specs.Made.{IsFirstSubject};
+ghost use Rattle.pv_command_verdict.specs.Handed.{SubjectData, ReadsFirst, IsFirstSubject};
 ghost use Rattle.pv_command_verdict.specs.Made.{IsWorkedOn};
 ghost use Rattle.pv_command_check.specs.Refusals.{chain_text};
 ghost use Rattle.pv_command_check.specs.Checks.{StopsCheck, check_stop_status};
 ghost use Rattle.pv_command_check.specs.Made.{IsStopOf, IsDecided};
 
 use crate::stop::CheckStop;
-use pv_bool_load::FirstSubject;
-use pv_command_verdict::{decide, has_too_many_edges};
+use pv_command_verdict::{FirstSubject, decide, has_too_many_edges};
 use pv_edge::Text;
 use pv_evidence::Evidence;
 use pv_kind::OracleFault;

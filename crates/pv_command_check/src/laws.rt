@@ -3,7 +3,7 @@ ghost use Rattle.std.specs.Prelude.{ℕ, List};
 ghost use Rattle.pv_edge.specs.Files.{FileMap};
 ghost use Rattle.pv_command_check.specs.Decided.{FilesDecideOneCheck};
 
-use pv_bool_load::laws::files_decide_one_first;
+use pv_command_verdict::files_decide_one_first;
 
 /// Where the files tell what they hold, that is one thing that a check works on at most, or one refusal at most, and not both.
 pub fn files_decide_one_check()

@@ -11,4 +11,5 @@ mod written;
 
 pub use check::{Checked, check_in};
 pub use pv_claims::Claim;
+pub use pv_command_verdict::what_is_read_stays;
 pub use stop::CheckStop;

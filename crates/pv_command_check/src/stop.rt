@@ -3,9 +3,9 @@ ghost use Rattle.std.specs.Prelude.{◌≡◌, Some, None, IfOk, string_bytes};
 ghost use Rattle.pv_command_check.specs.Checks.{check_stop_status, check_stop_text, check_stop_keeps};
 ghost use Rattle.pv_command_check.specs.declared.stop.CheckStop.TheVariants.{First as At_first, NoMemory};
 
-use pv_bool_load::FirstStop;
-use pv_command_load::{NO_MEMORY, SOURCE_REFUSED, Status, WRITE_FAULT};
-use pv_command_verdict::{edges_line, gates_line};
+use pv_command_verdict::{
+    FirstStop, NO_MEMORY, SOURCE_REFUSED, Status, WRITE_FAULT, edges_line, gates_line,
+};
 use pv_edge::Text;
 use std::alloc::{AllocError, Global};
 use thiserror::Error;

@@ -2,15 +2,13 @@
 ghost use Rattle.std.specs.Prelude.{◌≡◌, IfOk};
 ghost use Rattle.std.specs.Result.{IsOkAnd};
 ghost use Rattle.pv_cert.specs.CertificateText.{IsTextOf, IsWritable};
-ghost use Rattle.pv_command_load.specs.Subjects.{SubjectData};
-ghost use Rattle.pv_command_load.specs.Made.{IsSubject};
+ghost use Rattle.pv_command_verdict.specs.Handed.{SubjectData, IsSubject};
 ghost use Rattle.pv_command_verdict.specs.Verdicts.{verdict_text};
 
 use crate::check::Checked;
 use pv_cert::write;
 use pv_claims::Claim;
-use pv_command_load::Subject;
-use pv_command_verdict::report_of;
+use pv_command_verdict::{Subject, report_of};
 use pv_edge::Text;
 use pv_evidence::{Evidence, reported};
 use std::alloc::{AllocError, Global};

@@ -21,6 +21,7 @@ pub use case::{CaseStop, case_in};
 pub use fit::{FitStop, fitted};
 pub use position::{SourcePosition, SourceText};
 pub use project::{ProjectStop, project_of};
+pub use pv_laws_readings::laws::{sources_are_judged_in_one_way, texts_are_one_name};
 pub use reading::{ReadStop, read, read_line};
 pub use source::{SourceStop, blocks_of};
 pub use sources::{Sources, sources_in};

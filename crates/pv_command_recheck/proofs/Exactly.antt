@@ -1,5 +1,5 @@
 -- From what a recheck came to, to what the files decide: where they tell what they hold, they hold a right certificate, or one refusal.
-use Rattle.std.proofs.Common.{◌≡◌, ◌≢◌, ◌<◌, ◌≤◌, ℕ, List, Option, Some, Result, Ok, Err, refl, sym, ap, subst, ◌∙◌, arith}
+use Rattle.std.proofs.Common.{◌≡◌, ◌≢◌, inl, inr, ◌<◌, ◌≤◌, ℕ, List, Option, Some, Result, Ok, Err, refl, sym, ap, subst, ◌∙◌, arith}
 use Rattle.std.proofs.lemmas.Option.{same_Some}
 use Rattle.pv_edge.specs.Files.{FileMap}
 use Rattle.pv_claims.specs.declared.claim.Claim.{Claim}
@@ -7,15 +7,9 @@ use Rattle.pv_claims.specs.declared.trace.Ending.{Ending}
 use Rattle.pv_cert.specs.declared.certificate.Certificate.{Certificate}
 use Rattle.pv_valid.specs.Validity.{ending_in}
 use Rattle.pv_report.specs.Reports.{status_of}
-use Rattle.pv_command_load.specs.declared.subject.SubjectStop.{SubjectStop}
-use Rattle.pv_command_load.specs.declared.subject.SubjectStop.TheVariants as subject_stop
-use Rattle.pv_command_load.specs.Refusals.{table_status, case_refusal_line, source_line, project_line, table_line, fit_line}
-use Rattle.pv_command_load.specs.Stopped.{Stopped, unread, refused, no_memory, stopped_status, stopped_text}
-use Rattle.pv_command_load.specs.Stops.{case_stopped, source_stopped, project_stopped, table_stopped, fit_stopped, subject_status, subject_text}
-use Rattle.pv_command_load.specs.Subjects.{SubjectData}
-use Rattle.pv_bool_load.specs.declared.stop.FirstStop.{FirstStop}
-use Rattle.pv_bool_load.specs.declared.stop.FirstStop.TheVariants as first_stop
-use Rattle.pv_bool_load.specs.Stops.{first_stop_status, first_stop_text}
+use Rattle.pv_command_verdict.specs.Handed.{SubjectStop, table_status, case_refusal_line, source_line, project_line, table_line, fit_line, Stopped, unread, refused, no_memory, stopped_status, stopped_text, case_stopped, source_stopped, project_stopped, table_stopped, fit_stopped, subject_status, subject_text, SubjectData, FirstStop, first_stop_status, first_stop_text}
+use Rattle.pv_command_verdict.specs.Handed.subject_stop
+use Rattle.pv_command_verdict.specs.Handed.first_stop
 use Rattle.pv_command_verdict.specs.Cases.{case_in}
 use Rattle.pv_command_verdict.specs.Verdicts.{verdict_text}
 use Rattle.pv_command_recheck.specs.declared.recheck.Rechecked.{Rechecked}
@@ -24,7 +18,7 @@ use Rattle.pv_command_recheck.specs.declared.stop.RecheckStop.TheVariants as rec
 use Rattle.pv_command_recheck.specs.Certificates.{CertificateRefusal, faulty, too_many_edges, too_many_gates, RefusesCertificate, certificate_status, certificate_line, certificate_stopped}
 use Rattle.pv_command_recheck.specs.Refusals.{RecheckRefusal, as_first, by_certificate, RefusesRecheck, recheck_refusal_status, recheck_refusal_line}
 use Rattle.pv_command_recheck.specs.Rechecks.{HoldsRight, HoldsVerdict, IsReported, SaysRecheck, recheck_stop_status, recheck_status, recheck_text}
-use Rattle.pv_command_recheck.specs.Decided.{IsTold, EndsWith, IsRefusedWith, HasFault, RechecksExactly, FilesDecideOneRecheck}
+use Rattle.pv_command_recheck.specs.Decided.{IsTold, EndsWith, IsRefusedWith, HasFault, FilesDecideOneRecheck, OneComes, RechecksExactly}
 use Rattle.pv_command_recheck.proofs.Stopping.{first_refusal_statuses, stopped_statuses, first_statuses, stopped_as, first_as}
 use Rattle.pv_command_recheck.proofs.Unread.{claim_statuses}
 
@@ -220,8 +214,14 @@ module _ (files : FileMap) (case_file file : List ℕ) where
       status_fault : Came → HasFault files case_file file → status ≡ 8
       status_fault came h = (of_refusal came (by_certificate (faulty h.0 h.1)) h.2).0
 
+      one_comes : Came → OneComes files case_file file status
+      one_comes (had_right s c h e u) =
+          record { comes = inl (record { subject = s; certificate = c; holds = h; of_status = sym e }); one = law }
+      one_comes (refuses r h e u) = record { comes = inr (record { refusal = r; refuses = h; of_status = sym e }); one = law }
+
       pub rechecks_exactly : Came → RechecksExactly files case_file file status IsTaken
       rechecks_exactly came = record {
+        one = one_comes came;
         holds = (ends_of came 0 (omega arith), status_ends came 0);
         fails = (ends_of came 1 (omega arith), status_ends came 1);
         undecided = (ends_of came 2 (omega arith), status_ends came 2);

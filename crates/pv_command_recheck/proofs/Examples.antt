@@ -3,8 +3,7 @@ use Rattle.std.proofs.Common.{◌≡◌, codes, refl}
 use Rattle.std.specs.Fmt.{digits}
 use Rattle.pv_log.specs.declared.fault.LineFault.TheVariants.{BadId}
 use Rattle.pv_valid.specs.declared.fault.Kind.TheVariants.{NotACertificate, Line, NoEmpty, WrongQuery}
-use Rattle.pv_command_load.specs.Refusals.{of_table, of_fit, no_entry, pattern_text}
-use Rattle.pv_bool_load.specs.Refusals.{as_any, case_form, source_form}
+use Rattle.pv_command_verdict.specs.Handed.{of_table, of_fit, no_entry, pattern_text, as_any, case_form, source_form}
 use Rattle.pv_command_recheck.specs.Certificates.{too_many_edges, too_many_gates, faulty}
 use Rattle.pv_command_recheck.specs.Refusals.{as_first, by_certificate, recheck_refusal_status, recheck_refusal_line}
 

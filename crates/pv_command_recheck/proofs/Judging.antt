@@ -11,11 +11,7 @@ use Rattle.pv_cert.specs.CertificateText.{IsTextOf}
 use Rattle.pv_valid.specs.declared.fault.Fault.{Fault}
 use Rattle.pv_valid.specs.declared.fault.Fault.TheVariants.{TooManyGates, Line, NoMemory}
 use Rattle.pv_judge.specs.Answers.{Judges}
-use Rattle.pv_command_load.specs.Held.{HoldsBytes}
-use Rattle.pv_command_load.specs.Stopped.{stopped_status}
-use Rattle.pv_command_load.specs.Subjects.{SubjectData}
-use Rattle.pv_bool_load.specs.declared.subject.FirstSubject.{FirstSubject}
-use Rattle.pv_bool_load.specs.Made.{IsFirstSubject}
+use Rattle.pv_command_verdict.specs.Handed.{HoldsBytes, stopped_status, SubjectData, FirstSubject, IsFirstSubject}
 use Rattle.pv_command_verdict.specs.Sizes.{edges_of, HasTooManyEdges}
 use Rattle.pv_command_verdict.specs.Cases.{case_in}
 use Rattle.pv_command_recheck.specs.Certificates.{IsText, certificate_status, certificate_stopped, StopsCertificate}

@@ -12,9 +12,7 @@ use Rattle.pv_valid.specs.declared.fault.Verdict.{Verdict}
 use Rattle.pv_valid.specs.Cases.{Case}
 use Rattle.pv_valid.specs.Validity.{verdict_of}
 use Rattle.pv_valid.specs.Faults.{Answers}
-use Rattle.pv_command_load.specs.Held.{Holds, HoldsBytes}
-use Rattle.pv_command_load.specs.Subjects.{SubjectData}
-use Rattle.pv_bool_load.specs.Correct.{FilesDecideOneFirst}
+use Rattle.pv_command_verdict.specs.Handed.{Holds, HoldsBytes, SubjectData, FilesDecideOneFirst}
 use Rattle.pv_command_verdict.specs.Sizes.{HasTooManyEdges}
 use Rattle.pv_command_verdict.specs.Cases.{case_in}
 use Rattle.pv_command_recheck.specs.Certificates.{IsText, AreAnswered, CertificateRefusal, faulty, too_many_edges, too_many_gates, RefusesCertificate}

@@ -5,8 +5,7 @@ use Rattle.pv_claims.specs.declared.fault.CertFault.{CertFault}
 use Rattle.pv_claims.specs.declared.fault.CertFault.TheVariants as cert_fault
 use Rattle.pv_cert.specs.declared.certificate.Certificate.{Certificate}
 use Rattle.pv_cert.specs.CertificateText.{IsTextOf, FailsAt}
-use Rattle.pv_command_load.specs.Held.{Holds, HoldsBytes}
-use Rattle.pv_command_load.specs.Subjects.{SubjectData}
+use Rattle.pv_command_verdict.specs.Handed.{Holds, HoldsBytes, SubjectData}
 use Rattle.pv_command_recheck.specs.Certificates.{StopsCertificate}
 use Rattle.pv_command_recheck.specs.Made.{no_certificate}
 

@@ -7,10 +7,7 @@ use Rattle.pv_cert.specs.declared.certificate.Certificate.{Certificate}
 use Rattle.pv_cert.specs.CertificateText.{IsTextOf}
 use Rattle.pv_valid.specs.declared.fault.Verdict.{Verdict}
 use Rattle.pv_valid.specs.Validity.{ending_in, IsRight}
-use Rattle.pv_command_load.specs.Held.{Counts, HoldsBytes, IsUnread}
-use Rattle.pv_command_load.specs.Stopped.{stopped_status}
-use Rattle.pv_command_load.specs.Subjects.{SubjectData}
-use Rattle.pv_bool_load.specs.Forms.{ReadsFirst}
+use Rattle.pv_command_verdict.specs.Handed.{Counts, HoldsBytes, IsUnread, stopped_status, SubjectData, ReadsFirst}
 use Rattle.pv_command_verdict.specs.Cases.{case_in}
 use Rattle.pv_command_verdict.specs.Verdicts.{verdict_text, IsVerdict}
 use Rattle.pv_command_recheck.specs.declared.recheck.Rechecked.{Rechecked}

@@ -4,18 +4,10 @@ use Rattle.pv_edge.specs.Files.{FileMap}
 use Rattle.pv_claims.specs.declared.claim.Claim.{Claim}
 use Rattle.pv_claims.specs.declared.claim.Claim.TheVariants.{Satisfied, Unreachable, Violated, Trapped, Reached, Depth, Loop, Lemmas, Region}
 use Rattle.pv_report.specs.Reports.{status_of}
-use Rattle.pv_command_load.specs.declared.subject.SubjectStop.{SubjectStop}
-use Rattle.pv_command_load.specs.declared.subject.SubjectStop.TheVariants as subject_stop
-use Rattle.pv_command_load.specs.Held.{IsUnread}
-use Rattle.pv_command_load.specs.Refusals.{case_refusal_line, source_line}
-use Rattle.pv_command_load.specs.Sources.{AtOne, IsAsked, IsRefused}
-use Rattle.pv_command_load.specs.Reads.{RefusesCase}
-use Rattle.pv_command_load.specs.Stops.{case_stopped, source_stopped, subject_status, subject_unread, subject_text}
-use Rattle.pv_command_load.proofs.ForCallers.{none_unread, subject_other, stopped_other, TellsUnread, stopped_tells, tells_of, no_file_project, no_file_table, no_file_fit}
-use Rattle.pv_bool_load.specs.declared.stop.FirstStop.{FirstStop}
-use Rattle.pv_bool_load.specs.declared.stop.FirstStop.TheVariants as first_stop
-use Rattle.pv_bool_load.specs.Refusals.{StopsAsAny}
-use Rattle.pv_bool_load.specs.Stops.{first_stop_status, first_stop_unread, first_stop_text, StopsFirst}
+use Rattle.pv_command_verdict.specs.Handed.{SubjectStop, IsUnread, case_refusal_line, source_line, AtOne, IsAsked, IsRefused, RefusesCase, case_stopped, source_stopped, subject_status, subject_unread, subject_text, FirstStop, StopsAsAny, first_stop_status, first_stop_unread, first_stop_text, StopsFirst}
+use Rattle.pv_command_verdict.specs.Handed.subject_stop
+use Rattle.pv_command_verdict.proofs.ForCallers.{none_unread, subject_other, stopped_other, TellsUnread, stopped_tells, tells_of, no_file_project, no_file_table, no_file_fit}
+use Rattle.pv_command_verdict.specs.Handed.first_stop
 use Rattle.pv_command_recheck.specs.declared.recheck.Rechecked.{Rechecked}
 use Rattle.pv_command_recheck.specs.declared.stop.RecheckStop.{RecheckStop}
 use Rattle.pv_command_recheck.specs.declared.stop.RecheckStop.TheVariants as recheck_stop

@@ -10,9 +10,7 @@ use Rattle.pv_valid.specs.declared.fault.Fault.TheVariants.{TooManyGates, Line}
 use Rattle.pv_valid.specs.declared.fault.Verdict.{Verdict}
 use Rattle.pv_valid.specs.Faults.{Answers}
 use Rattle.pv_valid.specs.Kinds.{kind_word}
-use Rattle.pv_command_load.specs.Held.{HoldsBytes}
-use Rattle.pv_command_load.specs.Stopped.{Stopped, unread, refused, no_memory, StopsAt}
-use Rattle.pv_command_load.specs.Subjects.{SubjectData}
+use Rattle.pv_command_verdict.specs.Handed.{HoldsBytes, Stopped, unread, refused, no_memory, StopsAt, SubjectData}
 use Rattle.pv_command_verdict.specs.Sizes.{HasTooManyEdges, edges_line, gates_line}
 use Rattle.pv_command_verdict.specs.Cases.{case_in}
 use Rattle.pv_command_recheck.specs.declared.stop.CertificateStop.{CertificateStop}

@@ -1,12 +1,12 @@
 -- What the files hold decides of a recheck: all of it.
-use Rattle.std.specs.Prelude.{◌≡◌, ◌↔◌, ℕ, List, Option, Some}
+use Rattle.std.specs.Prelude.{◌≡◌, ◌⊎◌, ◌↔◌, ℕ, List, Option, Some}
 use Rattle.pv_edge.specs.Files.{FileMap}
 use Rattle.pv_claims.specs.declared.trace.Ending.{Ending}
 use Rattle.pv_cert.specs.declared.certificate.Certificate.{Certificate}
 use Rattle.pv_valid.specs.declared.fault.Kind.{Kind}
 use Rattle.pv_valid.specs.Validity.{ending_in}
 use Rattle.pv_report.specs.Reports.{status_of}
-use Rattle.pv_command_load.specs.Subjects.{SubjectData}
+use Rattle.pv_command_verdict.specs.Handed.{SubjectData}
 use Rattle.pv_command_verdict.specs.Cases.{case_in}
 use Rattle.pv_command_verdict.specs.Verdicts.{verdict_text}
 use Rattle.pv_command_recheck.specs.Certificates.{faulty}
@@ -46,8 +46,24 @@ HasFault files case_file file =
 
 -- ---- all of it
 
+-- what a law says of what files hold for a recheck: that is one thing that it works on with one right certificate at most, or one refusal at
+-- most, and not both
+pub record FilesDecideOneRecheck (files : FileMap) (case_file file : List ℕ) : Type 0 where
+  pub one_right : (s t : SubjectData) (c d : Certificate) → HoldsRight (Some files) case_file file s c
+      → HoldsRight (Some files) case_file file t d → (s ≡ t) × (c ≡ d)
+  pub one_refusal : (r q : RecheckRefusal) → RefusesRecheck (Some files) case_file file r → RefusesRecheck (Some files) case_file file q
+      → r ≡ q
+  pub apart : (s : SubjectData) (c : Certificate) (r : RecheckRefusal) → HoldsRight (Some files) case_file file s c
+      → RefusesRecheck (Some files) case_file file r → ⊥
+
+-- exactly one comes: the verdict of the one right certificate that they hold, or their one refusal, with its status
+pub record OneComes (files : FileMap) (case_file file : List ℕ) (status : ℕ) : Type 0 where
+  pub comes : EndsWith files case_file file status ⊎ IsRefusedWith files case_file file status
+  pub one : FilesDecideOneRecheck files case_file file
+
 -- what the files hold decides a recheck's status, where this is none of 6, 7 and 9, and the text that is taken
 pub record RechecksExactly (files : FileMap) (case_file file : List ℕ) (status : ℕ) (IsTaken : List ℕ → Type 0) : Type 0 where
+  pub one : OneComes files case_file file status
   -- a requirement that holds or a goal that is reached; one that doesn't or can't be; what is undecided
   pub holds : (status ≡ 0) ↔ EndsWith files case_file file 0
   pub fails : (status ≡ 1) ↔ EndsWith files case_file file 1
@@ -60,13 +76,3 @@ pub record RechecksExactly (files : FileMap) (case_file file : List ℕ) (status
       → IsTaken (verdict_text s c (ending_in (case_in s) c.trace))
   pub refusal_told : (refusal : RecheckRefusal) → RefusesRecheck (Some files) case_file file refusal
       → IsTaken (recheck_refusal_line refusal)
-
--- what a law says of what files hold for a recheck: that is one thing that it works on with one right certificate at most, or one refusal at
--- most, and not both
-pub record FilesDecideOneRecheck (files : FileMap) (case_file file : List ℕ) : Type 0 where
-  pub one_right : (s t : SubjectData) (c d : Certificate) → HoldsRight (Some files) case_file file s c
-      → HoldsRight (Some files) case_file file t d → (s ≡ t) × (c ≡ d)
-  pub one_refusal : (r q : RecheckRefusal) → RefusesRecheck (Some files) case_file file r → RefusesRecheck (Some files) case_file file q
-      → r ≡ q
-  pub apart : (s : SubjectData) (c : Certificate) (r : RecheckRefusal) → HoldsRight (Some files) case_file file s c
-      → RefusesRecheck (Some files) case_file file r → ⊥

@@ -8,9 +8,8 @@ use Rattle.pv_valid.specs.declared.fault.Fault.{Fault}
 use Rattle.pv_valid.specs.declared.fault.Fault.TheVariants as fault
 use Rattle.pv_valid.specs.declared.fault.Verdict.{Verdict}
 use Rattle.pv_valid.specs.Validity.{IsRight, verdict_of}
-use Rattle.pv_command_load.specs.declared.reading.ReadStop.{ReadStop}
-use Rattle.pv_command_load.specs.declared.reading.ReadStop.TheVariants as read_stop
-use Rattle.pv_command_load.specs.Subjects.{SubjectData}
+use Rattle.pv_command_verdict.specs.Handed.{ReadStop, SubjectData}
+use Rattle.pv_command_verdict.specs.Handed.read_stop
 use Rattle.pv_command_verdict.specs.Sizes.{HasTooManyEdges}
 use Rattle.pv_command_verdict.specs.Cases.{case_in}
 use Rattle.pv_command_recheck.specs.declared.stop.CertificateStop.{CertificateStop}

@@ -6,11 +6,7 @@ use Rattle.pv_cert.specs.declared.certificate.Certificate.{Certificate}
 use Rattle.pv_cert.specs.CertificateText.{IsTextOf}
 use Rattle.pv_valid.specs.Validity.{IsRight}
 use Rattle.pv_report.specs.Reports.{status_of}
-use Rattle.pv_command_load.specs.Held.{Holds}
-use Rattle.pv_command_load.specs.Stopped.{stopped_status, stopped_unread, stopped_text}
-use Rattle.pv_command_load.specs.Subjects.{SubjectData}
-use Rattle.pv_bool_load.specs.Forms.{ReadsFirst}
-use Rattle.pv_bool_load.specs.Stops.{StopsFirst, first_stop_status, first_stop_unread, first_stop_text}
+use Rattle.pv_command_verdict.specs.Handed.{Holds, stopped_status, stopped_unread, stopped_text, SubjectData, ReadsFirst, StopsFirst, first_stop_status, first_stop_unread, first_stop_text}
 use Rattle.pv_command_verdict.specs.Sizes.{HasTooManyEdges}
 use Rattle.pv_command_verdict.specs.Cases.{case_in}
 use Rattle.pv_command_verdict.specs.Verdicts.{verdict_text, IsVerdict}

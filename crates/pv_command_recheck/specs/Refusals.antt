@@ -1,12 +1,7 @@
 -- The files that a recheck asks for, and why it is refused, in the order of work: what it works on; its certificate.
 use Rattle.std.specs.Prelude.{◌⊎◌, ◌≡◌, ℕ, List, Option}
 use Rattle.pv_edge.specs.Files.{FileMap}
-use Rattle.pv_command_load.specs.Sources.{AtOne, IsAsked}
-use Rattle.pv_command_load.specs.Subjects.{SubjectData}
-use Rattle.pv_command_load.specs.Reads.{OfCase}
-use Rattle.pv_bool_case.specs.Forms.{IsFirstCase}
-use Rattle.pv_bool_load.specs.Forms.{ReadsFirst}
-use Rattle.pv_bool_load.specs.Refusals.{FirstRefusal, first_refusal_status, first_refusal_line, RefusesFirst}
+use Rattle.pv_command_verdict.specs.Handed.{AtOne, IsAsked, SubjectData, OfCase, IsFirstCase, ReadsFirst, FirstRefusal, first_refusal_status, first_refusal_line, RefusesFirst}
 use Rattle.pv_command_recheck.specs.Certificates.{CertificateRefusal, RefusesCertificate, certificate_status, certificate_line}
 
 -- ---- the files that a recheck asks for, each where all before it is as it should be: the case's, its source's, its certificate's

@@ -2,14 +2,12 @@
 ghost use Rattle.std.specs.Prelude.{◌≡◌, IfOk, IfErr, MatchResult};
 ghost use Rattle.pv_claims.specs.TracePart.{trace_form, HasForm};
 ghost use Rattle.pv_cert.specs.CertificateText.{IsTextOf};
-ghost use Rattle.pv_command_load.specs.Held.{Counts, HoldsBytes, IsUnread};
-ghost use Rattle.pv_command_load.specs.Stopped.{stopped_status, stopped_unread};
-ghost use Rattle.pv_command_load.specs.Subjects.{SubjectData};
+ghost use Rattle.pv_command_verdict.specs.Handed.{Counts, HoldsBytes, IsUnread, stopped_status, stopped_unread, SubjectData};
 ghost use Rattle.pv_command_recheck.specs.Certificates.{certificate_status, certificate_stopped, StopsCertificate};
 
 use crate::stop::CertificateStop;
 use pv_cert::Certificate;
-use pv_command_load::read;
+use pv_command_verdict::read;
 use pv_edge::Files;
 use std::alloc::Global;
 

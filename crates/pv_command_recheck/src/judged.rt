@@ -3,19 +3,14 @@ ghost use Rattle.std.specs.Prelude.{◌≡◌, ◌≢◌, ℕ, List, Option, IfO
 ghost use Rattle.pv_edge.specs.Files.{FileMap};
 ghost use Rattle.pv_claims.specs.TracePart.{trace_form, HasForm};
 ghost use Rattle.pv_cert.specs.CertificateText.{IsTextOf};
-ghost use Rattle.pv_command_load.specs.Held.{HoldsBytes};
-ghost use Rattle.pv_command_load.specs.Stopped.{stopped_status};
-ghost use Rattle.pv_command_load.specs.Subjects.{SubjectData};
-ghost use Rattle.pv_bool_load.specs.Forms.{ReadsFirst};
-ghost use Rattle.pv_bool_load.specs.Made.{IsFirstSubject};
+ghost use Rattle.pv_command_verdict.specs.Handed.{HoldsBytes, stopped_status, SubjectData, ReadsFirst, IsFirstSubject};
 ghost use Rattle.pv_command_verdict.specs.Made.{IsWorkedOn};
 ghost use Rattle.pv_command_recheck.specs.Certificates.{certificate_status, certificate_stopped, StopsCertificate};
 ghost use Rattle.pv_command_recheck.specs.Made.{IsJudged};
 
 use crate::stop::CertificateStop;
-use pv_bool_load::FirstSubject;
 use pv_cert::Certificate;
-use pv_command_verdict::{has_too_many_edges, judge_certificate};
+use pv_command_verdict::{FirstSubject, has_too_many_edges, judge_certificate};
 use pv_valid::Verdict;
 use pv_valid::laws::certificates_have_one_answer;
 use std::alloc::Global;

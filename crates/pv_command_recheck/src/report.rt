@@ -1,15 +1,13 @@
 //! What a recheck reports of a certificate that is right.
 ghost use Rattle.std.specs.Prelude.{◌≡◌, IfOk, IfErr, Err};
 ghost use Rattle.std.specs.Result.{IsOkAnd};
-ghost use Rattle.pv_command_load.specs.Subjects.{SubjectData};
-ghost use Rattle.pv_command_load.specs.Made.{IsSubject};
+ghost use Rattle.pv_command_verdict.specs.Handed.{SubjectData, IsSubject};
 ghost use Rattle.pv_command_verdict.specs.Verdicts.{verdict_text};
 
 use crate::recheck::Rechecked;
 use crate::stop::CertificateStop;
 use pv_cert::Certificate;
-use pv_command_load::Subject;
-use pv_command_verdict::report_of;
+use pv_command_verdict::{Subject, report_of};
 use pv_evidence::{Evidence, reported};
 use pv_valid::Verdict;
 use std::alloc::{AllocError, Global};

@@ -1,18 +1,17 @@
 //! Why a recheck stops before its report.
 ghost use Rattle.std.specs.Prelude.{◌≡◌, Some, IfOk, string_bytes};
-ghost use Rattle.pv_command_load.specs.Stopped.{stopped_status, stopped_text};
+ghost use Rattle.pv_command_verdict.specs.Handed.{stopped_status, stopped_text};
 ghost use Rattle.pv_command_recheck.specs.Certificates as certificates;
 ghost use Rattle.pv_command_recheck.specs.Certificates.{certificate_status, certificate_line, certificate_stopped};
 ghost use Rattle.pv_command_recheck.specs.Rechecks.{recheck_stop_status, recheck_stop_text};
 ghost use Rattle.pv_command_recheck.specs.declared.stop.CertificateStop.TheVariants as certificate_stop;
 ghost use Rattle.pv_command_recheck.specs.declared.stop.RecheckStop.TheVariants.{First as At_first, Certificate as At_certificate, NoMemory};
 
-use pv_bool_load::FirstStop;
 use pv_cert::CertFault;
-use pv_command_load::{
-    NO_MEMORY, READ_FAULT, ReadStop, SOURCE_REFUSED, Status, TEXT_REFUSED, read_line,
+use pv_command_verdict::{
+    FirstStop, NO_MEMORY, READ_FAULT, ReadStop, SOURCE_REFUSED, Status, TEXT_REFUSED, edges_line,
+    gates_line, read_line,
 };
-use pv_command_verdict::{edges_line, gates_line};
 use pv_valid::{Fault, Kind};
 use std::alloc::{AllocError, Global};
 use thiserror::Error;

@@ -4,3 +4,4 @@ pub use Rattle.pv_command_replay.proofs.TraceLaws.{one_trace_held, has_values}
 pub use Rattle.pv_command_replay.proofs.Starts.{subject_starts}
 pub use Rattle.pv_command_replay.proofs.Saying.{reported_as, all_read}
 pub use Rattle.pv_command_replay.proofs.Unread.{end_never_six, stop_tells, replay_tells}
+pub use Rattle.pv_command_load.proofs.ForCallers.{TellsUnread, none_unread, tells_of}

@@ -8,3 +8,4 @@ pub mod Correct
 -- what private clauses cite
 pub mod Judged
 pub mod Passing
+pub mod Handed

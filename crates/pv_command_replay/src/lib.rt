@@ -10,6 +10,8 @@ mod scans;
 mod trace;
 
 pub use end::{Cause, End};
+pub use pv_command_load::laws::files_decide_one;
+pub use pv_command_load::{NO_MEMORY, Status, Subject, WORDS_REFUSED, WRITE_FAULT};
 pub use replay::{Ran, ReplayStop, Replayed, replay_in, run_in};
 pub use report::end_lines;
 pub use trace::TraceStop;

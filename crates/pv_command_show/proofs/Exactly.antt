@@ -1,12 +1,10 @@
 -- From what a show came to, to what the files decide.
 use Rattle.std.proofs.Common.{◌≡◌, ◌≢◌, ℕ, List, Option, Some, Result, Ok, Err, map, string_bytes, refl, ap, ◌∙◌}
 use Rattle.pv_edge.specs.Files.{FileMap}
-use Rattle.pv_command_load.specs.Subjects.{SubjectData, source_in}
-use Rattle.pv_command_load.specs.Stops.{text_tree}
+use Rattle.pv_command_replay.specs.Handed.{SubjectData, source_in, text_tree}
 use Rattle.pv_command_replay.specs.declared.replay.ReplayStop.{ReplayStop}
-use Rattle.pv_command_load.proofs.ForCallers.{TellsUnread}
+use Rattle.pv_command_replay.proofs.ForCallers.{TellsUnread, Came, ends, by_stop, end_never_five, stop_never_five, end_never_six, stop_tells}
 use Rattle.pv_command_replay.specs.Replays.{AsksReplay}
-use Rattle.pv_command_replay.proofs.ForCallers.{Came, ends, by_stop, end_never_five, stop_never_five, end_never_six, stop_tells}
 use Rattle.pv_command_show.specs.declared.show.Shown.{Shown}
 use Rattle.pv_command_show.specs.Texts.{shown_scans, show_text}
 use Rattle.pv_command_show.specs.Shows.{show_of, IsShown, SaysShow, show_status, show_unread, shown_text}

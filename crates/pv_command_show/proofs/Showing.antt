@@ -4,8 +4,7 @@ use Rattle.std.specs.Prelude.{IfOk}
 use Rattle.std.specs.Result.{IsErrAnd}
 use Rattle.pv_edge.specs.Files.{FileMap}
 use Rattle.pv_mean.specs.Runs.{run}
-use Rattle.pv_command_load.specs.Held.{Counts, IsUnread}
-use Rattle.pv_command_load.specs.Subjects.{SubjectData, source_in}
+use Rattle.pv_command_replay.specs.Handed.{Counts, IsUnread, SubjectData, source_in}
 use Rattle.pv_command_replay.specs.declared.replay.Ran.{Ran}
 use Rattle.pv_command_replay.specs.declared.replay.ReplayStop.{ReplayStop}
 use Rattle.pv_command_replay.specs.Ends.{IsEnd}

@@ -3,3 +3,4 @@ pub mod Texts
 pub mod Shows
 -- what private clauses cite
 pub mod Steps
+pub mod Handed

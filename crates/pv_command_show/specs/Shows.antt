@@ -2,8 +2,7 @@
 use Rattle.std.specs.Prelude.{◌≡◌, ℕ, List, map, Option, Some, None, Result, Ok, Err, string_bytes}
 use Rattle.pv_edge.specs.Files.{FileMap}
 use Rattle.pv_claims.specs.declared.trace.Trace.{Trace}
-use Rattle.pv_command_load.specs.Subjects.{texts_of, SubjectData, source_in}
-use Rattle.pv_command_load.specs.Stops.{text_tree}
+use Rattle.pv_command_replay.specs.Handed.{texts_of, SubjectData, source_in, text_tree}
 use Rattle.pv_command_replay.specs.declared.end.End.{End}
 use Rattle.pv_command_replay.specs.declared.replay.ReplayStop.{ReplayStop}
 use Rattle.pv_command_replay.specs.Reports.{end_status}

@@ -11,7 +11,7 @@ use Rattle.pv_mean.specs.Runs.{run}
 use Rattle.pv_pattern.specs.Patterns.{Pattern, invariant, forbidden, implication, within, between, reach, is_true_of}
 use Rattle.pv_claims.specs.declared.trace.Trace.{Trace}
 use Rattle.pv_report.specs.Reports.{value_line}
-use Rattle.pv_command_load.specs.Positions.{FileText}
+use Rattle.pv_command_replay.specs.Handed.{FileText}
 use Rattle.pv_command_replay.specs.declared.end.End.{End}
 use Rattle.pv_command_replay.specs.declared.end.End.TheVariants.{Kept, Broken, Over, Reached, NotReached}
 use Rattle.pv_command_replay.specs.Reports.{end_text}

@@ -5,4 +5,9 @@ mod lines;
 mod scans;
 mod show;
 
+pub use pv_command_replay::laws::{files_decide_one_trace, runs_end_in_one_way};
+pub use pv_command_replay::{
+    NO_MEMORY, ReplayStop, Replayed, Status, WORDS_REFUSED, WRITE_FAULT, files_decide_one,
+    replay_in,
+};
 pub use show::{Shown, show_in};

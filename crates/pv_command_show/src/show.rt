@@ -1,11 +1,10 @@
 //! The command `show CASE TRACE`.
 ghost use Rattle.std.specs.Prelude.{◌≡◌, Ok, Some, IfOk};
-ghost use Rattle.pv_command_load.specs.Held.{Counts, IsUnread};
+ghost use Rattle.pv_command_replay.specs.Handed.{Counts, IsUnread};
 ghost use Rattle.pv_command_show.specs.Shows.{SaysShow, show_status, show_unread, shown_text};
 
 use crate::scans::scans_of;
-use pv_command_load::Status;
-use pv_command_replay::{ReplayStop, Replayed, end_lines, run_in};
+use pv_command_replay::{ReplayStop, Replayed, Status, end_lines, run_in};
 use pv_edge::Files;
 use std::alloc::{AllocError, Global};
 

@@ -1,6 +1,7 @@
 -- What a decision says besides its certificate: the queries were asked in order, and what can be decided within the limits is decided.
 use Rattle.std.proofs.Common.{◌≡◌, ◌↔◌, ◌⊎◌, inl, inr, ℕ, ◌+◌, ◌*◌, ◌^◌, ◌<◌, ◌≤◌, Bool, true, false, List, [], ◌∷◌, ◌++◌, Option, Some, None, refl, ap, sym, subst, ◌∙◌, arith}
-use Rattle.std.specs.Prelude.{sum_by}
+use Rattle.std.specs.Prelude.{reverse, sum_by}
+use Rattle.std.proofs.lemmas.List.{reverse-append}
 use Rattle.std.proofs.lemmas.List.Sums.{sum_by-append, sum_by-cons}
 use Rattle.pv_place.specs.declared.place.Place.{Place}
 use Rattle.pv_cnf.specs.Clause.{Cnf, AreClauses}
@@ -36,17 +37,17 @@ use Rattle.pv_kind.specs.declared.told.TheConstants.{LAST_QUERY}
 use Rattle.pv_kind.specs.Oracles.{IsAsked}
 use Rattle.pv_kind.specs.Decisions.{Decides, IsFull, SpendsWords, problem_of, steps_before, IsWithin, IsUnspent, IsProvedBy, IsFailedBy}
 use Rattle.pv_valid.specs.Cases.{Case, IsSound}
-use Rattle.pv_valid.specs.Validity.{IsRight, ending_in}
+use Rattle.pv_valid.specs.Validity.{ending_in}
 use Rattle.pv_valid.specs.Deciding.{certificate_of, failed_claim, proved_claim}
 use Rattle.pv_lift.specs.Facts.{facts_of}
 use Rattle.pv_lift.specs.Cases.{case_of}
 use Rattle.pv_lift.specs.Stages.{encoding_of}
 use Rattle.pv_evidence.specs.Reported.{last_query}
 use Rattle.pv_command_verdict.specs.Cases.{limits_by}
-use Rattle.pv_command_verdict.specs.Sayings.{FailsBy, SaysOfSource, asked_last, MeetsEarlierSteps, IsLeast, IsInOrder}
+use Rattle.pv_command_verdict.specs.Sayings.{FailsBy, SaysOfSource, asked_last, MeetsEarlierSteps, IsInOrder}
 use Rattle.pv_command_verdict.specs.Bounds as bounds
 use Rattle.pv_command_verdict.specs.Bounds.{IsShownBy, ClosesBy, SomeFailsAt, NoneGoesOver, SpendsOf}
-use Rattle.pv_command_verdict.proofs.Refuted.{last_is, step_not_met}
+use Rattle.pv_command_verdict.proofs.Refuted.{last_is}
 
 -- ---- words
 
@@ -128,6 +129,17 @@ within_asked depth (Step k) most w = omega (arith, w, most)
 same_query : (q r : Query) → Some q ≡ Some r → q ≡ r
 same_query q r e = cc
 
+same_proof : (x y : Proof) → Some x ≡ Some y → x ≡ y
+same_proof x y e = cc
+
+-- the last proof, as that with which the list begins backwards
+abbrev first_proof : List Proof → Option Proof
+first_proof [] = None
+first_proof (x ∷ xs) = Some x
+
+last_proof : (front : List Proof) (x : Proof) → first_proof (reverse (front ++ x ∷ [])) ≡ Some x
+last_proof front x = ap first_proof (reverse-append front (x ∷ []))
+
 -- a run goes over the bound by what is printed
 goes_over : (source : Source) (p : Pattern) (n : ℕ) (place : Place) (t : Option Trace) → FailsBy source p n (over place) t
     → SomeFailsAt source p n (over place)
@@ -178,55 +190,32 @@ module _ (source : Source) (p : Pattern) (limits : A_limits) (m : Machine) (c : 
   met : (q : Query) → ((j : ℕ) → j < steps_before q → MeetsStep m j) → MeetsEarlierSteps source p q
   met q of j less = (step j).1 (of j less)
 
-  failed_least : (goal : Bool) (told : Option Ending) (n : ℕ) → IsLeast source p (failed_claim goal told n)
-  failed_least false None n = tt
-  failed_least true None n = tt
-  failed_least false (Some ending.Pattern) n = tt
-  failed_least true (Some ending.Pattern) n = tt
-  failed_least false (Some (ending.Trap kind place)) n = tt
-  failed_least true (Some (ending.Trap kind place)) n = tt
-  failed_least false (Some (ending.Over place)) n = tt
-  failed_least true (Some (ending.Over place)) n = tt
-
-  proved_least : (goal : Bool) (k : ℕ) (proofs : List Proof) → goal ≡ asks_for_goal p
-      → IsRight case (record { claim = proved_claim goal k; trace = None; proofs = proofs; next = None })
-      → IsLeast source p (proved_claim goal k)
-  proved_least false k proofs is right =
-      λ meets. step_not_met case sound k proofs right.belongs.1 right.proofs ((step k).0 meets)
-  proved_least true k proofs is right =
-      λ meets. step_not_met case sound k proofs right.belongs.1 right.proofs ((step k).0 meets)
-
   pub in_order : (first last : Stage) (proofs : List Proof) (end : End) → Decided first last proofs end
-      → IsRight case (certificate_of case proofs end) → IsInOrder source p (certificate_of case proofs end)
-  in_order first last proofs (Proved k) d right = record {
+      → IsInOrder source p (certificate_of case proofs end)
+  in_order first last proofs (Proved k) d = record {
     query = Step k;
     asked = asked_proved (certificate_of case proofs (Proved k)) (asks_for_goal p) k;
     met = met (Step k) d.met;
-    least = proved_least (asks_for_goal p) k proofs refl right;
   }
-  in_order first last proofs (Failed n t) d right = record {
+  in_order first last proofs (Failed n t) d = record {
     query = Base n;
     asked = asked_failed (certificate_of case proofs (Failed n t)) (asks_for_goal p) (ending_in case (Some t)) n;
     met = met (Base n) d.turn.met;
-    least = failed_least (asks_for_goal p) (ending_in case (Some t)) n;
   }
-  in_order first last proofs (Depth t) d right = record {
+  in_order first last proofs (Depth t) d = record {
     query = Step limits.depth;
     asked = refl;
     met = met (Step limits.depth) d.turn.met;
-    least = tt;
   }
-  in_order first last proofs SpentLemmas d right = record {
+  in_order first last proofs SpentLemmas d = record {
     query = d.proof.query;
     asked = ap last_query d.split ∙ last_is d.front d.proof;
     met = met d.proof.query d.turn.met;
-    least = tt;
   }
-  in_order first last proofs (SpentRegion need next) d right = record {
+  in_order first last proofs (SpentRegion need next) d = record {
     query = d.proof.query;
     asked = ap last_query d.split ∙ last_is d.front d.proof;
     met = met d.proof.query d.turn.met;
-    least = tt;
   }
 
   -- ---- complete
@@ -311,6 +300,29 @@ module _ (source : Source) (p : Pattern) (limits : A_limits) (m : Machine) (c : 
 
   same_lemmas : (a b : ℕ) → claim.Lemmas a ≡ claim.Lemmas b → a ≡ b
   same_lemmas a b e = cc
+
+  same_region : (x y : ℕ) → claim.Region x ≡ claim.Region y → x ≡ y
+  same_region x y e = cc
+
+  -- which words were lacking
+  pub lacks : (first last : Stage) (proofs : List Proof) (end : End) → Decided first last proofs end
+      → (front : List Proof) (named : Proof) (x : ℕ) → (certificate_of case proofs end).claim ≡ claim.Region x
+      → (certificate_of case proofs end).proofs ≡ front ++ named ∷ []
+      → SpendsWords (problem_of (limits_by limits) (f named.query).variables (f named.query).clauses) named.log x (certificate_of case proofs end).next
+  lacks first last proofs (Proved k) d front named x is split =
+      absurd (proved_unspent (asks_for_goal p) k (subst (λ (c : Claim). bounds.IsSpent c) (sym is) tt))
+  lacks first last proofs (Failed n t) d front named x is split =
+      absurd (failed_unspent (asks_for_goal p) (ending_in case (Some t)) n (subst (λ (c : Claim). bounds.IsSpent c) (sym is) tt))
+  lacks first last proofs (Depth t) d front named x is split =
+      absurd (subst (λ (c : Claim). bounds.IsSpent c) (sym is) tt)
+  lacks first last proofs SpentLemmas d front named x is split = absurd (not_region limits.lemmas x is)
+  lacks first last proofs (SpentRegion need next) d front named x is split =
+      let one : d.proof ≡ named = same_proof d.proof named (sym (last_proof d.front d.proof)
+      ∙ ap (λ (ps : List Proof). first_proof (reverse ps)) (sym d.split ∙ split) ∙ last_proof front named) in
+      let own : SpendsWords (problem_of (limits_by limits) (f d.proof.query).variables (f d.proof.query).clauses) d.proof.log need next = d.log in
+      subst (λ (n : ℕ). SpendsWords (problem_of (limits_by limits) (f named.query).variables (f named.query).clauses) named.log n next)
+      (same_region need x is)
+      (subst (λ (y : Proof). SpendsWords (problem_of (limits_by limits) (f y.query).variables (f y.query).clauses) y.log need next) one own)
 
   pub spends : Suffice → ((q : Query) → IsAsked q → AreClauses (f q).variables (f q).clauses) → (first last : Stage) (proofs : List Proof) (end : End)
       → Decided first last proofs end → (q : Query) → bounds.IsSpent (certificate_of case proofs end).claim → last_query (certificate_of case proofs end).proofs ≡ Some q

@@ -23,14 +23,14 @@ use Rattle.pv_queries.specs.declared.built.TheConstants.{MAX_BUILT_GATES}
 use Rattle.pv_lift.specs.Cases.{case_of}
 use Rattle.pv_lift.specs.Stages.{encoding_of}
 use Rattle.pv_evidence.specs.Correct.{IsEvidence}
-use Rattle.pv_command_load.specs.Subjects.{SubjectData, source_in}
+use Rattle.pv_bool_load.specs.Handed.{SubjectData, source_in}
 use Rattle.pv_bool_load.specs.Forms.{ReadsFirst, program_of}
 use Rattle.pv_bool_load.specs.Correct.{IsOfProgram}
 use Rattle.pv_command_verdict.specs.Sizes.{gates_of}
 use Rattle.pv_command_verdict.specs.Cases.{limits_by, facts_in, case_in}
 use Rattle.pv_command_verdict.specs.Made.{IsEvidenceOf, IsLiftOf}
 use Rattle.pv_command_verdict.proofs.Right.{says}
-use Rattle.pv_command_verdict.proofs.Decided.{Suffice, in_order, closes, finds, spends}
+use Rattle.pv_command_verdict.proofs.Decided.{Suffice, in_order, closes, finds, spends, lacks}
 use Rattle.pv_command_verdict.proofs.OfFiles.{Laws, sound_in}
 
 few_gates : (most gates : ℕ) → nat_lt most gates ≡ false → most < gates → ⊥
@@ -86,7 +86,7 @@ evidence_of laws suffice told file s reads of formulas fits tree facts cells bac
       few = few_gates MAX_BUILT_GATES (gates_of s) fits;
       says = said;
       order = in_order source s.pattern s.given.case.limits m (circuit_of program) (starts_of program) same.base same.step sound
-          stage own.last own.proofs own.end own.decides right;
+          stage own.last own.proofs own.end own.decides;
       complete = record {
         closes = λ k unspent within by. closes source s.pattern s.given.case.limits m (circuit_of program) (starts_of program) same.base
             same.step sound own.proofs own.end k own.proves unspent within by;
@@ -94,6 +94,8 @@ evidence_of laws suffice told file s reads of formulas fits tree facts cells bac
             same.base same.step sound own.proofs own.end n cause own.finds unspent within some none said;
         spends = λ q spent named. spends source s.pattern s.given.case.limits m (circuit_of program) (starts_of program)
             same.base same.step sound suffice formulas stage own.last own.proofs own.end own.decides q spent named;
+        lacks = λ front named x is split. lacks source s.pattern s.given.case.limits m (circuit_of program) (starts_of program)
+            same.base same.step sound stage own.last own.proofs own.end own.decides front named x is split;
       };
     } in
     subst (λ (x : Option Ending). IsEvidenceOf s c x) (sym own.ending)

@@ -20,7 +20,7 @@ use Rattle.pv_frames.specs.declared.query.TheConstants.{MAX_QUERY_NODES}
 use Rattle.pv_frames.specs.Queries.{IsAsked, IsFormula}
 use Rattle.pv_kind.specs.Oracles as oracles
 use Rattle.pv_queries.specs.declared.built.TheConstants.{MAX_BUILT_GATES}
-use Rattle.pv_command_load.specs.Subjects.{SubjectData}
+use Rattle.pv_bool_load.specs.Handed.{SubjectData}
 use Rattle.pv_bool_load.specs.Forms.{program_of}
 use Rattle.pv_bool_load.specs.Correct.{IsOfProgram}
 use Rattle.pv_command_verdict.specs.Cases.{case_in}

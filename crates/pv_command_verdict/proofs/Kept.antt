@@ -2,7 +2,7 @@
 use Rattle.std.proofs.Common.{ℕ, List, Option, ap}
 use Rattle.pv_claims.specs.declared.trace.Ending.{Ending}
 use Rattle.pv_cert.specs.declared.certificate.Certificate.{Certificate}
-use Rattle.pv_command_load.specs.Subjects.{SubjectData}
+use Rattle.pv_bool_load.specs.Handed.{SubjectData}
 use Rattle.pv_command_verdict.specs.Verdicts.{IsVerdict, IsValidFor}
 
 pub valid_for : (s : SubjectData) (bytes : List ℕ) (c : Certificate) (told : Option Ending) → IsVerdict s bytes c told

@@ -8,6 +8,8 @@ pub mod OfFiles
 pub mod Kept
 pub mod SizeLines
 pub mod Starts
+pub mod Done
+pub mod EdgeCounts
 pub mod Lifting
 pub mod Decided
 pub mod Evidence
@@ -15,3 +17,4 @@ pub mod Formulas
 pub mod Whole
 pub mod Places
 pub mod Reports
+pub mod ForCallers

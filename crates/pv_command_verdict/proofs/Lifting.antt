@@ -32,7 +32,7 @@ use Rattle.pv_lift.specs.Stages.{encoding_of}
 use Rattle.pv_step.specs.Steps.{form_of, starts_of}
 use Rattle.pv_queries.specs.declared.built.TheConstants.{MAX_BUILT_BITS}
 use Rattle.pv_lift.specs.Lifts.{IsLifted}
-use Rattle.pv_command_load.specs.Subjects.{SubjectData, source_in}
+use Rattle.pv_bool_load.specs.Handed.{SubjectData, source_in}
 use Rattle.pv_bool_load.specs.Forms.{program_of}
 use Rattle.pv_command_verdict.specs.Cases.{limits_by, facts_in, case_in}
 use Rattle.pv_command_verdict.specs.Made.{IsLiftOf}

@@ -15,7 +15,7 @@ use Rattle.pv_cert.specs.declared.certificate.Certificate.{Certificate}
 use Rattle.pv_cert.specs.CertificateText.{IsTextOf}
 use Rattle.pv_valid.specs.Cases.{IsSound}
 use Rattle.pv_valid.specs.Validity.{ending_in, IsRight}
-use Rattle.pv_command_load.specs.Subjects.{SubjectData, source_in}
+use Rattle.pv_bool_load.specs.Handed.{SubjectData, source_in}
 use Rattle.pv_bool_load.specs.Forms.{ReadsFirst, program_of}
 use Rattle.pv_bool_load.specs.Correct.{IsOfProgram}
 use Rattle.pv_command_verdict.specs.Cases.{case_in}

@@ -4,8 +4,7 @@ use Rattle.std.specs.Prelude.{slice_index_or}
 use Rattle.std.proofs.lemmas.List.{drop_more, map-append}
 use Rattle.pv_report.specs.declared.places.FileLines.{FileLines}
 use Rattle.pv_report.specs.Places.{Lines, file_lines}
-use Rattle.pv_command_load.specs.declared.position.SourceText.{SourceText}
-use Rattle.pv_command_load.specs.Stops.{text_tree}
+use Rattle.pv_bool_load.specs.Handed.{SourceText, text_tree}
 use Rattle.pv_command_verdict.specs.Verdicts.{text_lines}
 
 abbrev pub lines_by : SourceText → Lines

@@ -11,12 +11,7 @@ use Rattle.pv_evidence.specs.Reported.{reported}
 use Rattle.pv_report.specs.declared.verdict.Verdict.{Verdict}
 use Rattle.pv_report.specs.Places.{Lines}
 use Rattle.pv_report.specs.Reports.{report_text}
-use Rattle.pv_command_load.specs.declared.position.SourceText.{SourceText}
-use Rattle.pv_command_load.specs.declared.subject.Subject.{Subject}
-use Rattle.pv_command_load.specs.Positions.{FileText}
-use Rattle.pv_command_load.specs.Stops.{text_tree}
-use Rattle.pv_command_load.specs.Subjects.{texts_of, SubjectData, source_in}
-use Rattle.pv_command_load.specs.Made.{IsSubject}
+use Rattle.pv_bool_load.specs.Handed.{SourceText, Subject, FileText, text_tree, texts_of, SubjectData, source_in, IsSubject}
 use Rattle.pv_command_verdict.specs.Verdicts.{text_lines, verdict_text}
 use Rattle.pv_command_verdict.proofs.Places.{lines_by}
 

@@ -12,7 +12,7 @@ use Rattle.pv_solver.specs.Costs.{clause_cost, line_cost}
 use Rattle.pv_machine.specs.Machines.{Machine, Values, IsState, IsInput, AreParams, IsLawful}
 use Rattle.pv_machine.specs.Queries.{MeetsBase, NoneFails as MachineNoneFails}
 use Rattle.pv_machine.specs.Same.{IsSame}
-use Rattle.pv_machine.proofs.ForCallers.{lawful_too, same_base}
+use Rattle.pv_machine.proofs.ForCallers.{lawful_too, same_base, same_step}
 use Rattle.pv_mean.specs.Sources.{Source}
 use Rattle.pv_mean.specs.Frames.{Input, image_ranges, input_ranges, param_ranges}
 use Rattle.pv_mean.specs.Runs.{start as start_of, run, run_from}
@@ -29,6 +29,7 @@ use Rattle.pv_claims.specs.declared.trace.Ending.TheVariants as ending
 use Rattle.pv_claims.specs.declared.trace.Trace.{Trace}
 use Rattle.pv_claims.specs.TracePart.{trace_form, HasForm, IsRun, IsStretch}
 use Rattle.pv_stretch.specs.Correct.{cause_of}
+use Rattle.pv_cert.specs.declared.proof.Query.TheVariants.{Step}
 use Rattle.pv_cert.specs.declared.proof.Proof.{Proof}
 use Rattle.pv_circuit.specs.declared.start.Start.{Start}
 use Rattle.pv_circuit.specs.Circuits.{Circuit}
@@ -45,11 +46,11 @@ use Rattle.pv_valid.specs.Validity.{AreInputs, BeginsIn, first_state, Replays, A
 use Rattle.pv_valid.specs.Deciding.{claiming}
 use Rattle.pv_evidence.specs.Reported.{last_query}
 use Rattle.pv_command_verdict.specs.Cases.{limits_by}
-use Rattle.pv_command_verdict.specs.Sayings.{NoneFailsBefore, FailsBy, GoesOnBy, StopsAt, SaysOfSource}
+use Rattle.pv_command_verdict.specs.Sayings.{NoneFailsBefore, FailsBy, GoesOnBy, StopsAt, ClosesAt, SaysOfSource}
 use Rattle.pv_command_verdict.proofs.Sound.{back_to, has_ranges}
 use Rattle.pv_command_verdict.proofs.Lasts as lasts
 use Rattle.pv_command_verdict.proofs.Lasts.{image_fits, first_from, first_of_run}
-use Rattle.pv_command_verdict.proofs.Refuted.{none_by, never_met, before_within, last_is}
+use Rattle.pv_command_verdict.proofs.Refuted.{none_by, step_not_met, never_met, before_within, last_is}
 
 -- ---- endings
 
@@ -220,6 +221,11 @@ module _ (source : Source) (p : Pattern) (limits : Limits) (m : Machine) (c : Ci
       → FailsBy source p n pattern t
   by_pattern told n t so by = subst (λ (e : Ending). FailsBy source p n (cause_of e) t) (is_the_pattern told so) by
 
+  closes_at : IsSound case → (k : ℕ) (proofs : List Proof) → k ≤ limits.depth → AreProofs case (bases k ++ Step k ∷ []) proofs
+      → ClosesAt source p k
+  closes_at sound k proofs within are =
+      λ meets. step_not_met case sound k proofs within are ((same_step (machine_of source p) m k law same).0 meets)
+
   pub says : Early → IsSound case → (((n : ℕ) → MeetsBase (machine_of source p) n → ⊥) → IsSatisfied source p)
       → (claim : Claim) (trace : Option Trace) (next : Option Line) (proofs : List Proof) → HasForm (trace_form claim) trace
       → IsRight case (claiming claim trace next proofs)
@@ -227,11 +233,13 @@ module _ (source : Source) (p : Pattern) (limits : Limits) (m : Machine) (c : Ci
   says early sound satisfied (Satisfied k) trace next proofs form right = (
     right.belongs.0,
     right.belongs.1,
+    closes_at sound k proofs right.belongs.1 right.proofs,
     satisfied (λ n base. never_met case sound k proofs right.belongs.1 right.proofs n ((same_base (machine_of source p) m n law same).0 base)),
   )
   says early sound satisfied (Unreachable k) trace next proofs form right = (
     right.belongs.0,
     right.belongs.1,
+    closes_at sound k proofs right.belongs.1 right.proofs,
     satisfied (λ n base. never_met case sound k proofs right.belongs.1 right.proofs n ((same_base (machine_of source p) m n law same).0 base)),
   )
   says early sound satisfied (Violated n) None next proofs form right = absurd form

@@ -3,8 +3,7 @@ use Rattle.std.proofs.Common.{ℕ, List, Option}
 use Rattle.pv_edge.specs.Files.{FileMap}
 use Rattle.pv_replay.specs.Replays.{HasStarts}
 use Rattle.pv_laws_starts.proofs.ForCallers.{fitting_has_starts}
-use Rattle.pv_command_load.specs.Subjects.{project_of, SubjectData, source_in}
-use Rattle.pv_command_load.specs.Reads.{Reads}
+use Rattle.pv_bool_load.specs.Handed.{project_of, SubjectData, source_in, Reads}
 
 -- the project keeps the rules, its entered block is one of its own, and what the case binds fits
 pub subject_starts : (told : Option FileMap) (file : List ℕ) (s : SubjectData) → Reads told file s → HasStarts (source_in s)

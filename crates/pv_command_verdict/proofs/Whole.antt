@@ -12,7 +12,7 @@ use Rattle.pv_valid.specs.declared.facts.Facts.{Facts}
 use Rattle.pv_queries.specs.declared.built.TheConstants.{MAX_BUILT_GATES}
 use Rattle.pv_lift.specs.Stages.{passes_limit}
 use Rattle.pv_evidence.specs.declared.evidence.Evidence.{Evidence}
-use Rattle.pv_command_load.specs.Subjects.{SubjectData}
+use Rattle.pv_bool_load.specs.Handed.{SubjectData}
 use Rattle.pv_bool_load.specs.Forms.{ReadsFirst, program_of}
 use Rattle.pv_bool_load.specs.Correct.{IsOfProgram}
 use Rattle.pv_command_verdict.specs.Sizes.{HasTooManyGates, gates_of}

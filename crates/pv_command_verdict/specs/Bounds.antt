@@ -1,11 +1,12 @@
--- When a decision comes to one of the verdicts that decide, and when no limit is spent.
-use Rattle.std.specs.Prelude.{◌≡◌, ℕ, ◌+◌, ◌*◌, ◌^◌, ◌<◌, ◌≤◌, List, [], Some}
+-- When a decision comes to one of the verdicts that decide, when no limit is spent, and how words are.
+use Rattle.std.specs.Prelude.{◌≡◌, ℕ, ◌+◌, ◌*◌, ◌^◌, ◌<◌, ◌≤◌, List, [], ◌∷◌, ◌++◌, Some}
 use Rattle.std.specs.List.{AllByRecursion}
 use Rattle.pv_place.specs.declared.place.Place.{Place}
 use Rattle.pv_place.specs.Ranges.{AreWithin}
 use Rattle.pv_cnf.specs.Clause.{Cnf}
 use Rattle.pv_log.specs.Propagation.{LeadsToFalse}
 use Rattle.pv_machine.specs.Queries.{MeetsBase, MeetsStep}
+use Rattle.pv_solver.specs.Answers.{Problem}
 use Rattle.pv_solver.specs.Costs.{words_of}
 use Rattle.pv_mean.specs.Sources.{Source}
 use Rattle.pv_mean.specs.Frames.{Input, Params, input_ranges, param_ranges}
@@ -17,10 +18,12 @@ use Rattle.pv_case.specs.declared.case.Limits.{Limits}
 use Rattle.pv_claims.specs.declared.claim.Claim.{Claim}
 use Rattle.pv_claims.specs.declared.claim.Claim.TheVariants.{Satisfied, Unreachable, Violated, Trapped, Reached, Depth, Loop, Lemmas, Region}
 use Rattle.pv_cert.specs.declared.proof.Query.{Query}
+use Rattle.pv_cert.specs.declared.proof.Proof.{Proof}
 use Rattle.pv_cert.specs.declared.certificate.Certificate.{Certificate}
+use Rattle.pv_kind.specs.Decisions.{problem_of, SpendsWords}
 use Rattle.pv_evidence.specs.Reported.{last_query}
-use Rattle.pv_command_load.specs.Subjects.{SubjectData, source_in}
-use Rattle.pv_command_verdict.specs.Cases.{case_in}
+use Rattle.pv_bool_load.specs.Handed.{SubjectData, source_in}
+use Rattle.pv_command_verdict.specs.Cases.{limits_by, case_in}
 
 -- ---- claims
 
@@ -90,10 +93,15 @@ pub record SpendsOf (limits : Limits) (f : Cnf) (claim : Claim) : Type 0 where
   pub propagates : IsSpent claim → words_of f.variables f.clauses ≤ limits.region_words
       → (hints : List ℕ) → LeadsToFalse f.clauses [] hints → ⊥
 
+-- a query's formula, within the case's limits
+abbrev pub problem_in : SubjectData → Query → Problem
+problem_in s q = problem_of (limits_by s.given.case.limits) ((case_in s).formula q).variables ((case_in s).formula q).clauses
+
 -- ---- all of it
 
 -- Where no limit is spent, what k-induction closes up to the depth is closed, and a run that fails at a scan up to it is found, unless one
--- goes over the bound no later.
+-- goes over the bound no later. Where the words are, the query's log and its next lemma say by what: the variables and clauses alone didn't
+-- fit, and then there is no line and no next lemma; or they and the log's lines did, and the next lemma didn't.
 pub record IsComplete (s : SubjectData) (c : Certificate) : Type 0 where
   pub closes : (k : ℕ) → (IsSpent c.claim → ⊥) → k ≤ s.given.case.limits.depth → ClosesBy (source_in s) s.pattern k
       → IsProvedBy k c.claim
@@ -101,3 +109,5 @@ pub record IsComplete (s : SubjectData) (c : Certificate) : Type 0 where
       → SomeFailsAt (source_in s) s.pattern n cause → NoneGoesOver (source_in s) s.pattern n → IsShownBy n c.claim
   pub spends : (q : Query) → IsSpent c.claim → last_query c.proofs ≡ Some q
       → SpendsOf s.given.case.limits ((case_in s).formula q) c.claim
+  pub lacks : (front : List Proof) (last : Proof) (x : ℕ) → c.claim ≡ Region x → c.proofs ≡ front ++ last ∷ []
+      → SpendsWords (problem_in s last.query) last.log x c.next

@@ -11,7 +11,7 @@ use Rattle.pv_valid.specs.declared.facts.Facts.{Facts}
 use Rattle.pv_valid.specs.Cases.{Case}
 use Rattle.pv_lift.specs.Facts.{facts_of}
 use Rattle.pv_lift.specs.Cases.{case_of}
-use Rattle.pv_command_load.specs.Subjects.{SubjectData, source_in}
+use Rattle.pv_bool_load.specs.Handed.{SubjectData, source_in}
 use Rattle.pv_bool_load.specs.Forms.{program_of}
 
 -- the limits within which a case is decided

@@ -16,7 +16,7 @@ use Rattle.pv_valid.specs.Validity.{ending_in, IsRight}
 use Rattle.pv_valid.specs.Deciding.{IsOracleFor}
 use Rattle.pv_lift.specs.Cases.{case_of}
 use Rattle.pv_lift.specs.Stages.{encoding_of}
-use Rattle.pv_command_load.specs.Subjects.{SubjectData, source_in}
+use Rattle.pv_bool_load.specs.Handed.{SubjectData, source_in}
 use Rattle.pv_bool_load.specs.declared.subject.FirstSubject.{FirstSubject}
 use Rattle.pv_bool_load.specs.Forms.{ReadsFirst, program_of}
 use Rattle.pv_bool_load.specs.Made.{IsFirstSubject}

@@ -63,14 +63,18 @@ pub record StopsAt (source : Source) (p : Pattern) (limits : Limits) (c : Certif
 
 -- ---- verdicts
 
+-- k-induction closes by this number: from whatever state, reached or not, k scans that are done and don't fail are followed by none that fails
+abbrev pub ClosesAt : Source → Pattern → ℕ → Type 0
+ClosesAt source p k = MeetsStep (machine_of source p) k → ⊥
+
 -- What a certificate says whose trace ends so. Satisfied: each scan of each run is done, within the loop's bound, and keeps the requirement.
--- Unreachable: no run reaches the goal, and none goes over the bound; some may trap. A claim of a scan, of the run that is printed: that scan
--- fails so, and none before it in any run.
+-- Unreachable: no run reaches the goal, and none goes over the bound; some may trap. Of both, k-induction closes by the claim's number. A
+-- claim of a scan, of the run that is printed: that scan fails so, and none before it in any run.
 abbrev pub SaysOfSource : Source → Pattern → Limits → Certificate → Option Ending → Claim → Type 0
 SaysOfSource source p limits c told (Satisfied k) =
-    (asks_for_goal p ≡ false) × (k ≤ limits.depth) × IsSatisfied source p
+    (asks_for_goal p ≡ false) × (k ≤ limits.depth) × ClosesAt source p k × IsSatisfied source p
 SaysOfSource source p limits c told (Unreachable k) =
-    (asks_for_goal p ≡ true) × (k ≤ limits.depth) × IsSatisfied source p
+    (asks_for_goal p ≡ true) × (k ≤ limits.depth) × ClosesAt source p k × IsSatisfied source p
 SaysOfSource source p limits c told (Violated n) =
     (asks_for_goal p ≡ false) × (n ≤ limits.depth) × FailsBy source p n pattern c.trace
 SaysOfSource source p limits c told (Trapped n) = (asks_for_goal p ≡ false) × (n ≤ limits.depth)
@@ -83,7 +87,7 @@ SaysOfSource source p limits c told (Depth k) = (k ≡ limits.depth) × GoesOnBy
 SaysOfSource source p limits c told (Lemmas b) = (b ≡ limits.lemmas) × StopsAt source p limits c
 SaysOfSource source p limits c told (Region x) = (limits.region_words < x) × StopsAt source p limits c
 
--- ---- what is said besides of a verdict that was decided, not read: that the queries were asked in order
+-- ---- what is said besides of a verdict that was decided, not read: that no step query before the last one closes
 
 -- the query that was asked last
 abbrev pub asked_last : Certificate → Claim → Option Query
@@ -97,24 +101,12 @@ asked_last c (Loop n) = Some (Base n)
 asked_last c (Lemmas b) = last_query c.proofs
 asked_last c (Region x) = last_query c.proofs
 
--- the source's machine meets each step query before it
+-- the source's machine meets each step query that comes before it
 abbrev pub MeetsEarlierSteps : Source → Pattern → Query → Type 0
 MeetsEarlierSteps source p q = (j : ℕ) → j < steps_before q → MeetsStep (machine_of source p) j
 
--- so of a proved claim the number is the least by which k-induction closes
-abbrev pub IsLeast : Source → Pattern → Claim → Type 0
-IsLeast source p (Satisfied k) = MeetsStep (machine_of source p) k → ⊥
-IsLeast source p (Unreachable k) = MeetsStep (machine_of source p) k → ⊥
-IsLeast source p (Violated n) = Unit {0}
-IsLeast source p (Trapped n) = Unit {0}
-IsLeast source p (Reached n) = Unit {0}
-IsLeast source p (Depth k) = Unit {0}
-IsLeast source p (Loop n) = Unit {0}
-IsLeast source p (Lemmas b) = Unit {0}
-IsLeast source p (Region x) = Unit {0}
-
+-- so is each before the query that was asked last: as k-induction closes by the number of a proved claim, that is the least one
 pub record IsInOrder (source : Source) (p : Pattern) (c : Certificate) : Type 0 where
   pub query : Query
   pub asked : asked_last c c.claim ≡ Some query
   pub met : MeetsEarlierSteps source p query
-  pub least : IsLeast source p c.claim

@@ -4,11 +4,10 @@ use Rattle.pv_gate.specs.Node.{gate_count}
 use Rattle.pv_step.specs.Circuits.{circuit_of}
 use Rattle.pv_sizes.specs.declared.count.TheConstants.{MAX_EDGES}
 use Rattle.pv_queries.specs.declared.built.TheConstants.{MAX_BUILT_GATES}
-use Rattle.pv_command_load.specs.Refusals.{limit_line}
-use Rattle.pv_command_load.specs.Subjects.{SubjectData}
+use Rattle.pv_bool_load.specs.Handed.{limit_line, SubjectData}
 use Rattle.pv_bool_load.specs.Forms.{program_of}
 
--- each assignment is an edge, as it makes no check that may stop the scan
+-- each assignment is an edge, as it makes no check that may stop the scan; that this is the automaton's size is a law (`CountsEdges`)
 abbrev pub edges_of : SubjectData → ℕ
 edges_of s = length (program_of s).body
 

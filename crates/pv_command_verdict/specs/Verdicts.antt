@@ -8,8 +8,7 @@ use Rattle.pv_valid.specs.declared.fault.Verdict.{Verdict as Answer}
 use Rattle.pv_evidence.specs.Reported.{reported}
 use Rattle.pv_report.specs.Places.{Lines, line_starts}
 use Rattle.pv_report.specs.Reports.{report_text}
-use Rattle.pv_command_load.specs.Positions.{FileText}
-use Rattle.pv_command_load.specs.Subjects.{texts_of, SubjectData, source_in}
+use Rattle.pv_bool_load.specs.Handed.{FileText, texts_of, SubjectData, source_in}
 use Rattle.pv_command_verdict.specs.Cases.{case_in}
 use Rattle.pv_command_verdict.specs.Sayings.{SaysOfSource}
 

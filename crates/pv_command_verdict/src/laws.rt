@@ -5,10 +5,11 @@ ghost use Rattle.pv_claims.specs.declared.trace.Ending.{Ending};
 ghost use Rattle.pv_cert.specs.declared.certificate.Certificate.{Certificate};
 ghost use Rattle.pv_cert.specs.CertificateText.{IsTextOf};
 ghost use Rattle.pv_valid.specs.Validity.{ending_in, IsRight};
-ghost use Rattle.pv_command_load.specs.Subjects.{SubjectData};
+ghost use Rattle.pv_bool_load.specs.Handed.{SubjectData, source_in};
 ghost use Rattle.pv_bool_load.specs.Forms.{ReadsFirst};
 ghost use Rattle.pv_command_verdict.specs.Cases.{case_in};
 ghost use Rattle.pv_command_verdict.specs.Verdicts.{IsVerdict, IsValidFor};
+ghost use Rattle.pv_command_verdict.specs.Correct.{ScansAreDone, IsByPattern, CountsEdges};
 
 use pv_bool_load::laws::subjects_are_their_programs;
 use pv_kind::laws::no_run_fails_early;
@@ -24,8 +25,23 @@ pub fn right_certificates_say_what_is_so()
     no_base_is_satisfied();
 }
 
-/// The text of a verdict's certificate is valid, with this claim and ending: what a check keeps, a recheck accepts.
+/// The text of a verdict's certificate is valid by the same case, with the verdict's claim and ending.
 pub fn verdicts_have_valid_certificates()
     ensures { (s : SubjectData) (bytes : List ℕ) (c : Certificate) (told : Option Ending) → IsVerdict s bytes c told
         → IsValidFor s bytes (record { claim = c.claim; ending = told }) }
+{}
+
+/// Nothing of the form traps or goes over a loop's bound: each scan of each run is done. So no verdict is that a scan does so, and a scan that
+/// fails beyond a depth breaks the requirement or reaches the goal.
+pub fn scans_are_done()
+    ensures scans { (told : Option FileMap) (file : List ℕ) (s : SubjectData) → ReadsFirst told file s → ScansAreDone (source_in s) }
+    ensures verdicts { (told : Option FileMap) (file : List ℕ) (s : SubjectData) (bytes : List ℕ) (c : Certificate) (ending : Option Ending)
+        → ReadsFirst told file s → IsVerdict s bytes c ending → IsByPattern ending c.claim }
+{
+    subjects_are_their_programs();
+}
+
+/// What is counted as edges, the assignments of the Boolean program, is the size of the entered block's automaton.
+pub fn edges_are_sizes()
+    ensures { (told : Option FileMap) (file : List ℕ) (s : SubjectData) → ReadsFirst told file s → CountsEdges s }
 {}

@@ -9,7 +9,7 @@ ghost use Rattle.pv_claims.specs.TracePart.{trace_form, HasForm};
 ghost use Rattle.pv_lift.specs.Lifts.{looks_back_of};
 ghost use Rattle.pv_lift.specs.Stages.{stage_of};
 ghost use Rattle.pv_judge.specs.Answers.{Judges};
-ghost use Rattle.pv_command_load.specs.Subjects.{SubjectData};
+ghost use Rattle.pv_bool_load.specs.Handed.{SubjectData};
 ghost use Rattle.pv_bool_load.specs.Forms.{ReadsFirst};
 ghost use Rattle.pv_bool_load.specs.Made.{IsFirstSubject};
 ghost use Rattle.pv_command_verdict.specs.Sizes.{HasTooManyGates};

@@ -4,12 +4,10 @@ ghost use Rattle.pv_claims.specs.declared.trace.Ending.{Ending};
 ghost use Rattle.pv_cert.specs.declared.certificate.Certificate.{Certificate};
 ghost use Rattle.pv_evidence.specs.Reported.{reported};
 ghost use Rattle.pv_report.specs.Places.{file_lines};
-ghost use Rattle.pv_command_load.specs.Subjects.{SubjectData};
-ghost use Rattle.pv_command_load.specs.Stops.{text_tree};
-ghost use Rattle.pv_command_load.specs.Made.{IsSubject};
+ghost use Rattle.pv_bool_load.specs.Handed.{SubjectData, text_tree, IsSubject};
 ghost use Rattle.pv_command_verdict.specs.Verdicts.{text_lines, verdict_text};
 
-use pv_command_load::{SourceText, Subject};
+use pv_bool_load::{SourceText, Subject};
 use pv_report::{FileLines, Places, Verdict, text};
 use std::alloc::{AllocError, Global};
 

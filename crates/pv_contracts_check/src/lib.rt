@@ -6,10 +6,17 @@
 
 ghost use Rattle.pv_command_check.specs.Checks.{SaysCheck, check_status, check_unread};
 ghost use Rattle.pv_command_check.specs.Files.{CountsWrites, LeavesFiles};
-ghost use Rattle.pv_command_load.specs.Held.{Counts, IsUnread};
+ghost use Rattle.pv_command_check.specs.Handed.{Counts, IsUnread};
 
+mod decided;
+mod ordered;
+mod shown;
+
+pub use decided::decides_what_it_can;
+pub use ordered::steps_before_met;
 use pv_command_check::{CheckStop, Checked};
 use pv_edge::{Files, Text};
+pub use shown::first_to_fail;
 use std::alloc::Global;
 
 /// [`pv_command_check::check_in`].

@@ -5,9 +5,8 @@
 //! that of memory's end.
 #![tactic(auto)]
 
-ghost use Rattle.pv_command_load.specs.Held.{Counts, IsUnread};
+ghost use Rattle.pv_command_replay.specs.Handed.{Counts, IsUnread, SubjectData};
 ghost use Rattle.pv_command_recheck.specs.Rechecks.{SaysRecheck, recheck_status, recheck_unread};
-ghost use Rattle.pv_command_load.specs.Subjects.{SubjectData};
 ghost use Rattle.pv_command_replay.specs.Replays.{IsRan, SaysReplay, StopsReplay, replay_status, replay_unread, stop_status, stop_unread};
 ghost use Rattle.pv_command_show.specs.Shows.{SaysShow, show_status, show_unread};
 ghost use Rattle.pv_top.specs.Promises.{Promises};

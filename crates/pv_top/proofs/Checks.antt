@@ -5,8 +5,8 @@ use Rattle.std.proofs.lemmas.Option.{same_Some}
 use Rattle.pv_edge.specs.Files.{FileMap, Puts, PutsPart, Changes}
 use Rattle.pv_edge.specs.Sink.{Takes}
 use Rattle.pv_report.specs.Reports as reports
-use Rattle.pv_command_load.specs.Subjects.{SubjectData}
-use Rattle.pv_command_verdict.specs.Verdicts.{verdict_text}
+use Rattle.pv_command_show.specs.Handed.{SubjectData}
+use Rattle.pv_command_check.specs.Handed.{verdict_text}
 use Rattle.pv_command_check.specs.declared.check.Checked.{Checked}
 use Rattle.pv_command_check.specs.declared.stop.CheckStop.{CheckStop}
 use Rattle.pv_command_check.specs.declared.stop.CheckStop.TheVariants as check_stop

@@ -5,9 +5,8 @@ use Rattle.pv_edge.specs.Sink.{Takes}
 use Rattle.pv_claims.specs.declared.trace.Ending.{Ending}
 use Rattle.pv_cert.specs.declared.certificate.Certificate.{Certificate}
 use Rattle.pv_report.specs.Reports.{status_of}
-use Rattle.pv_command_load.specs.Subjects.{SubjectData}
-use Rattle.pv_bool_load.specs.Forms.{ReadsFirst}
-use Rattle.pv_command_verdict.specs.Verdicts.{verdict_text}
+use Rattle.pv_command_show.specs.Handed.{SubjectData}
+use Rattle.pv_command_check.specs.Handed.{ReadsFirst, verdict_text}
 use Rattle.pv_command_check.specs.Checks.{ComesTo}
 use Rattle.pv_command_check.specs.Decided.{HasVerdict}
 use Rattle.pv_command_recheck.specs.Rechecks.{HoldsRight}

@@ -4,3 +4,4 @@ pub mod Delivery
 pub mod Checks
 pub mod Promised
 pub mod Kept
+pub mod Again

@@ -12,9 +12,8 @@ use Rattle.pv_edge.specs.Faults.{HasRisen}
 use Rattle.pv_edge.specs.Files.{FileMap}
 use Rattle.pv_edge.specs.Sink.{Takes}
 use Rattle.pv_edge.specs.declared.outside.SinkFault.{SinkFault}
-use Rattle.pv_command_load.specs.Held.{Counts, IsUnread}
-use Rattle.pv_command_load.specs.Refusals.{read_line}
-use Rattle.pv_command_load.proofs.ForCallers.{TellsUnread, tells_of}
+use Rattle.pv_command_show.specs.Handed.{Counts, IsUnread, read_line, report_of, AsksReplay, replay_status, ReplaysExactly}
+use Rattle.pv_command_show.proofs.ForCallers.{TellsUnread, tells_of, Laws as ReplayLaws, Came, by_result, one_came, replays_exactly, replay_tells, by_show, show_tells}
 use Rattle.pv_command_check.specs.declared.check.Checked.{Checked}
 use Rattle.pv_command_check.specs.declared.stop.CheckStop.{CheckStop}
 use Rattle.pv_command_check.specs.Refusals.{AsksCheck}
@@ -22,15 +21,12 @@ use Rattle.pv_command_check.specs.Checks.{check_status, check_text, check_keeps,
 use Rattle.pv_command_check.specs.Files.{LeavesFiles}
 use Rattle.pv_command_check.specs.Decided.{HasVerdict, IsHad, ChecksExactly, FilesDecideOneCheck}
 use Rattle.pv_command_check.proofs.ForCallers.{check_tells, CheckCame, check_came, checks_exactly}
-use Rattle.pv_command_replay.specs.Replays.{report_of, AsksReplay, replay_status, ReplaysExactly}
-use Rattle.pv_command_replay.proofs.ForCallers.{Laws as ReplayLaws, Came, by_result, one_came, replays_exactly, replay_tells}
 use Rattle.pv_command_recheck.specs.Refusals.{AsksRecheck}
 use Rattle.pv_command_recheck.specs.Rechecks.{recheck_status}
 use Rattle.pv_command_recheck.specs.Decided.{IsTold, RechecksExactly, FilesDecideOneRecheck}
 use Rattle.pv_command_recheck.proofs.ForCallers.{recheck_tells, recheck_told, RecheckCame, recheck_came, rechecks_exactly}
 use Rattle.pv_command_recheck.proofs.ForCallers as recheck
 use Rattle.pv_command_show.specs.Shows.{show_of, show_status}
-use Rattle.pv_command_show.proofs.ForCallers.{by_show, show_tells}
 use Rattle.pv_top.specs.declared.outcome.Outcome.{Outcome}
 use Rattle.pv_top.specs.declared.outcome.Outcome.TheVariants.{NoCommand, Check, Replay, Recheck, Show}
 use Rattle.pv_top.specs.Words.{AreOfCheck, IsCommand, IsCheck, IsReplay, IsRecheck, IsShow}

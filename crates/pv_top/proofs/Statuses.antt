@@ -4,27 +4,16 @@ use Rattle.std.proofs.Common.{◌≡◌, ◌≢◌, ◌≤◌, ◌<◌, ◌⊎�
 use Rattle.pv_claims.specs.declared.claim.Claim.{Claim}
 use Rattle.pv_claims.specs.declared.claim.Claim.TheVariants.{Satisfied, Unreachable, Violated, Trapped, Reached, Depth, Loop, Lemmas, Region}
 use Rattle.pv_report.specs.Reports as reports
-use Rattle.pv_command_load.specs.declared.subject.SubjectStop.{SubjectStop}
-use Rattle.pv_command_load.specs.declared.subject.SubjectStop.TheVariants as subject_stop
-use Rattle.pv_command_load.specs.Refusals.{TableRefusal, no_entry, too_many_cells, table_status}
-use Rattle.pv_command_load.specs.Stopped.{Stopped, unread, refused, no_memory, stopped_status}
-use Rattle.pv_command_load.specs.Stops.{case_stopped, source_stopped, project_stopped, table_stopped, fit_stopped, subject_status}
-use Rattle.pv_bool_load.specs.declared.stop.FirstStop.{FirstStop}
-use Rattle.pv_bool_load.specs.declared.stop.FirstStop.TheVariants as first_stop
-use Rattle.pv_bool_load.specs.Stops.{first_stop_status}
+use Rattle.pv_command_show.specs.Handed.{SubjectStop, TableRefusal, no_entry, too_many_cells, table_status, Stopped, unread, refused, no_memory, stopped_status, case_stopped, source_stopped, project_stopped, table_stopped, fit_stopped, subject_status, End, Kept, Broken, Over, Reached as Goal_reached, NotReached, Replayed, ReplayStop, end_status, trace_stopped, stop_status, replay_status}
+use Rattle.pv_command_show.specs.Handed.subject_stop
+use Rattle.pv_command_check.specs.Handed.{FirstStop, first_stop_status}
+use Rattle.pv_command_check.specs.Handed.first_stop
 use Rattle.pv_command_check.specs.declared.check.Checked.{Checked}
 use Rattle.pv_command_check.specs.declared.stop.CheckStop.{CheckStop}
 use Rattle.pv_command_check.specs.declared.stop.CheckStop.TheVariants as check_stop
 use Rattle.pv_command_check.specs.Checks.{check_stop_status, check_status, check_text}
 use Rattle.pv_command_check.specs.Decided.{HasVerdict}
-use Rattle.pv_command_replay.specs.declared.end.End.{End}
-use Rattle.pv_command_replay.specs.declared.end.End.TheVariants.{Kept, Broken, Over, Reached as Goal_reached, NotReached}
-use Rattle.pv_command_replay.specs.declared.replay.Replayed.{Replayed}
-use Rattle.pv_command_replay.specs.declared.replay.ReplayStop.{ReplayStop}
-use Rattle.pv_command_replay.specs.declared.replay.ReplayStop.TheVariants as replay_stop
-use Rattle.pv_command_replay.specs.Reports.{end_status}
-use Rattle.pv_command_replay.specs.Traces.{trace_stopped}
-use Rattle.pv_command_replay.specs.Replays.{stop_status, replay_status}
+use Rattle.pv_command_show.specs.Handed.replay_stop
 use Rattle.pv_command_show.specs.declared.show.Shown.{Shown}
 use Rattle.pv_command_show.specs.Shows.{show_status}
 use Rattle.pv_command_recheck.specs.declared.recheck.Rechecked.{Rechecked}

@@ -6,9 +6,7 @@ use Rattle.pv_edge.specs.Files.{FileMap}
 use Rattle.pv_command_check.specs.declared.check.Checked.{Checked}
 use Rattle.pv_command_check.specs.declared.stop.CheckStop.{CheckStop}
 use Rattle.pv_command_check.specs.Checks.{SaysCheck}
-use Rattle.pv_command_replay.specs.declared.replay.Replayed.{Replayed}
-use Rattle.pv_command_replay.specs.declared.replay.ReplayStop.{ReplayStop}
-use Rattle.pv_command_replay.specs.Replays.{SaysReplay}
+use Rattle.pv_command_show.specs.Handed.{Replayed, ReplayStop, SaysReplay}
 use Rattle.pv_command_recheck.specs.declared.recheck.Rechecked.{Rechecked}
 use Rattle.pv_command_recheck.specs.declared.stop.RecheckStop.{RecheckStop}
 use Rattle.pv_command_recheck.specs.Rechecks.{SaysRecheck}

@@ -4,11 +4,10 @@ use Rattle.pv_edge.specs.Files.{FileMap}
 use Rattle.pv_edge.specs.Sink.{Takes, TakesLess, Offered, StopsOffering}
 use Rattle.pv_edge.specs.declared.outside.SinkFault.{SinkFault}
 use Rattle.pv_edge.specs.declared.outside.SinkFault.TheVariants.{Failed, NoMemory}
-use Rattle.pv_command_load.specs.Held.{Counts, IsUnread}
+use Rattle.pv_command_show.specs.Handed.{Counts, IsUnread, AsksReplay, SaysReplay}
 use Rattle.pv_command_check.specs.Refusals.{AsksCheck}
 use Rattle.pv_command_check.specs.Checks.{SaysCheck, check_status}
 use Rattle.pv_command_check.specs.Files.{LeavesFiles, CountsWrites}
-use Rattle.pv_command_replay.specs.Replays.{AsksReplay, SaysReplay}
 use Rattle.pv_command_recheck.specs.Refusals.{AsksRecheck}
 use Rattle.pv_command_recheck.specs.Rechecks.{SaysRecheck}
 use Rattle.pv_command_show.specs.Shows.{SaysShow}

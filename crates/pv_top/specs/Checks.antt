@@ -1,7 +1,7 @@
 -- What a run with the words `check CASE` promises.
 use Rattle.std.specs.Prelude.{◌≡◌, ◌⊎◌, ℕ, List, Option, Some, IsNone, IsSomeAnd, MatchOption}
 use Rattle.pv_edge.specs.Files.{FileMap}
-use Rattle.pv_command_load.specs.Subjects.{SubjectData}
+use Rattle.pv_command_show.specs.Handed.{SubjectData}
 use Rattle.pv_command_check.specs.Refusals.{ReadsChecked, too_many_gates, RefusesCheck, chain_text}
 use Rattle.pv_command_check.specs.Decided.{HasVerdict, IsHad, ChecksExactly}
 use Rattle.pv_top.specs.Words.{IsCheck}

@@ -1,7 +1,7 @@
 -- What the words come to, with the status and the text that go with it, and what is kept of it.
 use Rattle.std.specs.Prelude.{ℕ, List, codes, ◌==◌, if◌then◌else◌, Option, Some, None, unwrap_or}
 use Rattle.pv_command_check.specs.Checks.{check_status, check_unread, check_text, check_keeps}
-use Rattle.pv_command_replay.specs.Replays.{replay_status, replay_unread, replay_text}
+use Rattle.pv_command_show.specs.Handed.{replay_status, replay_unread, replay_text}
 use Rattle.pv_command_recheck.specs.Rechecks.{recheck_status, recheck_unread, recheck_text}
 use Rattle.pv_command_show.specs.Shows.{show_status, show_unread, shown_text}
 use Rattle.pv_top.specs.declared.outcome.Outcome.{Outcome}

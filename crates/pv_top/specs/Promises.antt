@@ -3,8 +3,7 @@ use Rattle.std.specs.Prelude.{◌≡◌, ◌≢◌, ◌≤◌, ◌⊎◌, ◌↔
 use Rattle.pv_edge.specs.Faults.{HasRisen}
 use Rattle.pv_edge.specs.Files.{FileMap}
 use Rattle.pv_edge.specs.declared.outside.SinkFault.{SinkFault}
-use Rattle.pv_command_load.specs.Refusals.{read_line}
-use Rattle.pv_command_replay.specs.Replays.{report_of, ReplaysExactly}
+use Rattle.pv_command_show.specs.Handed.{read_line, report_of, ReplaysExactly}
 use Rattle.pv_command_show.specs.Shows.{show_of}
 use Rattle.pv_top.specs.Words.{AreOfCheck, IsCommand, IsReplay, IsShow}
 use Rattle.pv_top.specs.Calls.{Call, Asks, Answers, IsSettled, IsTakenIn}

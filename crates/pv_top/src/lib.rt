@@ -5,7 +5,7 @@
 #![tactic(auto)]
 
 ghost use Rattle.std.specs.Prelude.{map, string_bytes};
-ghost use Rattle.pv_command_load.specs.Held.{Counts, IsUnread};
+ghost use Rattle.pv_command_show.specs.Handed.{Counts, IsUnread};
 ghost use Rattle.pv_top.specs.Outcomes.{status_of, unread_of};
 ghost use Rattle.pv_top.specs.Calls.{Says, Leaves, LeavesWrites};
 ghost use Rattle.pv_top.specs.Promises.{Promises};
@@ -19,13 +19,12 @@ use outcome::Outcome;
 use printing::{keep, print};
 use pv_command_check::check_in;
 use pv_command_check::laws::files_decide_one_check;
-pub use pv_command_load::Status;
-use pv_command_load::laws::files_decide_one;
 use pv_command_recheck::laws::files_decide_one_recheck;
 use pv_command_recheck::recheck_in;
-use pv_command_replay::laws::{files_decide_one_trace, runs_end_in_one_way};
-use pv_command_replay::replay_in;
-use pv_command_show::show_in;
+pub use pv_command_show::Status;
+use pv_command_show::{
+    files_decide_one, files_decide_one_trace, replay_in, runs_end_in_one_way, show_in,
+};
 use pv_edge::{Files, Sink, Text};
 use std::alloc::Global;
 use words::{Command, read_words};

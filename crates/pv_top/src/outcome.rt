@@ -2,14 +2,12 @@
 ghost use Rattle.std.specs.Prelude.{◌≡◌, Some, None, IfOk, string_bytes};
 ghost use Rattle.std.specs.Result.{IsOkAnd};
 ghost use Rattle.pv_top.specs.Outcomes.{status_of, text_of, keeps_of};
-ghost use Rattle.pv_command_replay.specs.Replays.{stop_status, stop_text};
+ghost use Rattle.pv_command_show.specs.Handed.{stop_status, stop_text};
 ghost use Rattle.pv_top.specs.declared.outcome.Outcome.TheVariants.{Check as Is_check, Replay as Is_replay, Recheck as Is_recheck, Show as Is_show};
 
 use pv_command_check::{CheckStop, Checked};
-use pv_command_load::{Status, WORDS_REFUSED};
 use pv_command_recheck::{RecheckStop, Rechecked};
-use pv_command_replay::{ReplayStop, Replayed};
-use pv_command_show::Shown;
+use pv_command_show::{ReplayStop, Replayed, Shown, Status, WORDS_REFUSED};
 use pv_edge::Text;
 use std::alloc::{AllocError, Global};
 

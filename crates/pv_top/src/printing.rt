@@ -5,7 +5,7 @@ ghost use Rattle.pv_top.specs.Outcomes.{silent_status};
 ghost use Rattle.pv_top.specs.Printing.{PrintsLines, Prints, kept_if};
 
 use crate::outcome::Told;
-use pv_command_load::{NO_MEMORY, Status, WRITE_FAULT};
+use pv_command_show::{NO_MEMORY, Status, WRITE_FAULT};
 use pv_edge::{Sink, SinkFault, Text};
 
 /// What became of the lines that are told of an outcome.

@@ -1,4 +1,4 @@
-use Rattle.pv_command_load.proofs.ForCallers.{passed}
+use Rattle.pv_command_verdict.proofs.ForCallers.{passed}
 use Rattle.pv_command_check.specs.Checks.{StopsCheck}
 use Rattle.pv_command_check.proofs.Deciding.{comes_to}
 use Rattle.pv_command_check.proofs.check.checked_of.Goals as goal

@@ -1,6 +1,6 @@
 use Rattle.std.proofs.Common.{Err, ap}
 use Rattle.pv_claims.specs.declared.fault.CertFault.{CertFault}
-use Rattle.pv_command_load.proofs.ForCallers.{passed}
+use Rattle.pv_command_verdict.proofs.ForCallers.{passed}
 use Rattle.pv_command_recheck.specs.Made.{no_certificate}
 use Rattle.pv_command_recheck.proofs.Reading.{holds_text, stops_at_text}
 use Rattle.pv_command_recheck.proofs.certificate.certificate_in.Goals as goal

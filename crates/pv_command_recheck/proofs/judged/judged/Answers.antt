@@ -1,5 +1,5 @@
 use Rattle.std.proofs.Common.{sym, ◌∙◌}
-use Rattle.pv_command_load.proofs.ForCallers.{passed}
+use Rattle.pv_command_verdict.proofs.ForCallers.{passed}
 use Rattle.pv_command_verdict.specs.Cases.{case_in}
 use Rattle.pv_command_recheck.specs.Made.{stop_by}
 use Rattle.pv_command_recheck.proofs.Judging.{many_edges, few_edges, stops_at_edges, stops_by, stop_never_six}

@@ -1,5 +1,5 @@
 use Rattle.std.proofs.Common.{sym}
-use Rattle.pv_command_load.specs.Subjects.{source_in}
+use Rattle.pv_command_replay.specs.Handed.{source_in}
 use Rattle.pv_command_show.proofs.Showing.{ok_map}
 use Rattle.pv_command_show.proofs.scans.scans_of.Goals as goal
 

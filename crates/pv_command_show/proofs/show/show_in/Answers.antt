@@ -1,6 +1,5 @@
-use Rattle.pv_command_load.proofs.ForCallers.{none_unread}
+use Rattle.pv_command_replay.proofs.ForCallers.{none_unread, subject_starts, all_read}
 use Rattle.pv_command_replay.specs.declared.replay.ReplayStop.TheVariants.{NoMemory}
-use Rattle.pv_command_replay.proofs.ForCallers.{subject_starts, all_read}
 use Rattle.pv_command_show.proofs.Showing.{ran_values, says_shown, err_said, err_kept, err_told}
 use Rattle.pv_command_show.proofs.show.show_in.Goals as goal
 

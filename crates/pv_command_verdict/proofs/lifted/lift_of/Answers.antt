@@ -10,7 +10,7 @@ use Rattle.pv_lift.specs.Lifts.{looks_back_of}
 use Rattle.pv_lift.specs.Stages.{stage_of}
 use Rattle.pv_lift.specs.Sound.{looks_same}
 use Rattle.pv_lift.specs.CaseSound.{goal_same}
-use Rattle.pv_command_load.specs.Subjects.{source_in}
+use Rattle.pv_bool_load.specs.Handed.{source_in}
 use Rattle.pv_bool_load.specs.Forms.{program_of}
 use Rattle.pv_command_verdict.proofs.OfFiles.{limits_lie_well}
 use Rattle.pv_command_verdict.proofs.Starts.{subject_starts}

@@ -2,7 +2,7 @@ use Rattle.std.proofs.Common.{List, map, ◌∙◌, ap}
 use Rattle.std.specs.Prelude.{string_bytes}
 use Rattle.pv_report.specs.Places.{file_lines}
 use Rattle.pv_report.specs.Reports.{report_text}
-use Rattle.pv_command_load.specs.declared.position.SourceText.{SourceText}
+use Rattle.pv_bool_load.specs.Handed.{SourceText}
 use Rattle.pv_command_verdict.specs.Verdicts.{verdict_text}
 use Rattle.pv_command_verdict.proofs.Places.{lines_by}
 use Rattle.pv_command_verdict.proofs.Reports.{text_is, report_is}
