@@ -12,6 +12,8 @@ ghost use Rattle.pv_command_show.specs.Shows.{SaysShow, show_status, show_unread
 ghost use Rattle.pv_top.specs.Promises.{Promises};
 ghost use Rattle.std.specs.Prelude.{IfErr, IfOk, MatchResult, map, string_bytes, ◌≡◌};
 
+pub mod laws;
+
 use pv_command_recheck::{RecheckStop, Rechecked};
 use pv_command_replay::{Ran, ReplayStop, Replayed};
 use pv_command_show::Shown;

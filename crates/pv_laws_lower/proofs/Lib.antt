@@ -15,6 +15,7 @@ mod Shown
 mod Sorts
 mod Standing
 mod Staying
+mod StayingRuns
 mod Values
 mod Walked
 mod Written

@@ -5,7 +5,8 @@ use Rattle.pv_word.specs.declared.types.Ty.{Ty}
 use Rattle.pv_word.specs.declared.types.Ty.TheVariants.{Bool}
 use Rattle.pv_word.specs.Types.{InRange}
 use Rattle.pv_place.specs.declared.place.Place.{Place}
-use Rattle.pv_tree.specs.Tree.{ExprTree, OperandTree, BlockTree}
+use Rattle.pv_tree.specs.Tree.{ExprTree, OperandTree, InstrTree, StmtTrees, BlockTree}
+use Rattle.pv_tree.specs.Callees.{CallSite}
 use Rattle.pv_tree.specs.LiteralTypes.{Want, nothing, this}
 use Rattle.pv_tree.specs.Sorts.{widens}
 use Rattle.pv_tree.specs.Parts.{parts_of, reads_of_parts, parts_of_block, operands_of}
@@ -17,6 +18,10 @@ use Rattle.pv_mean.specs.Endings.{got}
 use Rattle.pv_mean.specs.Spots.{Spot, read_spot, write_spot}
 use Rattle.pv_mean.specs.Activations.{Activation}
 use Rattle.pv_mean.specs.Values.{value, locate}
+use Rattle.pv_mean.specs.Statements.{run_stmts}
+use Rattle.pv_mean.specs.InstructionRuns.{run_stl}
+use Rattle.pv_mean.specs.Calls.{calls_within}
+use Rattle.pv_mean.specs.Doings.{HoldsAt, HoldsOf}
 use Rattle.pv_mean.specs.Scans.{entry_activation}
 use Rattle.pv_sizes.specs.Checks.{checks_of, checks_of_target}
 use Rattle.pv_flow.specs.Terms.{Term, Valuation, value_of, holds_in}
@@ -88,10 +93,22 @@ SpotsAreWrittenWhere = (source : Source) (act : Activation) (place : ℕ → ℕ
 
 -- ---- 'set'
 
+-- the brief cell has a value
+abbrev pub HasValue : ℕ → Frame → Type 0
+HasValue j frame = brief_value frame j ≢ None
+
 -- Set stays: no write takes a brief cell's value away
 abbrev pub ValuesStay : Type 0
-ValuesStay = (source : Source) (frame : Frame) (spot : Spot) (v : ℤ) (j : ℕ) → brief_value frame j ≢ None
-    → brief_value (write_spot source frame spot v) j ≢ None
+ValuesStay = (source : Source) (frame : Frame) (spot : Spot) (v : ℤ) (j : ℕ) → HasValue j frame → HasValue j (write_spot source frame spot v)
+
+-- and so it stays along a run: through statements however they end, a block's instructions, and calls
+pub record ValuesStayInRuns : Type 0 where
+  pub statements : (source : Source) (n : ℕ) (act : Activation) (ss : StmtTrees) (frame : Frame) (j : ℕ) → HasValue j frame
+      → HoldsAt (HasValue j) (run_stmts source (calls_within source n) act ss frame)
+  pub instructions : (source : Source) (n : ℕ) (act : Activation) (xs : List InstrTree) (frame : Frame) (j : ℕ) → HasValue j frame
+      → HoldsOf (HasValue j) (run_stl source (calls_within source n) act xs frame)
+  pub calls : (source : Source) (n : ℕ) (act : Activation) (site : CallSite) (frame : Frame) (j : ℕ) → HasValue j frame
+      → HoldsOf (λ back. HasValue j back.frame) (calls_within source n act site frame)
 
 -- ---- counts
 

@@ -2,8 +2,8 @@
 //! `specs/Correct`.
 ghost use Rattle.pv_laws_lower.specs.Below.{TermLaws, BelowLaws};
 ghost use Rattle.pv_laws_lower.specs.Correct.{ValuesHold, AssignedHold, PlacesHold, SpotsAreRead, SpotsAreWritten};
-ghost use Rattle.pv_laws_lower.specs.Correct.{EntryLies, SpotsAreWrittenWhere, ValuesStay, ChecksAreCounted};
-ghost use Rattle.pv_laws_lower.specs.Correct.{BlocksAreFit, PatternsAreFit};
+ghost use Rattle.pv_laws_lower.specs.Correct.{EntryLies, SpotsAreWrittenWhere, ValuesStay, ValuesStayInRuns};
+ghost use Rattle.pv_laws_lower.specs.Correct.{ChecksAreCounted, BlocksAreFit, PatternsAreFit};
 
 use pv_access::laws::{choices_hold, reads_hold, writes_hold};
 use pv_mean::laws::tables_are_laid_out;
@@ -93,6 +93,11 @@ pub fn spots_are_written_where()
 /// No write takes a brief cell's value away.
 pub fn values_stay()
     ensures { ValuesStay }
+{}
+
+/// Nor does a statement, an instruction or a call of the block.
+pub fn values_stay_in_runs()
+    ensures { ValuesStayInRuns }
 {}
 
 /// There are as many checks as the sizes count.
