@@ -1,12 +1,15 @@
 mod Areas
 mod Checked
 mod Counted
+mod Each
 mod Entered
 mod Fitting
 mod Functions
 mod Lists
 mod Operands
 mod Operating
+mod Parts
+mod Patterns
 mod Putting
 mod Regions
 mod Rooms
@@ -17,4 +20,5 @@ mod Standing
 mod Staying
 mod Values
 mod Walked
+mod Widths
 mod Written
