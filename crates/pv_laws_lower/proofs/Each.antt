@@ -79,10 +79,10 @@ module _ (P : Part → Type 0) (scope : Scope) where
 all_indexed : (P : Part → Type 0) (project : ProjectTree) (b : BlockTree) → AllByRecursion P (parts_of_block project b)
     → AllByRecursion (Indexed P (record { project = project; block = b })) (operands_of project b)
 all_indexed P project b a =
-    all_append It (reads_of_parts (parts_of_block project b) ++ assigned_operands b) (instruction_operands b)
-    (all_append It (reads_of_parts (parts_of_block project b)) (assigned_operands b)
-    (together It (parts_of_block project b)
-    (all_more (Whole P scope) (OfPart It) (parts_of_block project b) (λ p h. read_indexed P scope p.want p.expr h) (deep_block P project b a)))
+    all_append (Indexed P scope) (reads_of_parts (parts_of_block project b) ++ assigned_operands b) (instruction_operands b)
+    (all_append (Indexed P scope) (reads_of_parts (parts_of_block project b)) (assigned_operands b)
+    (together (Indexed P scope) (parts_of_block project b)
+    (all_more (Whole P scope) (OfPart (Indexed P scope)) (parts_of_block project b) (λ p h. read_indexed P scope p.want p.expr h) (deep_block P project b a)))
     (flat_indexed P scope (λ (s : Spot). parts_of_stmt scope s.stmt) (λ (s : Spot). option_to_list (target_of s.stmt))
     (λ s h. target_indexed P scope s.stmt h) (spots_of_body b.body) (all_front P stmts instrs front)))
     (flat_indexed P scope (parts_of_instruction scope) (λ (i : InstrTree). option_to_list (operand_of_instruction i))
@@ -90,9 +90,6 @@ all_indexed P project b a =
   where
     scope : Scope
     scope = record { project = project; block = b }
-
-    abbrev It : OperandTree → Type 0
-    It = Indexed P scope
 
     stmts : List Part
     stmts = flat_map (λ (s : Spot). parts_of_stmt scope s.stmt) (spots_of_body b.body)

@@ -9,6 +9,7 @@ use Rattle.std.proofs.lemmas.Slice.Eq.{bytes_eq-Decides}
 use Rattle.std.proofs.lemmas.Option.{none-some}
 use Rattle.pv_word.specs.declared.types.Ty.{Ty}
 use Rattle.pv_place.specs.declared.place.Place.{Place}
+use Rattle.pv_place.specs.Ranges.{AreWithin}
 use Rattle.pv_types.specs.Tree.{VarTree}
 use Rattle.pv_tree.specs.declared.expr.Area.TheVariants.{I, Q, M}
 use Rattle.pv_tree.specs.declared.expr.Root.TheVariants.{Local, Named, Area as InArea}
@@ -26,7 +27,11 @@ use Rattle.pv_tree.specs.Things.{Thing, is_address, last_byte, quoted_value, fir
 use Rattle.pv_tree.specs.Types.{Written, signed, literal_of, sort_of, sorts_of}
 use Rattle.pv_mean.specs.AreaBytes.{Bytes, bytes_of_operand, from_on, is_same_area}
 use Rattle.pv_mean.specs.Sources.{Source}
-use Rattle.pv_mean.specs.Scans.{Visible, entry_activation, pattern_value}
+use Rattle.pv_mean.specs.Frames.{Image, Input, visible_ranges, image_ranges, input_ranges}
+use Rattle.pv_mean.specs.Endings.{ended}
+use Rattle.pv_mean.specs.Correct.{BindsInRange}
+use Rattle.pv_mean.specs.Scans.{Visible, scan, entry_activation, pattern_value}
+use Rattle.pv_mean.proofs.ForCallers.{within-begin}
 use Rattle.pv_sizes.specs.Checks.{one_if, is_brief, is_brief_variable, divides, checks_of, checks_of_each, checks_of_steps, checks_of_step}
 use Rattle.pv_flow.specs.Terms.{Valuation, value_of}
 use Rattle.pv_variables.specs.Variables.{is_entry, value_count}
@@ -40,7 +45,7 @@ use Rattle.pv_laws_lower.specs.Below.{BelowLaws}
 use Rattle.pv_laws_lower.specs.Fit.{HasBytes, IsWide, IsAddressed, IsLaidOut, LiteralLies, IsFit}
 use Rattle.pv_laws_lower.specs.Agrees.{outcome}
 use Rattle.pv_laws_lower.specs.Correct.{ChecksAreCounted, EntryLies}
-use Rattle.pv_laws_lower.specs.Patterns.{HasVisible, IsOfVisible, pattern_lowered, PatternsHold, SaidAreFit}
+use Rattle.pv_laws_lower.specs.Patterns.{HasVisible, IsOfVisible, pattern_lowered, PatternsHold, ScansAreSeen, SaidAreFit}
 use Rattle.pv_laws_lower.proofs.Fitting.{is_not, written_lies}
 use Rattle.pv_laws_lower.proofs.Lists.{all_front, all_back, all_of, all_both, all_more}
 use Rattle.pv_laws_lower.proofs.Operands.{Asks, AskEach, values_seen}
@@ -60,7 +65,7 @@ none_any test (x ∷ xs) e = let b = neither (test x) (list_any test xs) e in (b
 valueless : (block : BlockTree) → value_count block ≡ 0 → block.value ≡ None
 valueless block e = lead block.value e
   where
-    lead : (o : Option Ty) → (if is_some o then 1 else 0) ≡ 0 → o ≡ None
+    lead : (o : Option Ty) → ◌≡◌ {A = ℕ} (if is_some o then 1 else 0) 0 → o ≡ None
     lead None f = refl
     lead (Some ty) f = absurd (omega (arith, f))
 
@@ -269,6 +274,16 @@ module _ (laws : BelowLaws) (works : (source : Source) → IsLaidOut source sour
         ap is_true_value (seen_value source e ty values w of has
         ∙ ap (λ (checks : List Check). checked w checks (value_of w (pattern_lowered source e).term)) (seen_unchecked source e ty of keeps));
   }
+
+-- ---- scans
+
+pub scans_are_seen : ((source : Source) (image : Image) (input : Input) (values : Visible) → AllByRecursion BindsInRange source.cells
+    → AreWithin (image_ranges source.cells) image → AreWithin (input_ranges source.cells) input → (scan source image input).end ≡ ended values
+    → AreWithin (visible_ranges source.cells) values) → ScansAreSeen
+scans_are_seen end_within = record {
+  beginning = λ source image input w binds a b are. record { within = within-begin source.cells image input binds a b; are = are };
+  end = λ source image input values w binds a b is are. record { within = end_within source image input values binds a b is; are = are };
+}
 
 -- ---- what texts say
 

@@ -1,14 +1,17 @@
 -- What is so of patterns as terms: an expression over the entered block's names that reads no brief cell, by visible cells alone. A scan's
 -- beginning and its end are such cells, and their valuation is any that has them, whatever its other variables are.
 use Rattle.std.specs.Prelude.{◌≡◌, ℕ, ◌<◌, pos, List, [], slice_index_or, Contains, false}
+use Rattle.std.specs.List.{AllByRecursion}
 use Rattle.pv_word.specs.declared.types.Ty.{Ty}
 use Rattle.pv_word.specs.declared.types.Ty.TheVariants.{Bool}
 use Rattle.pv_place.specs.Ranges.{AreWithin}
 use Rattle.pv_tree.specs.Tree.{ExprTree, OperandTree, BlockTree}
 use Rattle.pv_tree.specs.LiteralTypes.{nothing}
 use Rattle.pv_mean.specs.Sources.{Source}
-use Rattle.pv_mean.specs.Frames.{visible_len, visible_ranges}
-use Rattle.pv_mean.specs.Scans.{Visible, pattern_value}
+use Rattle.pv_mean.specs.Frames.{Image, Input, visible_len, visible_ranges, image_ranges, input_ranges}
+use Rattle.pv_mean.specs.Endings.{ended}
+use Rattle.pv_mean.specs.Correct.{BindsInRange}
+use Rattle.pv_mean.specs.Scans.{Visible, scan, pattern_value}
 use Rattle.pv_flow.specs.Terms.{Valuation, holds_in}
 use Rattle.pv_pattern.specs.Patterns.{is_true_of}
 use Rattle.pv_pattern.specs.Texts.{reads_brief, KeepsRules, Says, HaveCells}
@@ -17,10 +20,14 @@ use Rattle.pv_laws_room.specs.Reached.{IsShortOperand}
 use Rattle.pv_laws_lower.specs.Fit.{IsWide, IsLaidOut, IsFit}
 use Rattle.pv_laws_lower.specs.Agrees.{outcome}
 
--- the first variables are these visible cells, each of its type
+-- the first variables are these visible cells
+abbrev pub Shows : Source → Visible → Valuation → Type 0
+Shows source values w = (n : ℕ) → n < visible_len source.cells → w n ≡ slice_index_or values n (pos 0)
+
+-- each of its type
 pub record HasVisible (source : Source) (values : Visible) (w : Valuation) : Type 0 where
   pub within : AreWithin (visible_ranges source.cells) values
-  pub are : (n : ℕ) → n < visible_len source.cells → w n ≡ slice_index_or values n (pos 0)
+  pub are : Shows source values w
 
 -- an expression of this type over the entered block's names that reads no brief cell
 pub record IsOfVisible (source : Source) (e : ExprTree) (ty : Ty) : Type 0 where
@@ -52,3 +59,12 @@ SaidAreFit = (source : Source) (block : BlockTree) (texts : List (List ℕ)) (te
 pub record WidthsAreShort : Type 0 where
   pub wide : (o : OperandTree) → IsShortOperand o → IsWide o
   pub short : (o : OperandTree) → IsWide o → IsShortOperand o
+
+-- a valuation has the visible cells of a scan's beginning, and those of its end, where its first variables are they: they lie in their types
+pub record ScansAreSeen : Type 0 where
+  pub beginning : (source : Source) (image : Image) (input : Input) (w : Valuation) → AllByRecursion BindsInRange source.cells
+      → AreWithin (image_ranges source.cells) image → AreWithin (input_ranges source.cells) input
+      → Shows source (scan source image input).beginning w → HasVisible source (scan source image input).beginning w
+  pub end : (source : Source) (image : Image) (input : Input) (values : Visible) (w : Valuation) → AllByRecursion BindsInRange source.cells
+      → AreWithin (image_ranges source.cells) image → AreWithin (input_ranges source.cells) input
+      → (scan source image input).end ≡ ended values → Shows source values w → HasVisible source values w

@@ -4,12 +4,12 @@ ghost use Rattle.pv_laws_lower.specs.Below.{TermLaws, BelowLaws};
 ghost use Rattle.pv_laws_lower.specs.Correct.{ValuesHold, AssignedHold, PlacesHold, SpotsAreRead, SpotsAreWritten};
 ghost use Rattle.pv_laws_lower.specs.Correct.{EntryLies, SpotsAreWrittenWhere, ValuesStay, ChecksAreCounted};
 ghost use Rattle.pv_laws_lower.specs.Correct.{BlocksAreFit, EachIsFit, PatternsAreFit};
-ghost use Rattle.pv_laws_lower.specs.Patterns.{PatternsHold, SaidAreFit, WidthsAreShort};
+ghost use Rattle.pv_laws_lower.specs.Patterns.{PatternsHold, SaidAreFit, ScansAreSeen, WidthsAreShort};
 
 use pv_access::laws::{choices_hold, reads_hold, writes_hold};
 use pv_laws_spelled::laws::spelled_addresses_are_short;
 use pv_laws_types::laws::entered_blocks_are_at_work;
-use pv_mean::laws::tables_are_laid_out;
+use pv_mean::laws::{scans_keep_the_ranges, tables_are_laid_out};
 use pv_terms::laws::{binaries_hold, conversions_hold, functions_hold, indexes_hold, unaries_hold};
 use pv_tree::{expressions_have_types, parts_of_typed_expressions_have_types};
 use pv_variables::laws::{
@@ -132,6 +132,13 @@ pub fn patterns_hold()
     entered_blocks_are_at_work();
     entry_lies();
     checks_are_counted();
+}
+
+/// A valuation whose first variables are the visible cells of a scan's beginning, or of its end, has them in their types.
+pub fn scans_are_seen()
+    ensures { ScansAreSeen }
+{
+    scans_keep_the_ranges();
 }
 
 /// What a pattern's text says fits, where each byte that the texts name has a cell.
