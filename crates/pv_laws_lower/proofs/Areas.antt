@@ -300,29 +300,29 @@ wide_bytes Int byte = omega arith
 wide_bytes Dint byte = omega arith
 wide_bytes Time byte = omega arith
 
-spot_lies : (source : Source) (block : BlockTree) (ty : Ty) (area : Area) (byte n : ℕ) → n < 8
+spot_lies : (asks : Type 0) (source : Source) (block : BlockTree) (ty : Ty) (area : Area) (byte n : ℕ) → n < 8
     → AreShared source (byte_number source area byte) (bytes_wide ty)
-    → SpotLies source block (address_spot source ty area (width_of ty) byte n) []
-spot_lies source block Bool area byte n lt shared = (lt, shared)
-spot_lies source block Byte area byte n lt shared = (omega arith, shared, refl)
-spot_lies source block Word area byte n lt shared = (omega arith, shared, refl)
-spot_lies source block Dword area byte n lt shared = (omega arith, shared, refl)
-spot_lies source block Int area byte n lt shared = (omega arith, shared, refl)
-spot_lies source block Dint area byte n lt shared = (omega arith, shared, refl)
-spot_lies source block Time area byte n lt shared = (omega arith, shared, refl)
+    → SpotLies asks source block (address_spot source ty area (width_of ty) byte n) []
+spot_lies asks source block Bool area byte n lt shared = (lt, shared)
+spot_lies asks source block Byte area byte n lt shared = (omega arith, shared, refl)
+spot_lies asks source block Word area byte n lt shared = (omega arith, shared, refl)
+spot_lies asks source block Dword area byte n lt shared = (omega arith, shared, refl)
+spot_lies asks source block Int area byte n lt shared = (omega arith, shared, refl)
+spot_lies asks source block Dint area byte n lt shared = (omega arith, shared, refl)
+spot_lies asks source block Time area byte n lt shared = (omega arith, shared, refl)
 
 le_told : (a b : ℕ) → nat_le a b ≡ true → a ≤ b
 le_told a b e = grind (arith, e)
 
 -- an address that is as wide as its type, each of whose bytes has a cell
-pub address_lies : TableLaws → (source : Source) → HasTable source → (patterns : List OperandTree)
+pub address_lies : (asks : Type 0) → TableLaws → (source : Source) → HasTable source → (patterns : List OperandTree)
     → source.bytes ≡ bytes_of source.project patterns → (block : BlockTree) (ty : Ty) (area : Area) (bits byte n : ℕ)
     → is_address bits byte n ≡ true → bits ≡ width_of ty
     → ((k : ℕ) → Contains (from_on byte (last_byte bits byte - byte + 1)) k → Contains (bytes_in source.bytes area) k)
-    → SpotLies source block (address_spot source ty area bits byte n) []
-address_lies laws source table patterns named block ty area bits byte n right wide has =
-    subst (λ (b : ℕ). SpotLies source block (address_spot source ty area b byte n) []) (sym wide)
-    (spot_lies source block ty area byte n small
+    → SpotLies asks source block (address_spot source ty area bits byte n) []
+address_lies asks laws source table patterns named block ty area bits byte n right wide has =
+    subst (λ (b : ℕ). SpotLies asks source block (address_spot source ty area b byte n) []) (sym wide)
+    (spot_lies asks source block ty area byte n small
     (area_shared laws source table patterns named area byte (bytes_wide ty)
     (λ k lt. contains_has (bytes_in source.bytes area) (byte + k)
     (has (byte + k) (subst (λ (c : ℕ). Contains (from_on byte c) (byte + k))

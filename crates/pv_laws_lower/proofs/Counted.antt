@@ -43,7 +43,7 @@ use Rattle.pv_laws_types.proofs.ForCallers.{Shows, AreKnown, IsKnown, block_know
 use Rattle.pv_laws_lower.specs.Fit.{IsLaidOut, IsFit, IsFitOperand}
 use Rattle.pv_laws_lower.specs.Correct.{ChecksAreCounted}
 use Rattle.pv_lower.proofs.ForCallers.{literal_lowered}
-use Rattle.pv_laws_lower.proofs.Operands.{symbol_found, right_of, operand_taken, full_all, full_good, some_is}
+use Rattle.pv_laws_lower.proofs.Operands.{symbol_found, right_of, operand_taken, good_all, some_is}
 use Rattle.pv_laws_lower.proofs.Sorts.{some_told}
 use Rattle.pv_laws_lower.proofs.Rooms.{laid_bounds}
 use Rattle.pv_laws_lower.proofs.Standing.{PartIs, ConstantIs, Stands, is_hidden, IsLost, StandsAs, field_stands, elements_stand, known_stands, dated_stands}
@@ -542,19 +542,17 @@ module _ (source : Source) (block : BlockTree) (rules : KeepsRules source.projec
 fit_good : PartsHaveTypes → (source : Source) (block : BlockTree) (want : Want) (e : ExprTree) (ty : Ty) → IsFit source block want e ty
     → AreGood (scope_of source block) (parts_of (scope_of source block) want e)
 fit_good types source block want e ty fit =
-    full_good source (scope_of source block) (parts_of (scope_of source block) want e)
-    (full_all source (scope_of source block) (parts_of (scope_of source block) want e)
-    (types (scope_of source block) want e (some_is (type_of (scope_of source block) want e) ty fit.has_type)) fit.parts.literals fit.parts.addresses)
+    good_all (scope_of source block) (parts_of (scope_of source block) want e)
+    (types (scope_of source block) want e (some_is (type_of (scope_of source block) want e) ty fit.has_type)) fit.parts.literals
 
 target_counted : PartsHaveTypes → Shows → (source : Source) (block : BlockTree) (o : OperandTree) (ty : Ty) → IsLaidOut source block
     → IsFitOperand source block o ty → length (accessed source block o).checks ≡ checks_of_target (scope_of source block) o
 target_counted types shows source block (operand root more p) ty laid fit =
     (operand_counted source block laid.rules shows laid root more p ty fit.has_type
     (indexes_counted source block laid.rules shows laid more
-    (full_good source scope (parts_of_steps scope more)
-    (full_all source scope (parts_of_steps scope more)
+    (good_all scope (parts_of_steps scope more)
     (types scope nothing (read (operand root more p))
-    (some_is _ ty (operand_taken scope nothing (operand root more p) ∙ fit.has_type))).1 fit.indexes.literals fit.indexes.addresses)))).target
+    (some_is _ ty (operand_taken scope nothing (operand root more p) ∙ fit.has_type))).1 fit.indexes.literals))).target
   where
     scope : Scope
     scope = scope_of source block

@@ -21,21 +21,9 @@ use Rattle.pv_mean.specs.Sources.{Source}
 use Rattle.pv_laws_lower.specs.Correct.{BlocksAreFit, PatternsAreFit}
 use Rattle.pv_laws_lower.specs.Fit.{bytes_in, HasBytes, IsWide, IsAddressed, WrittenLies, LiteralLies}
 use Rattle.pv_laws_lower.proofs.Areas.{Has, contains_has}
-use Rattle.pv_laws_lower.proofs.Lists.{all_front}
+use Rattle.pv_laws_lower.proofs.Lists.{all_front, contains_more, all_of, all_both}
 
 -- ---- lists
-
-contains_more : {X : Type 0} (x y : X) (xs : List X) → Contains xs y → Contains (x ∷ xs) y
-contains_more x y xs (k, lt, e) = (suc k, omega (arith, lt), e)
-
-all_of : {X : Type 0} (P : X → Type 0) (xs : List X) → ((x : X) → Contains xs x → P x) → AllByRecursion P xs
-all_of P [] f = tt
-all_of P (x ∷ xs) f = (f x (0, omega arith, refl), all_of P xs (λ y c. f y (contains_more x y xs c)))
-
-all_both : {X : Type 0} (F G H : X → Type 0) (xs : List X) → ((x : X) → F x → G x → H x) → AllByRecursion F xs → AllByRecursion G xs
-    → AllByRecursion H xs
-all_both F G H [] f a b = tt
-all_both F G H (x ∷ xs) f a b = (f x a.0 b.0, all_both F G H xs f a.1 b.1)
 
 contains_flat : {X Y : Type 0} (f : X → List Y) (xs : List X) (x : X) (y : Y) → Contains xs x → Contains (f x) y → Contains (flat_map f xs) y
 contains_flat f [] x y (k, lt, e) d = absurd (omega (arith, lt))
@@ -100,11 +88,11 @@ named_there source patterns o named there area n d = by area (there_in area d)
 within : (a b v : ℤ) → int_le a v && int_le v b ≡ true → (a ≤ℤ v) × (v ≤ℤ b)
 within a b v e = (grind (arith, ints), grind (arith, ints))
 
-is_not : (b : Truth) → (IsTrue (not b) → ⊥) → b ≡ true
+pub is_not : (b : Truth) → (IsTrue (not b) → ⊥) → b ≡ true
 is_not true f = refl
 is_not false f = absurd (f refl)
 
-written_lies : (want : Want) (o : Option Written) → (IsWrittenOutside want o → ⊥) → WrittenLies want o
+pub written_lies : (want : Want) (o : Option Written) → (IsWrittenOutside want o → ⊥) → WrittenLies want o
 written_lies want None f = tt
 written_lies want (Some w) f =
     let ty = type_of_literal want w.ty w.value in

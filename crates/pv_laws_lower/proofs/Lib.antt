@@ -1,12 +1,15 @@
 mod Areas
 mod Checked
 mod Counted
+mod Each
 mod Entered
 mod Fitting
 mod Functions
 mod Lists
 mod Operands
 mod Operating
+mod Parts
+mod Patterns
 mod Putting
 mod Regions
 mod Rooms
@@ -18,4 +21,5 @@ mod Staying
 mod StayingRuns
 mod Values
 mod Walked
+mod Widths
 mod Written

@@ -4,7 +4,6 @@ use Rattle.std.specs.Prelude.{slice_get, slice_set, slice_index_or, ◌==◌}
 use Rattle.std.proofs.lemmas.Bool.{eq-eqb, ne_eqb}
 use Rattle.std.proofs.lemmas.Bool.Decides.{eqb_tells}
 use Rattle.std.proofs.lemmas.Int.{ints}
-use Rattle.std.proofs.lemmas.List.{length-set}
 use Rattle.std.proofs.lemmas.Option.{none-some, same_Some}
 use Rattle.pv_word.specs.declared.types.Ty.{Ty}
 use Rattle.pv_word.specs.declared.types.Ty.TheVariants.{Byte}
@@ -22,7 +21,7 @@ use Rattle.pv_variables.specs.Variables.{brief_variable}
 use Rattle.pv_variables.specs.Correct.{BriefCellsAreApart}
 use Rattle.pv_access.specs.Correct.{IsTold, through}
 use Rattle.pv_laws_types.specs.Typed.{types_of_cells, visible_types, brief_types}
-use Rattle.pv_laws_lower.specs.Agrees.{named_count, IsBrief, LieAt, Agrees}
+use Rattle.pv_laws_lower.specs.Agrees.{named_count, IsBrief, LieAt, Agrees, HasBriefCells}
 use Rattle.pv_laws_lower.proofs.Roots.{visible_counted}
 use Rattle.pv_laws_lower.proofs.Shown.{within_list}
 
@@ -95,7 +94,6 @@ module _ (source : Source) (act : Activation) (place : ℕ → ℕ) (lie : LieAt
     visible = λ n lt. same n ∙ a.visible n lt;
     brief = λ j lt. told_same (through place v) (through place u) (brief_variable source act.block j) (brief_value frame j)
         (same (place (brief_variable source act.block j))) (same (place (suc (brief_variable source act.block j)))) (a.brief j lt);
-    brief_len = a.brief_len;
   }
 
   -- ---- visible cells
@@ -144,16 +142,16 @@ module _ (source : Source) (act : Activation) (place : ℕ → ℕ) (lie : LieAt
             (put_other v m (place (brief_variable source act.block j)) x (apart (place (brief_variable source act.block j)) (lie.behind _ (is_first j lt))))
             (put_other v m (place (suc (brief_variable source act.block j))) x
             (apart (place (suc (brief_variable source act.block j))) (lie.behind _ (is_set j lt)))) (a.brief j lt);
-        brief_len = a.brief_len;
       }
 
   -- ---- brief cells
 
-  pub brief_put : BriefCellsAreApart → (frame : Frame) (v : Valuation) (j : ℕ) (ty : Ty) (x : ℤ) → j < named_count source act.block
+  pub brief_put : BriefCellsAreApart → (frame : Frame) (v : Valuation) (j : ℕ) (ty : Ty) (x : ℤ) → HasBriefCells source act frame
+      → j < named_count source act.block
       → slice_get (brief_types source act) j ≡ Some ty → InRange ty x → Agrees source act place frame v
       → Agrees source act place (with_brief frame ty j x)
       (put (put v (place (brief_variable source act.block j)) x) (place (suc (brief_variable source act.block j))) (pos 1))
-  brief_put cells frame v j ty x within has lies a =
+  brief_put cells frame v j ty x full within has lies a =
       subst (λ (y : ℤ). Agrees source act place (record { visible = frame.visible; brief = slice_set frame.brief j (Some y) }) u)
       (sym (wrap-own (wide ty) lies)) there
     where
@@ -167,7 +165,7 @@ module _ (source : Source) (act : Activation) (place : ℕ → ℕ) (lie : LieAt
       to = record { visible = frame.visible; brief = slice_set frame.brief j (Some x) }
 
       room : j < length frame.brief
-      room = let l = a.brief_len in omega (arith, l, within)
+      room = omega (arith, full, within)
 
       -- any other variable stays
       other : (m : ℕ) → (m ≡ place n → ⊥) → (m ≡ place (suc n) → ⊥) → u m ≡ v m
@@ -222,5 +220,4 @@ module _ (source : Source) (act : Activation) (place : ℕ → ℕ) (lie : LieAt
         visible = λ k lt. other k (visible_other k (place n) lt (lie.behind n (is_first j within)))
             (visible_other k (place (suc n)) lt (lie.behind (suc n) (is_set j within))) ∙ a.visible k lt;
         brief = λ i lt. told_any i lt (eqb_tells i j);
-        brief_len = (let e = length-set frame.brief j (Some x) in let l = a.brief_len in omega (arith, e, l));
       }

@@ -1,5 +1,6 @@
 -- Where an access lies: among the cells of its block's instance, among the shared ones, or among those of one brief variable, wherever its
--- indexes lead; and that each step stays there.
+-- indexes lead; and that each step stays there. What lies among brief cells asks for something besides (`asks`): that frame and valuation say
+-- the same of these.
 use Rattle.std.proofs.Common.{◌≡◌, ◌≤◌, ◌<◌, ℕ, ◌+◌, ◌*◌, ℤ, ◌-ℤ◌, int_le, unsigned_abs, List, [], ◌∷◌, ◌++◌, Bool as Truth, true, false, ◌&&◌, not, Option, Some, None, refl, sym, subst, ◌∙◌, arith}
 use Rattle.std.specs.Prelude.{⊤, slice_get, if◌then◌else◌}
 use Rattle.std.proofs.lemmas.Bool.{false≢true, true≢false}
@@ -41,11 +42,12 @@ pub record IsVariable (source : Source) (block : BlockTree) (first count : ℕ) 
   pub within : first + count ≤ named_count source block
   pub follows : (i : ℕ) → i < count → brief_variable source block (first + i) ≡ brief_variable source block first + i * 2
 
-pub record InVariable (source : Source) (block : BlockTree) (l : Laid) (ms : List Move) : Type 0 where
+pub record InVariable (asks : Type 0) (source : Source) (block : BlockTree) (l : Laid) (ms : List Move) : Type 0 where
   pub first : ℕ
   pub count : ℕ
   pub room : IsRoom source.project l ms first count
   pub variable : IsVariable source block first count
+  pub asked : asks
 
 -- so many bytes among the shared cells
 abbrev pub AreShared : Source → ℕ → ℕ → Type 0
@@ -53,47 +55,47 @@ AreShared source n count =
     (k : ℕ) → k < count
     → (entry_size source.project source.entry ≤ n + k) × (slice_get (visible_types source) (n + k) ≡ Some Byte)
 
-abbrev pub SpotLies : Source → BlockTree → Spot → List Move → Type 0
-SpotLies source block (visible n) ms = ⊥
-SpotLies source block (brief ty j) ms = (ms ≡ []) × (j < named_count source block)
-SpotLies source block (bit n b) ms = (b < 8) × AreShared source n 1
-SpotLies source block (bytes ty n count) ms = (count ≤ 4) × AreShared source n count × (8 * count ≡ width_of ty)
-SpotLies source block (fixed v) ms = ⊤
-SpotLies source block nowhere ms = ⊤
+abbrev pub SpotLies : Type 0 → Source → BlockTree → Spot → List Move → Type 0
+SpotLies asks source block (visible n) ms = ⊥
+SpotLies asks source block (brief ty j) ms = (ms ≡ []) × (j < named_count source block) × asks
+SpotLies asks source block (bit n b) ms = (b < 8) × AreShared source n 1
+SpotLies asks source block (bytes ty n count) ms = (count ≤ 4) × AreShared source n count × (8 * count ≡ width_of ty)
+SpotLies asks source block (fixed v) ms = ⊤
+SpotLies asks source block nowhere ms = ⊤
 
-abbrev pub Lies : Source → BlockTree → Origin → List Move → Type 0
-Lies source block (in_instance l) ms = IsRoom source.project l ms 0 (entry_size source.project block) × IsKnown source.project l.ty
-Lies source block (in_table l) ms =
+abbrev pub Lies : Type 0 → Source → BlockTree → Origin → List Move → Type 0
+Lies asks source block (in_instance l) ms = IsRoom source.project l ms 0 (entry_size source.project block) × IsKnown source.project l.ty
+Lies asks source block (in_table l) ms =
     IsRoom source.project l ms (entry_size source.project source.entry) (shared_count source) × IsKnown source.project l.ty
-Lies source block (in_activation l) ms = InVariable source block l ms × IsKnown source.project l.ty
-Lies source block (at_spot spot) ms = SpotLies source block spot ms
+Lies asks source block (in_activation l) ms = InVariable asks source block l ms × IsKnown source.project l.ty
+Lies asks source block (at_spot spot) ms = SpotLies asks source block spot ms
 
 -- the indexes lie within their bounds, and the access among its cells
-pub record IsKept (source : Source) (block : BlockTree) (w : Valuation) (a : Access) : Type 0 where
+pub record IsKept (asks : Type 0) (source : Source) (block : BlockTree) (w : Valuation) (a : Access) : Type 0 where
   pub inside : AreInside w a.moves
-  pub lies : Lies source block a.origin a.moves
+  pub lies : Lies asks source block a.origin a.moves
 
 -- ---- fields
 
-module _ (source : Source) (block : BlockTree) (rules : KeepsRules source.project) where
+module _ (asks : Type 0) (source : Source) (block : BlockTree) (rules : KeepsRules source.project) where
   abbrev scope : Scope
   scope = scope_of source block
 
-  field_lies : (o : Origin) (ms : List Move) (key : List ℕ) → Lies source block o ms
-      → Lies source block (field_placed source.project o key) ms
+  field_lies : (o : Origin) (ms : List Move) (key : List ℕ) → Lies asks source block o ms
+      → Lies asks source block (field_placed source.project o key) ms
   field_lies (in_instance l) ms key h = by (field_laid source.project l key) refl
     where
-      by : (o : Option Laid) → field_laid source.project l key ≡ o → Lies source block (laid_where in_instance o) ms
+      by : (o : Option Laid) → field_laid source.project l key ≡ o → Lies asks source block (laid_where in_instance o) ms
       by None is = tt
       by (Some f) is = let b = field_bounds scope rules l f key h.1 is in (room_within source.project l f ms _ _ b.0 b.1 h.0, b.2)
   field_lies (in_table l) ms key h = by (field_laid source.project l key) refl
     where
-      by : (o : Option Laid) → field_laid source.project l key ≡ o → Lies source block (laid_where in_table o) ms
+      by : (o : Option Laid) → field_laid source.project l key ≡ o → Lies asks source block (laid_where in_table o) ms
       by None is = tt
       by (Some f) is = let b = field_bounds scope rules l f key h.1 is in (room_within source.project l f ms _ _ b.0 b.1 h.0, b.2)
   field_lies (in_activation l) ms key h = by (field_laid source.project l key) refl
     where
-      by : (o : Option Laid) → field_laid source.project l key ≡ o → Lies source block (laid_where in_activation o) ms
+      by : (o : Option Laid) → field_laid source.project l key ≡ o → Lies asks source block (laid_where in_activation o) ms
       by None is = tt
       by (Some f) is =
           let b = field_bounds scope rules l f key h.1 is in (
@@ -102,6 +104,7 @@ module _ (source : Source) (block : BlockTree) (rules : KeepsRules source.projec
               count = h.0.count;
               room = room_within source.project l f ms h.0.first h.0.count b.0 b.1 h.0.room;
               variable = h.0.variable;
+              asked = h.0.asked;
             },
             b.2,
           )
@@ -112,16 +115,16 @@ module _ (source : Source) (block : BlockTree) (rules : KeepsRules source.projec
   -- an element of what lies in a room lies in it
   element_lies : (make : Laid → Origin) (Room : Laid → Type 0) (ms : List Move) (ty : TypeTree) (first : ℕ) (i : ℤ)
       → ((l p : Laid) → l.first ≤ p.first → p.first + size_in source.project p.ty ≤ l.first + size_in source.project l.ty → Room l → Room p)
-      → ((p : Laid) → Room p → IsKnown source.project p.ty → Lies source block (make p) ms)
+      → ((p : Laid) → Room p → IsKnown source.project p.ty → Lies asks source block (make p) ms)
       → Room (record { ty = ty; first = first }) → IsKnown source.project ty
-      → Lies source block (laid_where make (element_from source.project ty first i)) ms
+      → Lies asks source block (laid_where make (element_from source.project ty first i)) ms
   element_lies make Room ms (plain ty) first i part lie room known = tt
   element_lies make Room ms (array low high of place) first i part lie room known = by (int_le low i && int_le i high) refl
     where
       p : Laid
       p = record { ty = of; first = first + unsigned_abs (i -ℤ low) * size_in source.project of }
 
-      by : (b : Truth) → int_le low i && int_le i high ≡ b → Lies source block (laid_where make (if b then Some p else None)) ms
+      by : (b : Truth) → int_le low i && int_le i high ≡ b → Lies asks source block (laid_where make (if b then Some p else None)) ms
       by true is = lie p (part (record { ty = array low high of place; first = first }) p (omega arith)
           (element_bounds source.project low high of place first i is) room) known
       by false is = tt
@@ -129,7 +132,7 @@ module _ (source : Source) (block : BlockTree) (rules : KeepsRules source.projec
   element_lies make Room ms (named name place) first i part lie room known = tt
   element_lies make Room ms unread first i part lie room known = tt
 
-  known_lies : (o : Origin) (ms : List Move) (i : ℤ) → Lies source block o ms → Lies source block (element_placed source.project o i) ms
+  known_lies : (o : Origin) (ms : List Move) (i : ℤ) → Lies asks source block o ms → Lies asks source block (element_placed source.project o i) ms
   known_lies (in_instance l) ms i h =
       element_lies in_instance (λ x. IsRoom source.project x ms 0 (entry_size source.project block)) ms l.ty l.first i
       (λ x p a b r. room_within source.project x p ms _ _ a b r) (λ p r k. (r, k)) h.0 h.1
@@ -137,12 +140,13 @@ module _ (source : Source) (block : BlockTree) (rules : KeepsRules source.projec
       element_lies in_table (λ x. IsRoom source.project x ms (entry_size source.project source.entry) (shared_count source)) ms l.ty l.first i
       (λ x p a b r. room_within source.project x p ms _ _ a b r) (λ p r k. (r, k)) h.0 h.1
   known_lies (in_activation l) ms i h =
-      element_lies in_activation (λ x. InVariable source block x ms) ms l.ty l.first i
+      element_lies in_activation (λ x. InVariable asks source block x ms) ms l.ty l.first i
       (λ x p a b r. record {
         first = r.first;
         count = r.count;
         room = room_within source.project x p ms r.first r.count a b r.room;
         variable = r.variable;
+        asked = r.asked;
       })
       (λ p r k. (r, k)) h.0 h.1
   known_lies (at_spot spot) ms i h = tt
@@ -155,11 +159,11 @@ module _ (source : Source) (block : BlockTree) (rules : KeepsRules source.projec
       → Room (record { ty = array low high of place; first = first }) ms
       → Room (record { ty = of; first = first })
       (ms ++ record { index = t; low = low; high = high; stride = size_in source.project of } ∷ []))
-      → ((p : Laid) (ns : List Move) → Room p ns → IsKnown source.project p.ty → Lies source block (make p) ns)
+      → ((p : Laid) (ns : List Move) → Room p ns → IsKnown source.project p.ty → Lies asks source block (make p) ns)
       → Room (record { ty = ty; first = first }) ms → IsKnown source.project ty
-      → Lies source block e.head (ms ++ move_of source.project t e ∷ [])
+      → Lies asks source block e.head (ms ++ move_of source.project t e ∷ [])
   head_lies make Room ms t (array low high of place) first e i are inside moving lie room known =
-      subst (λ (x : Elements). int_le x.low i && int_le i x.high ≡ true → Lies source block x.head (ms ++ move_of source.project t x ∷ []))
+      subst (λ (x : Elements). int_le x.low i && int_le i x.high ≡ true → Lies asks source block x.head (ms ++ move_of source.project t x ∷ []))
       (same_Some (record { low = low; high = high; of = of; head = make (record { ty = of; first = first }) }) e are)
       (λ within. lie (record { ty = of; first = first })
       (ms ++ record { index = t; low = low; high = high; stride = size_in source.project of } ∷ []) (moving low high of place within room) known) inside
@@ -169,8 +173,8 @@ module _ (source : Source) (block : BlockTree) (rules : KeepsRules source.projec
   head_lies make Room ms t unread first e i are inside moving lie room known = absurd (none-some e are)
 
   moved_lies : (o : Origin) (ms : List Move) (t : Term) (e : Elements) (i : ℤ) → elements_placed o ≡ Some e
-      → int_le e.low i && int_le i e.high ≡ true → Lies source block o ms
-      → Lies source block e.head (ms ++ move_of source.project t e ∷ [])
+      → int_le e.low i && int_le i e.high ≡ true → Lies asks source block o ms
+      → Lies asks source block e.head (ms ++ move_of source.project t e ∷ [])
   moved_lies (in_instance l) ms t e i are inside h =
       head_lies in_instance (λ x ns. IsRoom source.project x ns 0 (entry_size source.project block)) ms t l.ty l.first e i are inside
       (λ low high of place within r. room_moved source.project low high of place l.first ms
@@ -183,13 +187,14 @@ module _ (source : Source) (block : BlockTree) (rules : KeepsRules source.projec
       (record { index = t; low = low; high = high; stride = size_in source.project of }) _ _ refl refl refl i within r)
       (λ p ns r k. (r, k)) h.0 h.1
   moved_lies (in_activation l) ms t e i are inside h =
-      head_lies in_activation (λ x ns. InVariable source block x ns) ms t l.ty l.first e i are inside
+      head_lies in_activation (λ x ns. InVariable asks source block x ns) ms t l.ty l.first e i are inside
       (λ low high of place within r. record {
         first = r.first;
         count = r.count;
         room = room_moved source.project low high of place l.first ms
             (record { index = t; low = low; high = high; stride = size_in source.project of }) r.first r.count refl refl refl i within r.room;
         variable = r.variable;
+        asked = r.asked;
       })
       (λ p ns r k. (r, k)) h.0 h.1
   moved_lies (at_spot spot) ms t e i are inside h = absurd (none-some e are)
@@ -224,8 +229,8 @@ module _ (source : Source) (block : BlockTree) (rules : KeepsRules source.projec
         lead false x = refl
 
     moved_kept : (a : Access) (place : Place) (t : Term) (o : Option Elements) → elements_placed a.origin ≡ o → (b : Begins)
-        → checked w (to_moved source.project a place t o).checks b ≡ got b → IsKept source block w a
-        → IsKept source block w (to_moved source.project a place t o).access
+        → checked w (to_moved source.project a place t o).checks b ≡ got b → IsKept asks source block w a
+        → IsKept asks source block w (to_moved source.project a place t o).access
     moved_kept a place t None are b p k = record { inside = k.inside; lies = tt }
     moved_kept a place t (Some e) are b p k =
         let within = passed_inside place t e b p in
@@ -235,14 +240,14 @@ module _ (source : Source) (block : BlockTree) (rules : KeepsRules source.projec
         }
 
     element_kept : (a : Access) (place : Place) (e : ExprTree) (l : Lowered) (o : Option Written) (b : Begins)
-        → checked w (accessed_by a place e l o).checks b ≡ got b → IsKept source block w a
-        → IsKept source block w (accessed_by a place e l o).access
+        → checked w (accessed_by a place e l o).checks b ≡ got b → IsKept asks source block w a
+        → IsKept asks source block w (accessed_by a place e l o).access
     element_kept a place e l (Some x) b p k = record { inside = k.inside; lies = known_lies a.origin a.moves x.value k.lies }
     element_kept a place e l None b p k =
         moved_kept a place (as_type Dint scope nothing e l).term (elements_placed a.origin) refl b
         (both_passed w l.checks (to_moved source.project a place (as_type Dint scope nothing e l).term (elements_placed a.origin)).checks b b p).1 k
 
     pub step_kept : (a : Access) (step : StepTree) (b : Begins) → checked w (stepped source block a step).checks b ≡ got b
-        → IsKept source block w a → IsKept source block w (stepped source block a step).access
+        → IsKept asks source block w a → IsKept asks source block w (stepped source block a step).access
     step_kept a (field name place) b p k = record { inside = k.inside; lies = field_lies a.origin a.moves name.key k.lies }
     step_kept a (index e place) b p k = element_kept a place e (lowered source block nothing e) (literal_of e) b p k

@@ -20,6 +20,7 @@ use Rattle.pv_mean.specs.Sources.{Source, data_block_first}
 use Rattle.pv_mean.specs.Frames.{visible_cells, visible_len}
 use Rattle.pv_mean.specs.Spots.{brief, fixed, nowhere}
 use Rattle.pv_mean.specs.Activations.{Activation, Begins, in_visible, in_brief, at, value_number, address_spot, symbol_at, root_begins}
+use Rattle.pv_sizes.specs.Checks.{is_brief_variable, is_brief_word, is_brief_root}
 use Rattle.pv_flow.specs.Terms.{Valuation}
 use Rattle.pv_resolve.specs.Begins.{begins_further}
 use Rattle.pv_variables.specs.Correct.{NamesArePlaced}
@@ -176,20 +177,21 @@ not_brief_fb block s c e = lead (is_fb block.kind) e
     lead true x = refl
     lead false x = absurd (true≢false (sym (ap not c) ∙ x))
 
-module _ (shows : Shows) (source : Source) (block : BlockTree) (table : HasTable source) (rules : KeepsRules source.project)
+module _ (asks : Type 0) (shows : Shows) (source : Source) (block : BlockTree) (table : HasTable source) (rules : KeepsRules source.project)
     (known : AreKnown source.project block.vars) where
   abbrev LiesThere : Origin → Type 0
-  LiesThere o = Lies source block o []
+  LiesThere o = Lies asks source block o []
 
-  brief_there : (key : List ℕ) (o : Option Laid) → laid_among source.project (is_brief_in block) block.vars key 0 ≡ o
+  brief_there : asks → (key : List ℕ) (o : Option Laid) → laid_among source.project (is_brief_in block) block.vars key 0 ≡ o
       → LiesThere (laid_where in_activation o)
-  brief_there key None is = tt
-  brief_there key (Some l) is = (
+  brief_there ask key None is = tt
+  brief_there ask key (Some l) is = (
     record {
       first = l.first;
       count = size_in source.project l.ty;
       room = room_begins source.project l l.first (size_in source.project l.ty) (omega arith) (omega arith);
       variable = variable_follows source block key l known is;
+      asked = ask;
     },
     (laid_bounds source.project (is_brief_in block) block.vars key 0 l known is).2,
   )
@@ -205,21 +207,22 @@ module _ (shows : Shows) (source : Source) (block : BlockTree) (table : HasTable
         b.2,
       )
 
-  variable_there : (key : List ℕ) (v : VarTree) → LiesThere (placed_variable source block key v)
-  variable_there key v = by (is_const (section_of v)) refl (is_brief_in block (section_of v)) refl
+  variable_there : (key : List ℕ) (v : VarTree) → (is_brief_in block (section_of v) ≡ true → asks)
+      → LiesThere (placed_variable source block key v)
+  variable_there key v ask = by (is_const (section_of v)) refl (is_brief_in block (section_of v)) refl
     where
       by : (c : Truth) → is_const (section_of v) ≡ c → (b : Truth) → is_brief_in block (section_of v) ≡ b
           → LiesThere (if c then at_spot (fixed (start_value (start_of v)))
           else (if b then laid_where in_activation (laid_among source.project (is_brief_in block) block.vars key 0)
           else laid_where in_instance (laid_among source.project is_of_instance block.vars key 0)))
       by true c b e = tt
-      by false c true e = brief_there key (laid_among source.project (is_brief_in block) block.vars key 0) refl
+      by false c true e = brief_there (ask e) key (laid_among source.project (is_brief_in block) block.vars key 0) refl
       by false c false e =
           instance_there key (laid_among source.project is_of_instance block.vars key 0) (not_brief_fb block (section_of v) c e) refl
 
-  value_lies_there : (ty : Ty) → block.value ≡ Some ty → LiesThere (at_spot (brief ty (value_number source block)))
-  value_lies_there ty is =
-      let e = ap {B = ℕ} (λ (o : Option Ty). if is_some o then 1 else 0) is in (refl, omega (arith, e))
+  value_lies_there : asks → (ty : Ty) → block.value ≡ Some ty → LiesThere (at_spot (brief ty (value_number source block)))
+  value_lies_there ask ty is =
+      let e = ap {B = ℕ} (λ (o : Option Ty). if is_some o then 1 else 0) is in (refl, omega (arith, e), ask)
 
   block_there : (key : List ℕ) (b : BlockTree) → first_block source.project.blocks key ≡ Some b → LiesThere (placed_block source b)
   block_there key b is = by (is_db b.kind) refl
@@ -239,8 +242,8 @@ module _ (shows : Shows) (source : Source) (block : BlockTree) (table : HasTable
           )
       by false e = tt
 
-  word_there : (key : List ℕ) (hash : Truth) → LiesThere (placed_word source block key hash)
-  word_there key hash = variable (first_var block.vars key)
+  word_there : (key : List ℕ) (hash : Truth) → (is_brief_word block key hash ≡ true → asks) → LiesThere (placed_word source block key hash)
+  word_there key hash ask = variable (first_var block.vars key) ask
     where
       blocked : (o : Option BlockTree) → first_block source.project.blocks key ≡ o
           → LiesThere (placed_block_or source o (at_spot nowhere))
@@ -252,47 +255,48 @@ module _ (shows : Shows) (source : Source) (block : BlockTree) (table : HasTable
       hashed true = tt
       hashed false = blocked (first_block source.project.blocks key) refl
 
-      valued : (o : Option Ty) → own_value block key hash ≡ o
+      valued : (o : Option Ty) → own_value block key hash ≡ o → (is_some o ≡ true → asks)
           → LiesThere (placed_value_or source block o
           (if hash then at_spot nowhere else placed_block_or source (first_block source.project.blocks key) (at_spot nowhere)))
-      valued None is = hashed hash
-      valued (Some ty) is = value_lies_there ty (value_there block key hash ty is)
+      valued None is a = hashed hash
+      valued (Some ty) is a = value_lies_there (a refl) ty (value_there block key hash ty is)
 
-      variable : (o : Option VarTree)
+      variable : (o : Option VarTree) → (is_brief_variable block o (is_some (own_value block key hash)) ≡ true → asks)
           → LiesThere (placed_variable_or source block key o
           (placed_value_or source block (own_value block key hash)
           (if hash then at_spot nowhere else placed_block_or source (first_block source.project.blocks key) (at_spot nowhere))))
-      variable None = valued (own_value block key hash) refl
-      variable (Some v) = variable_there key v
+      variable None a = valued (own_value block key hash) refl a
+      variable (Some v) a = variable_there key v a
 
   -- symbols that are addresses lie there
   module _ (symbols : (key : List ℕ) (s : SymbolTree) → first_symbol source.project.symbols key ≡ Some s
-      → SpotLies source block (symbol_at source s.ty s.at) []) where
+      → SpotLies asks source block (symbol_at source s.ty s.at) []) where
     symbol_there : (key : List ℕ) (o : Option SymbolTree) → first_symbol source.project.symbols key ≡ o → LiesThere (placed_symbol source o)
     symbol_there key None is = tt
     symbol_there key (Some s) is = symbols key s is
 
-    name_there : (key : List ℕ) → LiesThere (placed_name source block key)
-    name_there key = valued (quoted_value block key) refl
+    name_there : (key : List ℕ) → (is_some (quoted_value block key) ≡ true → asks) → LiesThere (placed_name source block key)
+    name_there key ask = valued (quoted_value block key) refl ask
       where
         blocked : (o : Option BlockTree) → first_block source.project.blocks key ≡ o
             → LiesThere (placed_block_or source o (placed_symbol source (first_symbol source.project.symbols key)))
         blocked None is = symbol_there key (first_symbol source.project.symbols key) refl
         blocked (Some b) is = block_there key b is
 
-        valued : (o : Option Ty) → quoted_value block key ≡ o
+        valued : (o : Option Ty) → quoted_value block key ≡ o → (is_some o ≡ true → asks)
             → LiesThere (placed_value_or source block o
             (placed_block_or source (first_block source.project.blocks key) (placed_symbol source (first_symbol source.project.symbols key))))
-        valued None is = blocked (first_block source.project.blocks key) refl
-        valued (Some ty) is = value_lies_there ty (quoted_there block key ty is)
+        valued None is a = blocked (first_block source.project.blocks key) refl
+        valued (Some ty) is a = value_lies_there (a refl) ty (quoted_there block key ty is)
 
     -- an address itself
     abbrev pub AddressLies : Root → Type 0
-    AddressLies (InArea area bits byte n) = SpotLies source block (address_spot source (type_of_bits bits) area bits byte n) []
+    AddressLies (InArea area bits byte n) = SpotLies asks source block (address_spot source (type_of_bits bits) area bits byte n) []
     AddressLies (Local name hash place) = ⊤
     AddressLies (Named name) = ⊤
 
-    pub root_lies : (root : Root) → AddressLies root → Lies source block (placed source block root) []
-    root_lies (Local name hash place) h = word_there name.key hash
-    root_lies (Named name) h = name_there name.key
-    root_lies (InArea area bits byte n) h = h
+    pub root_lies : (root : Root) → AddressLies root → (is_brief_root block root ≡ true → asks)
+        → Lies asks source block (placed source block root) []
+    root_lies (Local name hash place) h ask = word_there name.key hash ask
+    root_lies (Named name) h ask = name_there name.key ask
+    root_lies (InArea area bits byte n) h ask = h

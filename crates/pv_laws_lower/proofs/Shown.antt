@@ -1,6 +1,7 @@
--- In a valuation that agrees with a frame, what an access leads to is what its spot is in the frame.
+-- In a valuation that agrees with a frame, what an access leads to is what its spot is in the frame; and so it is where they say the same of the
+-- visible cells alone and the access leads to such.
 use Rattle.std.proofs.Common.{◌≡◌, ◌≤◌, ◌<◌, ℕ, zero, suc, ◌+◌, ◌-◌, ◌*◌, List, [], ◌∷◌, length, Some, refl, sym, ap, subst, ◌∙◌, arith}
-use Rattle.std.specs.Prelude.{slice_get}
+use Rattle.std.specs.Prelude.{⊤, slice_get}
 use Rattle.std.proofs.lemmas.Option.{none-some}
 use Rattle.pv_word.specs.declared.types.Ty.{Ty}
 use Rattle.pv_word.specs.declared.types.Ty.TheVariants.{Byte}
@@ -8,7 +9,7 @@ use Rattle.pv_word.specs.Types.{InRange}
 use Rattle.pv_types.specs.Tree.{TypeTree, plain, array, structure, named, unread}
 use Rattle.pv_mean.specs.Layout.{Laid, size_in, entry_size}
 use Rattle.pv_mean.specs.Sources.{Source}
-use Rattle.pv_mean.specs.Frames.{Frame, visible_value, brief_value}
+use Rattle.pv_mean.specs.Frames.{Frame, visible_len, visible_value, brief_value}
 use Rattle.pv_mean.specs.Spots.{visible, brief, bit, bytes, fixed, nowhere}
 use Rattle.pv_mean.specs.Activations.{Activation, spot_by, spot_of}
 use Rattle.pv_flow.specs.Terms.{Valuation}
@@ -19,9 +20,10 @@ use Rattle.pv_access.specs.declared.access.Storage.TheVariants.{Cell, Brief}
 use Rattle.pv_access.specs.Accesses.{Move}
 use Rattle.pv_access.specs.Correct.{AreInside, moved_by, moved, IsTold, AreBytes, Shows, through}
 use Rattle.pv_lower.specs.Storages.{Access, cell_where, storage_at}
-use Rattle.pv_laws_types.specs.Typed.{visible_types, SpotHas}
+use Rattle.pv_laws_types.specs.Typed.{visible_types, IsAtWork, CellsLie, SpotHas}
 use Rattle.pv_laws_types.proofs.ForCallers.{read_lies}
-use Rattle.pv_laws_lower.specs.Agrees.{AtWork, spot_in}
+use Rattle.pv_laws_lower.specs.Fit.{IsLaidOut}
+use Rattle.pv_laws_lower.specs.Agrees.{named_count, LieAt, AtWork, spot_in}
 use Rattle.pv_laws_lower.proofs.Rooms.{IsRoom, inside_reach}
 use Rattle.pv_laws_lower.proofs.Regions.{InVariable, AreShared, Lies, IsKept}
 use Rattle.pv_laws_lower.proofs.Roots.{visible_counted, shared_counted}
@@ -42,7 +44,29 @@ variable_on first n k count f low lt on =
     let p = sym (ap f all) ∙ there in
     let q = sym (ap f back) ∙ here in omega (arith, p, q)
 
-module _ (source : Source) (act : Activation) (place : ℕ → ℕ) (frame : Frame) (v : Valuation) (work : AtWork source act place frame v) where
+-- a block at work, with a frame and a valuation that say the same of the visible cells, and of the brief ones where these are asked for
+pub record Sees (asks : Type 0) (source : Source) (act : Activation) (place : ℕ → ℕ) (frame : Frame) (v : Valuation) : Type 0 where
+  pub laid : IsLaidOut source act.block
+  pub work : IsAtWork source act
+  pub lie : LieAt source act place
+  pub cells : CellsLie source act frame
+  pub visible : (n : ℕ) → n < visible_len source.cells → v n ≡ visible_value frame n
+  pub brief : asks → (j : ℕ) → j < named_count source act.block
+      → IsTold (through place v) (brief_variable source act.block j) (brief_value frame j)
+
+pub sees_all : (source : Source) (act : Activation) (place : ℕ → ℕ) (frame : Frame) (v : Valuation) → AtWork source act place frame v
+    → Sees ⊤ source act place frame v
+sees_all source act place frame v work = record {
+  laid = work.laid;
+  work = work.work;
+  lie = work.lie;
+  cells = work.agrees.cells;
+  visible = work.agrees.visible;
+  brief = λ ask j lt. work.agrees.brief j lt;
+}
+
+module _ (asks : Type 0) (source : Source) (act : Activation) (place : ℕ → ℕ) (frame : Frame) (v : Valuation)
+    (work : Sees asks source act place frame v) where
   abbrev w : Valuation
   w = through place v
 
@@ -52,7 +76,7 @@ module _ (source : Source) (act : Activation) (place : ℕ → ℕ) (frame : Fra
   visible_there : (n : ℕ) (ty : Ty) → slice_get (visible_types source) n ≡ Some ty → v n ≡ visible_value frame n
   visible_there n ty is =
       let lt = within_list (visible_types source) n ty is in
-      let e = visible_counted source in work.agrees.visible n (omega (arith, lt, e))
+      let e = visible_counted source in work.visible n (omega (arith, lt, e))
 
   -- ---- cells of the instance
 
@@ -110,7 +134,7 @@ module _ (source : Source) (act : Activation) (place : ℕ → ℕ) (frame : Fra
 
   -- ---- brief cells
 
-  brief_shown : (l : Laid) (ms : List Move) (ty : Ty) (t : TypeTree) → l.ty ≡ t → AreInside w ms → InVariable source act.block l ms
+  brief_shown : (l : Laid) (ms : List Move) (ty : Ty) (t : TypeTree) → l.ty ≡ t → AreInside w ms → InVariable asks source act.block l ms
       → SpotHas source act ty (spot_by brief t (moved_by w ms + l.first))
       → Shows frame w (moved (moved_by w ms) (cell_where Brief t (brief_variable source act.block l.first)))
       (spot_by brief t (moved_by w ms + l.first))
@@ -123,7 +147,7 @@ module _ (source : Source) (act : Activation) (place : ℕ → ℕ) (frame : Fra
       let within = room.variable.within in
       subst (λ (n : ℕ). IsTold w n (brief_value frame (k + l.first)))
       (variable_on room.first l.first k room.count (brief_variable source act.block) low (omega (arith, a, b, c, low)) room.variable.follows)
-      (work.agrees.brief (k + l.first) (omega (arith, a, b, c, within)))
+      (work.brief room.asked (k + l.first) (omega (arith, a, b, c, within)))
   brief_shown l ms ty (array low high of p) is inside room has = absurd has
   brief_shown l ms ty (structure vars) is inside room has = absurd has
   brief_shown l ms ty (named name p) is inside room has = absurd has
@@ -142,12 +166,12 @@ module _ (source : Source) (act : Activation) (place : ℕ → ℕ) (frame : Fra
       let e = ap v (shared_place n k (omega (arith, low)) (omega (arith, within, all, counted))) ∙ visible_there (n + k) Byte here.1 in (
         e,
         subst (InRange Byte) (sym e)
-            (read_lies source act frame work.agrees.cells Byte (visible (n + k)) (record { file = 0; offset = 0 }) (visible_value frame (n + k)) here.1 refl),
+            (read_lies source act frame work.cells Byte (visible (n + k)) (record { file = 0; offset = 0 }) (visible_value frame (n + k)) here.1 refl),
       )
 
   -- ---- all of them
 
-  shown_at : (o : Origin) (ms : List Move) (ty : Ty) → AreInside w ms → Lies source act.block o ms
+  shown_at : (o : Origin) (ms : List Move) (ty : Ty) → AreInside w ms → Lies asks source act.block o ms
       → SpotHas source act ty (spot_of (begins_further (moved_by w ms) (origin_at act.first o)))
       → Shows frame w (moved (moved_by w ms) (storage_at source act.block o)) (spot_of (begins_further (moved_by w ms) (origin_at act.first o)))
   shown_at (in_instance l) ms ty inside lies has = instance_shown l ms ty l.ty refl inside lies.0 has
@@ -156,7 +180,7 @@ module _ (source : Source) (act : Activation) (place : ℕ → ℕ) (frame : Fra
   shown_at (at_spot (visible n)) ms ty inside lies has = absurd lies
   shown_at (at_spot (brief own j)) ms ty inside lies has =
       subst (λ (n : ℕ). IsTold w n (brief_value frame j))
-      (still (brief_variable source act.block j) (moved_by w ms) (ap (moved_by w) lies.0)) (work.agrees.brief j lies.1)
+      (still (brief_variable source act.block j) (moved_by w ms) (ap (moved_by w) lies.0)) (work.brief lies.2 j lies.1)
     where
       still : (n k : ℕ) → k ≡ 0 → n ≡ n + k * 2
       still n k e = omega (arith, e)
@@ -165,6 +189,6 @@ module _ (source : Source) (act : Activation) (place : ℕ → ℕ) (frame : Fra
   shown_at (at_spot (fixed x)) ms ty inside lies has = refl
   shown_at (at_spot nowhere) ms ty inside lies has = absurd has
 
-  pub shown : (a : Access) (ty : Ty) → IsKept source act.block w a → SpotHas source act ty (spot_in w act.first a)
+  pub shown : (a : Access) (ty : Ty) → IsKept asks source act.block w a → SpotHas source act ty (spot_in w act.first a)
       → Shows frame w (moved (moved_by w a.moves) (storage_at source act.block a.origin)) (spot_in w act.first a)
   shown a ty kept has = shown_at a.origin a.moves ty kept.inside kept.lies has

@@ -1,6 +1,6 @@
 -- Writing what an operand names: setting what an assignment to it sets is writing its spot, and frame and valuation agree behind it.
 use Rattle.std.proofs.Common.{◌≡◌, ◌⊎◌, inl, inr, ◌≤◌, ◌<◌, ℕ, zero, suc, ◌+◌, ◌*◌, ◌/◌, ◌%◌, ◌^◌, ℤ, pos, List, [], ◌∷◌, Bool as Truth, true, false, Some, refl, sym, ap, subst, ◌∙◌, arith}
-use Rattle.std.specs.Prelude.{slice_get, if◌then◌else◌}
+use Rattle.std.specs.Prelude.{⊤, slice_get, if◌then◌else◌}
 use Rattle.pv_word.specs.declared.types.Ty.{Ty}
 use Rattle.pv_word.specs.declared.types.Ty.TheVariants.{Bool, Byte}
 use Rattle.pv_word.specs.Types.{InRange, width_of, pattern_of}
@@ -24,11 +24,11 @@ use Rattle.pv_access.specs.Correct as access
 use Rattle.pv_access.specs.Correct.{AreInside, moved_by, moved, span, AreNested, AreApart, CanTake, CanChoose, written, through, WritesHold, ChoicesHold}
 use Rattle.pv_lower.specs.Storages.{Access, cell_where, storage_at}
 use Rattle.pv_laws_types.specs.Typed.{visible_types, brief_types, SpotHas}
-use Rattle.pv_laws_lower.specs.Agrees.{named_count, IsBrief, Agrees, AtWork, spot_in}
+use Rattle.pv_laws_lower.specs.Agrees.{named_count, IsBrief, Agrees, HasBriefCells, AtWork, spot_in}
 use Rattle.pv_laws_lower.proofs.Rooms.{IsRoom, StrideOver, reach, inside_reach}
 use Rattle.pv_laws_lower.proofs.Regions.{InVariable, AreShared, Lies, IsKept}
 use Rattle.pv_laws_lower.proofs.Roots.{visible_counted, shared_counted}
-use Rattle.pv_laws_lower.proofs.Shown.{within_list, shared_place, bytes_shown, variable_on}
+use Rattle.pv_laws_lower.proofs.Shown.{Sees, sees_all, within_list, shared_place, bytes_shown, variable_on}
 use Rattle.pv_laws_lower.proofs.Putting.{agrees_same, visible_put, brief_put, bit_fits, byte_fits}
 
 -- ---- elements don't overlap
@@ -45,12 +45,15 @@ nested size [] le h = tt
 nested size (m ∷ ms) le h = (let a = h.0 in let b = span_is ms in omega (arith, a, b, le), nested size ms le h.1)
 
 module _ (source : Source) (act : Activation) (place : ℕ → ℕ) (frame : Frame) (v : Valuation) (work : AtWork source act place frame v)
-    (cells : BriefCellsAreApart) where
+    (full : HasBriefCells source act frame) (cells : BriefCellsAreApart) where
   abbrev w : Valuation
   w = through place v
 
   abbrev entry : ℕ
   entry = entry_size source.project source.entry
+
+  seen : Sees ⊤ source act place frame v
+  seen = sees_all source act place frame v work
 
   abbrev After : Frame → Valuation → Type 0
   After f u = Agrees source act place f u
@@ -109,7 +112,7 @@ module _ (source : Source) (act : Activation) (place : ℕ → ℕ) (frame : Fra
       let c = ap (size_in source.project) is in (
         (nested (size_in source.project l.ty) ms (omega (arith, c)) room.strides, apart),
         put_there (table_variable source act.block l.first + k) (k + l.first) ty x
-            (shared_place source act place frame v work l.first k room.low (omega (arith, a, b, c)) ∙ swap l.first k) has lies frame v work.agrees,
+            (shared_place ⊤ source act place frame v seen l.first k room.low (omega (arith, a, b, c)) ∙ swap l.first k) has lies frame v work.agrees,
       )
     where
       swap : (n k : ℕ) → n + k ≡ k + n
@@ -120,8 +123,8 @@ module _ (source : Source) (act : Activation) (place : ℕ → ℕ) (frame : Fra
           let b = room.high in
           let c = ap (size_in source.project) is in
           let s = span_is ms in
-          let p = shared_place source act place frame v work l.first i room.low (omega (arith, b, c, s, li)) in
-          let q = shared_place source act place frame v work l.first j room.low (omega (arith, b, c, s, lj)) in omega (arith, e, p, q)
+          let p = shared_place ⊤ source act place frame v seen l.first i room.low (omega (arith, b, c, s, li)) in
+          let q = shared_place ⊤ source act place frame v seen l.first j room.low (omega (arith, b, c, s, lj)) in omega (arith, e, p, q)
   table_written l ms ty (array low high of p) x is inside room lies has = absurd has
   table_written l ms ty (structure vars) x is inside room lies has = absurd has
   table_written l ms ty (named name p) x is inside room lies has = absurd has
@@ -137,7 +140,7 @@ module _ (source : Source) (act : Activation) (place : ℕ → ℕ) (frame : Fra
       by (suc r) e = inr (omega (arith, e))
 
   brief_written : (l : Laid) (ms : List Move) (ty : Ty) (t : TypeTree) (x : ℤ) → l.ty ≡ t → AreInside w ms
-      → InVariable source act.block l ms → InRange ty x
+      → InVariable ⊤ source act.block l ms → InRange ty x
       → SpotHas source act ty (spot_by brief t (moved_by w ms + l.first))
       → CanTake place (cell_where Brief t (brief_variable source act.block l.first)) ms x
       × After (write_spot source frame (spot_by brief t (moved_by w ms + l.first)) x)
@@ -152,7 +155,7 @@ module _ (source : Source) (act : Activation) (place : ℕ → ℕ) (frame : Fra
         (nested (size_in source.project l.ty) ms (omega (arith, c)) room.room.strides, apart),
         subst (λ (n : ℕ). After (write_spot source frame (brief own (k + l.first)) x) (put (put v (place n) x) (place (suc n)) (pos 1)))
             (on k (omega (arith, a, b, c, low)))
-            (brief_put source act place work.lie cells frame v (k + l.first) own x (omega (arith, a, b, c, within))
+            (brief_put source act place work.lie cells frame v (k + l.first) own x full (omega (arith, a, b, c, within))
             (subst (λ (s : Ty). slice_get (brief_types source act) (k + l.first) ≡ Some s) (sym has.0) has.1)
             (subst (λ (s : Ty). InRange s x) (sym has.0) lies) work.agrees),
       )
@@ -203,7 +206,7 @@ module _ (source : Source) (act : Activation) (place : ℕ → ℕ) (frame : Fra
       let within = within_list (visible_types source) (n + k) Byte here.1 in
       let all = visible_counted source in
       let counted = shared_counted source (omega (arith, first, within, all)) in
-      (shared_place source act place frame v work n k (omega (arith, first)) (omega (arith, within, all, counted)), here.1)
+      (shared_place ⊤ source act place frame v seen n k (omega (arith, first)) (omega (arith, within, all, counted)), here.1)
 
   small_byte : (m : ℕ) → m % 256 < 256
   small_byte m = omega arith
@@ -272,7 +275,7 @@ module _ (source : Source) (act : Activation) (place : ℕ → ℕ) (frame : Fra
     ),
     subst (λ (n : ℕ). After (write_spot source frame (brief own j) x) (put (put v (place n) x) (place (suc n)) (pos 1)))
         (none_more (brief_variable source act.block j))
-        (brief_put source act place work.lie cells frame v j own x within has range work.agrees),
+        (brief_put source act place work.lie cells frame v j own x full within has range work.agrees),
   )
     where
       none_more : (n : ℕ) → n ≡ n + 0 * 2
@@ -284,7 +287,7 @@ module _ (source : Source) (act : Activation) (place : ℕ → ℕ) (frame : Fra
 
   -- ---- all of them
 
-  written_at : (o : Origin) (ms : List Move) (ty : Ty) (x : ℤ) → AreInside w ms → Lies source act.block o ms → InRange ty x
+  written_at : (o : Origin) (ms : List Move) (ty : Ty) (x : ℤ) → AreInside w ms → Lies ⊤ source act.block o ms → InRange ty x
       → SpotHas source act ty (spot_of (begins_further (moved_by w ms) (origin_at act.first o)))
       → CanTake place (storage_at source act.block o) ms x
       × After (write_spot source frame (spot_of (begins_further (moved_by w ms) (origin_at act.first o))) x)
@@ -308,7 +311,7 @@ module _ (source : Source) (act : Activation) (place : ℕ → ℕ) (frame : Fra
   no_bool_bytes : (count : ℕ) → 8 * count ≡ 1 → ⊥
   no_bool_bytes count e = omega (arith, e)
 
-  can_choose : (o : Origin) (ms : List Move) → Lies source act.block o ms
+  can_choose : (o : Origin) (ms : List Move) → Lies ⊤ source act.block o ms
       → SpotHas source act Bool (spot_of (begins_further (moved_by w ms) (origin_at act.first o)))
       → CanChoose place v (storage_at source act.block o)
   can_choose (in_instance l) ms lies has = any_cell l.ty l.first
@@ -338,7 +341,7 @@ module _ (source : Source) (act : Activation) (place : ℕ → ℕ) (frame : Fra
   can_choose (at_spot (visible n)) ms lies has = absurd lies
   can_choose (at_spot (brief own j)) ms lies has = tt
   can_choose (at_spot (bit n b)) ms lies has =
-      let shown = bytes_shown source act place frame v work n 1 lies.1 0 (omega arith) in
+      let shown = bytes_shown ⊤ source act place frame v seen n 1 lies.1 0 (omega arith) in
       subst (λ (k : ℕ). InRange Byte (v (place k))) (none_more (table_variable source act.block n)) shown.1
     where
       none_more : (m : ℕ) → m + 0 ≡ m
@@ -353,7 +356,7 @@ module _ (source : Source) (act : Activation) (place : ℕ → ℕ) (frame : Fra
   abbrev sets : Access → Writing → Valuation
   sets a writing = set_through place w (write_sets (storage_at source act.block a.origin) a.moves writing) v
 
-  pub access_written : WritesHold → (a : Access) (ty : Ty) (t : Term) → IsKept source act.block w a → InRange ty (value_of w t)
+  pub access_written : WritesHold → (a : Access) (ty : Ty) (t : Term) → IsKept ⊤ source act.block w a → InRange ty (value_of w t)
       → SpotHas source act ty (spot_in w act.first a)
       → After (write_spot source frame (spot_in w act.first a) (value_of w t)) (sets a (assigning t))
   access_written hold a ty t kept range has =
@@ -362,7 +365,7 @@ module _ (source : Source) (act : Activation) (place : ℕ → ℕ) (frame : Fra
       (written place v (moved (moved_by w a.moves) (storage_at source act.block a.origin)) (value_of w t)) (sets a (assigning t))
       (λ n. hold place v (storage_at source act.block a.origin) a.moves t n kept.inside b.0) b.1
 
-  pub access_chosen : ChoicesHold → (a : Access) (on t : Term) → IsKept source act.block w a → InRange Bool (value_of w t)
+  pub access_chosen : ChoicesHold → (a : Access) (on t : Term) → IsKept ⊤ source act.block w a → InRange Bool (value_of w t)
       → SpotHas source act Bool (spot_in w act.first a)
       → After (if holds_in w on then write_spot source frame (spot_in w act.first a) (value_of w t) else frame) (sets a (choosing on t))
   access_chosen hold a on t kept range has = by (holds_in w on) (λ n. hold place v (storage_at source act.block a.origin) a.moves on t n

@@ -48,7 +48,10 @@ pub record Agrees (source : Source) (act : Activation) (place : ℕ → ℕ) (fr
   -- one with a value is that value, and its 'set' is 1; the 'set' of one without is 0
   pub brief : (j : ℕ) → j < named_count source act.block
       → IsTold (through place w) (brief_variable source act.block j) (brief_value frame j)
-  pub brief_len : named_count source act.block ≤ length frame.brief
+
+-- the frame has these brief cells, so that a write finds its own there
+abbrev pub HasBriefCells : Source → Activation → Frame → Type 0
+HasBriefCells source act frame = named_count source act.block ≤ length frame.brief
 
 -- a block at work, with a frame and a valuation that agree
 pub record AtWork (source : Source) (act : Activation) (place : ℕ → ℕ) (frame : Frame) (w : Valuation) : Type 0 where

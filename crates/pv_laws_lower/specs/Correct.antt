@@ -1,5 +1,5 @@
 -- What is so of expressions and operands as terms: the statements of the laws.
-use Rattle.std.specs.Prelude.{◌≡◌, ◌≢◌, ℕ, ℤ, List, length, true, if◌then◌else◌, None, Contains}
+use Rattle.std.specs.Prelude.{◌≡◌, ◌≢◌, ℕ, ℤ, List, length, true, if◌then◌else◌, Some, None, Contains}
 use Rattle.std.specs.List.{AllByRecursion}
 use Rattle.pv_word.specs.declared.types.Ty.{Ty}
 use Rattle.pv_word.specs.declared.types.Ty.TheVariants.{Bool}
@@ -8,8 +8,9 @@ use Rattle.pv_place.specs.declared.place.Place.{Place}
 use Rattle.pv_tree.specs.Tree.{ExprTree, OperandTree, InstrTree, StmtTrees, BlockTree}
 use Rattle.pv_tree.specs.Callees.{CallSite}
 use Rattle.pv_tree.specs.LiteralTypes.{Want, nothing, this}
-use Rattle.pv_tree.specs.Sorts.{widens}
-use Rattle.pv_tree.specs.Parts.{parts_of, reads_of_parts, parts_of_block, operands_of}
+use Rattle.pv_tree.specs.Sorts.{own_type, widens}
+use Rattle.pv_tree.specs.Types.{sort_of_operand}
+use Rattle.pv_tree.specs.Parts.{Part, parts_of, reads_of_parts, parts_of_block, operands_of}
 use Rattle.pv_tree.specs.Rules.{KeepsRules, Rule, BreaksInPattern}
 use Rattle.pv_mean.specs.AreaBytes.{bytes_of}
 use Rattle.pv_mean.specs.Sources.{Source}
@@ -32,7 +33,7 @@ use Rattle.pv_access.specs.Correct.{through}
 use Rattle.pv_lower.specs.Storages.{Access, storage_at}
 use Rattle.pv_lower.specs.Lowered.{scope_of, lowered, lowered_as, accessed, read_at}
 use Rattle.pv_laws_lower.specs.Fit.{IsWide, IsAddressed, IsLaidOut, ArePartsFit, IsFit, IsFitOperand}
-use Rattle.pv_laws_lower.specs.Agrees.{LieAt, Agrees, AtWork, outcome, spot_found}
+use Rattle.pv_laws_lower.specs.Agrees.{LieAt, Agrees, HasBriefCells, AtWork, outcome, spot_found}
 
 -- the entered block's variables lie at their own places
 abbrev pub EntryLies : Type 0
@@ -72,24 +73,27 @@ abbrev pub sets_of : Source → BlockTree → OperandTree → Writing → List S
 sets_of source block o writing =
     write_sets (storage_at source block (access_of source block o).origin) (access_of source block o).moves writing
 
--- Writes: setting what an assignment to the operand sets is writing its spot: frame and valuation agree behind it
+-- Writes: setting what an assignment to the operand sets is writing its spot: frame and valuation agree behind it, and the frame has its brief
+-- cells still
 abbrev pub SpotsAreWritten : Type 0
 SpotsAreWritten = (source : Source) (act : Activation) (place : ℕ → ℕ) (frame : Frame) (w : Valuation) (o : OperandTree) (ty : Ty) (spot : Spot)
     (t : Term)
-    → AtWork source act place frame w → IsFitOperand source act.block o ty → locate source act frame o ≡ got spot
+    → AtWork source act place frame w → HasBriefCells source act frame → IsFitOperand source act.block o ty → locate source act frame o ≡ got spot
     → InRange ty (value_of (through place w) t)
     → Agrees source act place (write_spot source frame spot (value_of (through place w) t))
     (set_through place (through place w) (sets_of source act.block o (assigning t)) w)
+    × HasBriefCells source act (write_spot source frame spot (value_of (through place w) t))
 
 -- and so it is of a BOOL that is written where a condition is true
 abbrev pub SpotsAreWrittenWhere : Type 0
 SpotsAreWrittenWhere = (source : Source) (act : Activation) (place : ℕ → ℕ) (frame : Frame) (w : Valuation) (o : OperandTree) (spot : Spot)
     (on t : Term)
-    → AtWork source act place frame w → IsFitOperand source act.block o Bool → locate source act frame o ≡ got spot
+    → AtWork source act place frame w → HasBriefCells source act frame → IsFitOperand source act.block o Bool → locate source act frame o ≡ got spot
     → InRange Bool (value_of (through place w) t)
     → Agrees source act place
     (if holds_in (through place w) on then write_spot source frame spot (value_of (through place w) t) else frame)
     (set_through place (through place w) (sets_of source act.block o (choosing on t)) w)
+    × HasBriefCells source act (if holds_in (through place w) on then write_spot source frame spot (value_of (through place w) t) else frame)
 
 -- ---- 'set'
 
@@ -140,3 +144,13 @@ PatternsAreFit = (source : Source) (patterns : List OperandTree) (block : BlockT
     → ((o : OperandTree) → Contains (reads_of_parts (parts_of (scope_of source block) nothing e)) o → Contains patterns o)
     → AllByRecursion IsWide (reads_of_parts (parts_of (scope_of source block) nothing e))
     → ArePartsFit source (parts_of (scope_of source block) nothing e)
+
+-- each expression of a block whose parts all fit is such by itself, with a type by what is wanted of it; and so is each operand of the block
+-- that has a type
+pub record EachIsFit : Type 0 where
+  pub part : (source : Source) (block : BlockTree) (p : Part) → KeepsRules source.project → Contains source.project.blocks block
+      → ArePartsFit source (parts_of_block source.project block) → Contains (parts_of_block source.project block) p
+      → (ty : Ty) × IsFit source block p.want p.expr ty
+  pub operand : (source : Source) (block : BlockTree) (o : OperandTree) (ty : Ty) → ArePartsFit source (parts_of_block source.project block)
+      → AllByRecursion (IsAddressed source.bytes) (operands_of source.project block) → Contains (operands_of source.project block) o
+      → own_type (sort_of_operand (scope_of source block) o) ≡ Some ty → IsFitOperand source block o ty

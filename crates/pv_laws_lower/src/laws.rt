@@ -3,12 +3,15 @@
 ghost use Rattle.pv_laws_lower.specs.Below.{TermLaws, BelowLaws};
 ghost use Rattle.pv_laws_lower.specs.Correct.{ValuesHold, AssignedHold, PlacesHold, SpotsAreRead, SpotsAreWritten};
 ghost use Rattle.pv_laws_lower.specs.Correct.{EntryLies, SpotsAreWrittenWhere, ValuesStay, ValuesStayInRuns};
-ghost use Rattle.pv_laws_lower.specs.Correct.{ChecksAreCounted, BlocksAreFit, PatternsAreFit};
+ghost use Rattle.pv_laws_lower.specs.Correct.{BlocksAreFit, ChecksAreCounted, EachIsFit, PatternsAreFit};
+ghost use Rattle.pv_laws_lower.specs.Patterns.{PatternsHold, SaidAreFit, ScansAreSeen, WidthsAreShort};
 
 use pv_access::laws::{choices_hold, reads_hold, writes_hold};
-use pv_mean::laws::tables_are_laid_out;
+use pv_laws_spelled::laws::spelled_addresses_are_short;
+use pv_laws_types::laws::entered_blocks_are_at_work;
+use pv_mean::laws::{scans_keep_the_ranges, tables_are_laid_out};
 use pv_terms::laws::{binaries_hold, conversions_hold, functions_hold, indexes_hold, unaries_hold};
-use pv_tree::parts_of_typed_expressions_have_types;
+use pv_tree::{expressions_have_types, parts_of_typed_expressions_have_types};
 use pv_variables::laws::{
     bound_are_counted, brief_cells_are_apart, elements_are_placed, fields_are_placed,
     names_are_placed,
@@ -113,7 +116,44 @@ pub fn blocks_are_fit()
     ensures { BlocksAreFit }
 {}
 
+/// Each of them fits by itself, with a type by what is wanted of it, and so does each operand that has a type.
+pub fn each_is_fit()
+    ensures { EachIsFit }
+{
+    expressions_have_types();
+}
+
 /// And so does a pattern that breaks no rule.
 pub fn patterns_are_fit()
     ensures { PatternsAreFit }
+{}
+
+/// An expression that reads no brief cell has, by visible cells alone, the value of its term; where it breaks no rule on patterns it makes no
+/// check, so that it never traps.
+pub fn patterns_hold()
+    ensures { PatternsHold }
+{
+    laws_below_hold();
+    entered_blocks_are_at_work();
+    entry_lies();
+    checks_are_counted();
+}
+
+/// A valuation whose first variables are the visible cells of a scan's beginning, or of its end, has them in their types.
+pub fn scans_are_seen()
+    ensures { ScansAreSeen }
+{
+    scans_keep_the_ranges();
+}
+
+/// What a pattern's text says fits, where each byte that the texts name has a cell.
+pub fn said_are_fit()
+    ensures { SaidAreFit }
+{
+    spelled_addresses_are_short();
+}
+
+/// An address is as wide as its type exactly where it is one of a bit, a byte, a word or a double word.
+pub fn widths_are_short()
+    ensures { WidthsAreShort }
 {}
