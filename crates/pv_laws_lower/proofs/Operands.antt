@@ -562,12 +562,12 @@ module _ (laws : BelowLaws) (asks : Type 0) (source : Source) (act : Activation)
       spots_are_read laws asks source act place frame v work (symbols_lie laws asks source act.block work.laid)
       (addresses_lie laws asks source act.block work.laid (block_known source.project work.laid.rules act.block work.work.block)) o ty spot at fit asked e
 
-  abbrev Named : OperandTree → Ty → Spot → Type 0
-  Named o ty spot = IsNamed laws asks source act place frame v work (symbols_lie laws asks source act.block work.laid)
+  abbrev NamedThere : OperandTree → Ty → Spot → Type 0
+  NamedThere o ty spot = IsNamed laws asks source act place frame v work (symbols_lie laws asks source act.block work.laid)
       (addresses_lie laws asks source act.block work.laid (block_known source.project work.laid.rules act.block work.work.block)) o ty spot
 
   named_seen : (o : OperandTree) (ty : Ty) (spot : Spot) → IsFitOperand source act.block o ty → MayAsk o → locate source act frame o ≡ got spot
-      → Named o ty spot
+      → NamedThere o ty spot
   named_seen o ty spot fit asked e =
       is_named laws asks source act place frame v work (symbols_lie laws asks source act.block work.laid)
       (addresses_lie laws asks source act.block work.laid (block_known source.project work.laid.rules act.block work.work.block)) o ty spot fit asked e
