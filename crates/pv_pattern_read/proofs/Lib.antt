@@ -8,3 +8,6 @@ mod Spotted
 mod Walks
 mod TextLaws
 mod NamingLaws
+mod Spots
+mod Terms
+mod Wanted
