@@ -28,7 +28,7 @@ use Rattle.pv_mean.specs.Endings.{Tried, got}
 use Rattle.pv_mean.specs.Values.{locate}
 use Rattle.pv_mean.specs.Spots.{Spot}
 use Rattle.pv_mean.specs.Activations.{scope_in}
-use Rattle.pv_place.specs.declared.trap.Trap.{Trap}
+use Rattle.pv_eval.specs.declared.trap.Trap.{Trap}
 use Rattle.pv_eval.specs.Traps.{located}
 use Rattle.pv_eval.specs.Means.{activation}
 use Rattle.pv_resolve.specs.declared.context.Context.{Context}

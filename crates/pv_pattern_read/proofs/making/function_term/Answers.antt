@@ -67,23 +67,23 @@ returns-in-Shr c = λ source place args type_is h.
 pub of_one-requires : goal.of_one-requires
 of_one-requires c = c.requires ∙ ap arity c.in-Convert.is
 
-pub of_one-in-Abs-requires : goal.of_one-in-Abs-requires
-of_one-in-Abs-requires c = c.requires ∙ ap arity c.in-Abs.is
+pub of_one-requires-in-Abs : goal.of_one-requires-in-Abs
+of_one-requires-in-Abs c = c.requires ∙ ap arity c.in-Abs.is
 
 pub of_two-requires : goal.of_two-requires
 of_two-requires c = c.requires ∙ ap arity c.in-Min.is
 
-pub of_two-in-Max-requires : goal.of_two-in-Max-requires
-of_two-in-Max-requires c = c.requires ∙ ap arity c.in-Max.is
+pub of_two-requires-in-Max : goal.of_two-requires-in-Max
+of_two-requires-in-Max c = c.requires ∙ ap arity c.in-Max.is
 
 pub of_three-requires : goal.of_three-requires
 of_three-requires c = c.requires ∙ ap arity c.in-Limit.is
 
-pub of_three-in-Sel-requires : goal.of_three-in-Sel-requires
-of_three-in-Sel-requires c = c.requires ∙ ap arity c.in-Sel.is
+pub of_three-requires-in-Sel : goal.of_three-requires-in-Sel
+of_three-requires-in-Sel c = c.requires ∙ ap arity c.in-Sel.is
 
-pub of_two-in-Shl-requires : goal.of_two-in-Shl-requires
-of_two-in-Shl-requires c = c.requires ∙ ap arity c.in-Shl.is
+pub of_two-requires-in-Shl : goal.of_two-requires-in-Shl
+of_two-requires-in-Shl c = c.requires ∙ ap arity c.in-Shl.is
 
-pub of_two-in-Shr-requires : goal.of_two-in-Shr-requires
-of_two-in-Shr-requires c = c.requires ∙ ap arity c.in-Shr.is
+pub of_two-requires-in-Shr : goal.of_two-requires-in-Shr
+of_two-requires-in-Shr c = c.requires ∙ ap arity c.in-Shr.is

@@ -12,8 +12,8 @@ returns-in-Invariant c = λ con all h.
     let t = c.only.result in
     of_terms con c.args.kind kind.Invariant c.args.terms.items (t ∷ []) all _ c.in-Invariant.is c.only.ensures (found_invariant con t all) h
 
-pub only-in-Forbidden-requires : goal.only-in-Forbidden-requires
-only-in-Forbidden-requires c = c.requires ∙ ap count_of c.in-Forbidden.is
+pub only-requires-in-Forbidden : goal.only-requires-in-Forbidden
+only-requires-in-Forbidden c = c.requires ∙ ap count_of c.in-Forbidden.is
 
 pub returns-in-Forbidden : goal.returns-in-Forbidden
 returns-in-Forbidden c = λ con all h.
@@ -30,8 +30,8 @@ returns-in-Implication c = λ con all h.
     of_terms con c.args.kind kind.Implication c.args.terms.items (s ∷ t ∷ []) all _ c.in-Implication.is c.pair.ensures
     (found_implication con s t all) h
 
-pub pair-in-Within-requires : goal.pair-in-Within-requires
-pair-in-Within-requires c = c.requires ∙ ap count_of c.in-Within.is
+pub pair-requires-in-Within : goal.pair-requires-in-Within
+pair-requires-in-Within c = c.requires ∙ ap count_of c.in-Within.is
 
 pub returns-in-Within : goal.returns-in-Within
 returns-in-Within c = λ con all h.
@@ -50,8 +50,8 @@ returns-in-Between c = λ con all h.
     of_terms con c.args.kind kind.Between c.args.terms.items (r ∷ s ∷ t ∷ []) all _ c.in-Between.is c.triple.ensures
     (found_between con r s t all) h
 
-pub only-in-Reach-requires : goal.only-in-Reach-requires
-only-in-Reach-requires c = c.requires ∙ ap count_of c.in-Reach.is
+pub only-requires-in-Reach : goal.only-requires-in-Reach
+only-requires-in-Reach c = c.requires ∙ ap count_of c.in-Reach.is
 
 pub returns-in-Reach : goal.returns-in-Reach
 returns-in-Reach c = λ con all h.

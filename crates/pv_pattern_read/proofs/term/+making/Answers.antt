@@ -49,8 +49,8 @@ returns-in_ok-ty-in-Unary t c = λ source is entered.
     (type_in c.args.context.now source (expr_tree c.args.e.now) _ c.in_ok-ty-in-Unary.ty is entered seen c.in_ok-ty-in-Unary.ensures)
     (c.in_ok-term-in-Unary.ensures source is entered))
 
-pub term_of-in-Binary-requires : goal.term_of-in-Binary-requires
-term_of-in-Binary-requires t c =
+pub term_of-requires-in-Binary : goal.term_of-requires-in-Binary
+term_of-requires-in-Binary t c =
     let l = c.deref-in-Binary.result.now in (
       search rules,
       at_left c.args.context.now (expr_tree c.args.e.now) (expr_tree l) _ c.in-Binary.op c.in-Binary.place
@@ -58,8 +58,8 @@ term_of-in-Binary-requires t c =
           c.requires,
     )
 
-pub term_of-in-Binary-2-requires : goal.term_of-in-Binary-2-requires
-term_of-in-Binary-2-requires t c =
+pub term_of-requires-in-Binary-2 : goal.term_of-requires-in-Binary-2
+term_of-requires-in-Binary-2 t c =
     let l = c.deref-in-Binary.result.now in
     let r = c.deref-in-Binary-2.result.now in (
       search rules,
@@ -87,8 +87,8 @@ returns-in_ok-ty-in-Binary t c = λ source is entered.
     (type_in c.args.context.now source (expr_tree c.args.e.now) _ c.in_ok-ty-in-Binary.ty is entered seen c.in_ok-ty-in-Binary.ensures)
     (c.in_ok-first-in-Binary.ensures source is entered) (c.in_ok-second-in-Binary.ensures source is entered))
 
-pub term_of-in-Std-requires : goal.term_of-in-Std-requires
-term_of-in-Std-requires t c =
+pub term_of-requires-in-Std : goal.term_of-requires-in-Std
+term_of-requires-in-Std t c =
     let items = c.deref-arg-items.result.now in (
       search rules,
       at_arg c.args.context.now (expr_tree c.args.e.now) c.in-Std.function c.in-Std.place items c.loop-arg.arg-index c.arg-item.result
@@ -122,8 +122,8 @@ returns-in_ok-ty-in-Std t c = λ source is entered.
     (type_in c.args.context.now source (expr_tree c.args.e.now) _ c.in_ok-ty-in-Std.ty is entered seen c.in_ok-ty-in-Std.ensures)
     (terms_all c.args.context.now c.loop-arg.terms.items items c.loop-arg.arg-index (omega arith) c.loop-arg.invariant source is entered))
 
-pub term_of-in-Paren-requires : goal.term_of-in-Paren-requires
-term_of-in-Paren-requires t c = (
+pub term_of-requires-in-Paren : goal.term_of-requires-in-Paren
+term_of-requires-in-Paren t c = (
   search rules,
   at_paren c.args.context.now (expr_tree c.args.e.now) (expr_tree c.deref-in-Paren.result.now) c.in-Paren.field-0
       (paren_seen c.args.e.now c.in-Paren.field-0 c.in-Paren.inner c.deref-in-Paren.result.now c.in-Paren.is c.deref-in-Paren.ensures) c.requires,
