@@ -10,4 +10,5 @@ mod TextLaws
 mod NamingLaws
 mod Spots
 mod Terms
+mod Deep
 mod Wanted

@@ -93,7 +93,7 @@ at_right c e left right op place is h = record {
 -- before the right operand is looked at
 pub binary_left : (e : Expr) (op : BinaryOp) (place : Place) (left right : _) (l : Expr) → e ≡ form.Binary op place left right → l ≡ left.value
     → expr_tree e ≡ binary op place (expr_tree l) (expr_tree right.value)
-binary_left e op place left right l is here = binary_seen e op place left right l right.value is here refl
+binary_left e op place left right l is boxed = binary_seen e op place left right l right.value is boxed refl
 
 arg_of : (source : Source) (items : List Expr) (i : ℕ) (x : Expr) → i < length items → x ≡ get_or items i x
     → HaveTerms source (exprs_of (map expr_tree items)) → HasTerm source (expr_tree x)
