@@ -19,7 +19,7 @@ use Rattle.pv_tree.specs.declared.expr.Root.{Root}
 use Rattle.pv_tree.specs.declared.expr.Root.TheVariants.{Local, Named, Area}
 use Rattle.pv_tree.specs.Tree.{BlockTree, ExprTree, lit, read, unary, binary, std, paren, OperandTree, operand, StepTree, field, index, StepTrees, no_steps, steps}
 use Rattle.pv_tree.specs.LiteralTypes.{Want, nothing}
-use Rattle.pv_tree.specs.Sorts.{Sort, own_type, taken, broken}
+use Rattle.pv_tree.specs.Sorts.{Sort, one_of, own_type, taken, broken, common_type, result_of_unary}
 use Rattle.pv_tree.specs.Scopes.{SymbolTree, Scope, is_const, is_of_instance, is_stl, has_key, value_key, own_value, first_block, first_var, first_symbol, type_named}
 use Rattle.pv_tree.specs.Things.{Thing, part, constant, a_block, no_name, no_array, a_date, untold, first_place, is_date, dated_type, dated, thing_at, last_behind, thing_behind, thing_of, thing_of_root, root_place, no_array_where, element_of_thing, quoted_value, type_of_bits}
 use Rattle.pv_tree.specs.Types.{Written, signed, literal_of, sort_of_written, sort_where, sort_of, sort_of_type, sort_of_thing, is_void, is_index, is_index_type, lies_in, lies_between, sort_of_operand, is_indexed, are_indexed}
@@ -124,7 +124,8 @@ literal_sort : (scope : Scope) (e : ExprTree) (w : Written) → literal_of e ≡
 literal_sort scope (lit ty v place) w is =
     let same : (record { ty = ty; value = v }) ≡ w = cc in ap (λ (x : Written). sort_of_written x.ty x.value) same
 literal_sort scope (read o) w is = absurd (none-some w is)
-literal_sort scope (unary op place arg) w is = ap (λ o. sort_where o _) is
+literal_sort scope (unary op place arg) w is =
+    ap (λ o. sort_where o (one_of (option_and_then (result_of_unary op) (common_type (taken nothing (sort_of scope arg) ∷ []))))) is
 literal_sort scope (binary op place left right) w is = absurd (none-some w is)
 literal_sort scope (std function place args) w is = absurd (none-some w is)
 literal_sort scope (paren place inner) w is = literal_sort scope inner w is
@@ -360,13 +361,13 @@ fine_block source (Some x) other h = fine_if (is_db x.kind) (record { ty = data_
 no_value : (block : BlockTree) (key : List ℕ) (hash : Bool) → block.value ≡ None → own_value block key hash ≡ None
 no_value block key hash none = lead (is_stl block.body) (bytes_eq key value_key) hash (has_key key block.name)
   where
-    lead : (stl named hashed own : Bool)
-        → (if stl then (if named then block.value else None) else (if hashed then None else (if own then block.value else None))) ≡ None
+    lead : (stl keyed hashed own : Bool)
+        → (if stl then (if keyed then block.value else None) else (if hashed then None else (if own then block.value else None))) ≡ None
     lead true true hashed own = none
     lead true false hashed own = refl
-    lead false named true own = refl
-    lead false named false true = none
-    lead false named false false = refl
+    lead false keyed true own = refl
+    lead false keyed false true = none
+    lead false keyed false false = refl
 
 no_quoted : (block : BlockTree) (key : List ℕ) → block.value ≡ None → quoted_value block key ≡ None
 no_quoted block key none = lead (is_stl block.body)
@@ -420,10 +421,10 @@ pub record NamesSpot (source : Source) (frame : Frame) (o : OperandTree) : Type 
   pub named : locate source (entry_activation source) frame o ≡ got spot
   pub readable : IsReadable spot
 
-chosen : (scope : Scope) (want : Want) (b : Bool) (s : Sort) (ty : Ty) → own_type (taken want (if b then s else broken)) ≡ Some ty
+chosen : (around : Scope) (want : Want) (b : Bool) (s : Sort) (ty : Ty) → own_type (taken want (if b then s else broken)) ≡ Some ty
     → (b ≡ true) × (own_type (taken want s) ≡ Some ty)
-chosen scope want true s ty e = (refl, e)
-chosen scope want false s ty e = absurd (none-some ty e)
+chosen around want true s ty e = (refl, e)
+chosen around want false s ty e = absurd (none-some ty e)
 
 pub names_spot : Shows → (source : Source) (frame : Frame) → HasRoom source source.entry → HasTable source → SymbolsSuit source.project
     → IsAtWork source (entry_activation source) → source.entry.value ≡ None → (want : Want) (o : OperandTree) (ty : Ty)

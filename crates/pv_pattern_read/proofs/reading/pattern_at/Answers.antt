@@ -24,8 +24,8 @@ unreachable-requires c =
     (too_many _ h.source.project _ h.source.entry h.sizes (c.block.ensures ∙ h.at)
     (c.context_of.ensures.too_large.0 (c.in-Err.is ∙ ap (λ e. Err e) c.in-Err.ensures.fault)))
 
-pub returns-in-Ok : goal.returns-in-Ok
-returns-in-Ok c = λ source project sized entry bytes.
+pub returns : goal.returns
+returns c = λ source project sized entry bytes.
     in_source c.in-Ok.context source c.args.kind (map string_bytes c.args.texts.now) c.pattern_in.result
     (c.in-Ok.ensures.context source project sized (c.block.ensures ∙ entry) bytes)
     (ap (λ (s : Scope). block_of s.entry.now) c.in-Ok.ensures.scope ∙ entry) c.pattern_in.ensures

@@ -20,34 +20,34 @@ returns-in-Forbidden c = λ con all h.
     let t = c.only-in-Forbidden.result in
     of_terms con c.args.kind kind.Forbidden c.args.terms.items (t ∷ []) all _ c.in-Forbidden.is c.only-in-Forbidden.ensures (found_forbidden con t all) h
 
-pub pair-requires : goal.pair-requires
-pair-requires c = c.requires ∙ ap count_of c.in-Implication.is
+pub pair-a-requires : goal.pair-a-requires
+pair-a-requires c = c.requires ∙ ap count_of c.in-Implication.is
 
 pub returns-in-Implication : goal.returns-in-Implication
 returns-in-Implication c = λ con all h.
-    let s = c.pair.result.0 in
-    let t = c.pair.result.1 in
-    of_terms con c.args.kind kind.Implication c.args.terms.items (s ∷ t ∷ []) all _ c.in-Implication.is c.pair.ensures
+    let s = c.pair-a.result.0 in
+    let t = c.pair-a.result.1 in
+    of_terms con c.args.kind kind.Implication c.args.terms.items (s ∷ t ∷ []) all _ c.in-Implication.is c.pair-a.ensures
     (found_implication con s t all) h
 
-pub pair-requires-in-Within : goal.pair-requires-in-Within
-pair-requires-in-Within c = c.requires ∙ ap count_of c.in-Within.is
+pub pair-a-requires-in-Within : goal.pair-a-requires-in-Within
+pair-a-requires-in-Within c = c.requires ∙ ap count_of c.in-Within.is
 
 pub returns-in-Within : goal.returns-in-Within
 returns-in-Within c = λ con all h.
-    let s = c.pair-in-Within.result.0 in
-    let t = c.pair-in-Within.result.1 in
-    of_terms con c.args.kind kind.Within c.args.terms.items (s ∷ t ∷ []) all _ c.in-Within.is c.pair-in-Within.ensures (found_within con s t all) h
+    let s = c.pair-a-in-Within.result.0 in
+    let t = c.pair-a-in-Within.result.1 in
+    of_terms con c.args.kind kind.Within c.args.terms.items (s ∷ t ∷ []) all _ c.in-Within.is c.pair-a-in-Within.ensures (found_within con s t all) h
 
-pub triple-requires : goal.triple-requires
-triple-requires c = c.requires ∙ ap count_of c.in-Between.is
+pub triple-a-requires : goal.triple-a-requires
+triple-a-requires c = c.requires ∙ ap count_of c.in-Between.is
 
 pub returns-in-Between : goal.returns-in-Between
 returns-in-Between c = λ con all h.
-    let r = c.triple.result.0 in
-    let s = c.triple.result.1 in
-    let t = c.triple.result.2 in
-    of_terms con c.args.kind kind.Between c.args.terms.items (r ∷ s ∷ t ∷ []) all _ c.in-Between.is c.triple.ensures
+    let r = c.triple-a.result.0 in
+    let s = c.triple-a.result.1 in
+    let t = c.triple-a.result.2 in
+    of_terms con c.args.kind kind.Between c.args.terms.items (r ∷ s ∷ t ∷ []) all _ c.in-Between.is c.triple-a.ensures
     (found_between con r s t all) h
 
 pub only-requires-in-Reach : goal.only-requires-in-Reach

@@ -43,8 +43,8 @@ unreachable-requires c =
     let counted = length-map c.entries-2.result.now block_of in
     omega (arith, within, all, counted, c.in-None.ensures.lookup)
 
-pub returns-in-Some : goal.returns-in-Some
-returns-in-Some c = λ source project entry bytes.
+pub returns : goal.returns
+returns c = λ source project entry bytes.
     let made = project-seen (blocks_of c.in_ok-tables.tables) _ (symbols_of c.in_ok-tables.tables) _
     (c.in_ok-tables.ensures.blocks ∙ ap (map block_of) c.as_slice-2.ensures.value ∙ c.in_ok-list.ensures
     ∙ ap (map block_tree) (c.as_slice.ensures.value ∙ ap (λ b. b.list.items) c.blocks-2.ensures))
