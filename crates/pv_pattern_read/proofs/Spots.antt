@@ -1,7 +1,7 @@
 -- In a project that keeps the rules an operand whose indexes are literals, each within its bounds, names a spot; and where it begins
 -- with no brief cell that is one which a term reads.
-use Rattle.std.proofs.Common.{◌≡◌, inl, inr, ℕ, zero, suc, ◌+◌, ◌*◌, ◌<◌, ◌≤◌, ℤ, pos, ◌≤ℤ◌, List, [], ◌∷◌, ◌++◌, Bool, true, false, cond, not, ◌&&◌, Option, Some, None, IsTrue, refl, sym, ap, subst, ◌∙◌, arith}
-use Rattle.std.specs.Prelude.{⊤, ◌⊎◌, ◌^◌, ◌/◌, ◌-ℤ◌, unsigned_abs, int_le, is_some, bytes_eq, if◌then◌else◌, option_and_then, IfSome}
+use Rattle.std.proofs.Common.{◌≡◌, inl, inr, ℕ, ◌+◌, ◌*◌, ◌<◌, ◌≤◌, ℤ, ◌≤ℤ◌, List, [], ◌∷◌, Bool, true, false, cond, ◌&&◌, Option, Some, None, IsTrue, refl, sym, ap, subst, ◌∙◌, arith}
+use Rattle.std.specs.Prelude.{⊤, ◌⊎◌, ◌^◌, ◌-ℤ◌, unsigned_abs, int_le, is_some, bytes_eq, if◌then◌else◌, option_and_then}
 use Rattle.std.specs.List.{AllByRecursion}
 use Rattle.std.proofs.lemmas.Bool.{true≢false, false≢true}
 use Rattle.std.proofs.lemmas.Int.{ints}
@@ -21,20 +21,18 @@ use Rattle.pv_tree.specs.Tree.{BlockTree, ExprTree, lit, read, unary, binary, st
 use Rattle.pv_tree.specs.LiteralTypes.{Want, nothing}
 use Rattle.pv_tree.specs.Sorts.{Sort, one_of, own_type, taken, broken, common_type, result_of_unary}
 use Rattle.pv_tree.specs.Scopes.{SymbolTree, Scope, is_const, is_of_instance, is_stl, has_key, value_key, own_value, first_block, first_var, first_symbol, type_named}
-use Rattle.pv_tree.specs.Things.{Thing, part, constant, a_block, no_name, no_array, a_date, untold, first_place, is_date, dated_type, dated, thing_at, last_behind, thing_behind, thing_of, thing_of_root, root_place, no_array_where, element_of_thing, quoted_value, type_of_bits}
-use Rattle.pv_tree.specs.Types.{Written, signed, literal_of, sort_of_written, sort_where, sort_of, sort_of_type, sort_of_thing, is_void, is_index, is_index_type, lies_in, lies_between, sort_of_operand, is_indexed, are_indexed}
+use Rattle.pv_tree.specs.Things.{Thing, part, constant, a_block, no_name, no_array, a_date, untold, first_place, is_date, dated, thing_at, last_behind, thing_behind, thing_of, thing_of_root, root_place, no_array_where, element_of_thing, quoted_value, type_of_bits}
+use Rattle.pv_tree.specs.Types.{Written, literal_of, sort_of_written, sort_where, sort_of, sort_of_thing, is_index_type, lies_in, lies_between, sort_of_operand, is_indexed, are_indexed}
 use Rattle.pv_tree.specs.Rules.{KeepsRules}
-use Rattle.pv_tree.specs.Rules.Addresses.{is_wrong_root, is_wrong_operand}
-use Rattle.pv_mean.specs.declared.count.TheConstants.{BEYOND}
-use Rattle.pv_mean.specs.Layout.{Laid, size_in, field_laid, element_from, element_laid, is_brief_in, is_db, data_type, laid_among}
+use Rattle.pv_tree.specs.Rules.Addresses.{is_wrong_operand}
+use Rattle.pv_mean.specs.Layout.{Laid, size_in, field_laid, element_from, is_brief_in, is_db, data_type, laid_among}
 use Rattle.pv_mean.specs.Sources.{Source, data_block_first}
 use Rattle.pv_mean.specs.Frames.{Frame}
-use Rattle.pv_mean.specs.Endings.{Tried, got, trap, Value, and_then}
-use Rattle.pv_mean.specs.Spots.{Spot, visible, brief, bit, bytes, fixed, nowhere}
-use Rattle.pv_mean.specs.Activations.{Activation, scope_in, Begins, in_visible, in_brief, at, spot_by, spot_of, visible_where, brief_where, address_spot, symbol_at, variable_begins, block_begins, variable_or, value_or, block_or, symbol_or_none, root_begins}
+use Rattle.pv_mean.specs.Endings.{Tried, got, Value, and_then}
+use Rattle.pv_mean.specs.Spots.{Spot, visible, fixed, nowhere}
+use Rattle.pv_mean.specs.Activations.{Activation, scope_in, Begins, in_visible, in_brief, at, spot_by, spot_of, visible_where, brief_where, address_spot, symbol_at, variable_begins, variable_or, value_or, block_or, symbol_or_none, root_begins}
 use Rattle.pv_mean.specs.Scans.{entry_activation}
 use Rattle.pv_mean.specs.Values.{literal_or, value, locate, behind, step_behind, field_begins, element_where, element_begins, unary_result, result_type}
-use Rattle.pv_eval.specs.Operands.{span}
 use Rattle.pv_pattern.specs.Reads.{AreFixedSteps, IsFixedOperand}
 use Rattle.pv_pattern.specs.Texts.{is_brief_root, is_brief_var, is_brief_operand}
 use Rattle.pv_resolve.specs.Rooms.{HasRoom, IsRoomy, BeginsRoomy}

@@ -1,13 +1,12 @@
 -- In a project that keeps the rules an expression that says something of a scan has a term.
 use Prim.Native.String.{String}
-use Rattle.std.proofs.Common.{◌≡◌, inl, inr, ℕ, zero, suc, ◌<◌, List, [], ◌∷◌, ◌++◌, length, Bool, true, false, not, ◌||◌, Option, Some, None, IsTrue, Contains, refl, sym, ap, subst, ◌∙◌, arith}
+use Rattle.std.proofs.Common.{◌≡◌, inl, inr, ℕ, zero, suc, List, [], ◌∷◌, ◌++◌, length, Bool, true, false, not, ◌||◌, Option, Some, None, IsTrue, Contains, refl, sym, ap, subst, ◌∙◌, arith}
 use Rattle.std.specs.Prelude.{⊤, ◌⊎◌, FitsSigned, is_some, drop, if◌then◌else◌}
 use Rattle.std.specs.Int.{w64}
 use Rattle.std.specs.List.{AllByRecursion, list_any}
-use Rattle.std.proofs.lemmas.Bool.{true≢false, false≢true}
+use Rattle.std.proofs.lemmas.Bool.{true≢false}
 use Rattle.std.proofs.lemmas.Option.{none-some}
 use Rattle.std.proofs.lemmas.List.Folds.{list_any-append}
-use Rattle.pv_word.specs.declared.types.Ty.{Ty}
 use Rattle.pv_place.specs.declared.place.Place.{Place}
 use Rattle.pv_lex.specs.declared.class.Class.TheVariants.{Either}
 use Rattle.pv_lex.specs.Shapes.{begins}
@@ -24,11 +23,11 @@ use Rattle.pv_tree.specs.Expressions.{parameters_of, SpellsRoot, SpellsExpr, Spe
 use Rattle.pv_tree.specs.LiteralTypes.{Want, nothing}
 use Rattle.pv_tree.specs.Operands.{operands_in, operands_in_args, operands_in_steps}
 use Rattle.pv_tree.specs.Scopes.{Scope}
-use Rattle.pv_tree.specs.Things.{Thing, dated, thing_at, last_behind, thing_of_root, root_place, first_place, place_of_operand}
+use Rattle.pv_tree.specs.Things.{Thing, dated, thing_at, thing_of_root, root_place, first_place, place_of_operand}
 use Rattle.pv_tree.specs.Types.{Written, signed, literal_of, sort_of, sorts_of, type_of}
 use Rattle.pv_tree.specs.Sorts.{wanted_beside, wants_of}
 use Rattle.pv_tree.specs.RuleLaws.{HasType}
-use Rattle.pv_tree.specs.Parts.{Part, parts_of, parts_of_args, parts_of_steps, parts_of_step, operand_of, reads_of_parts, IndexAt, indexes_behind, indexes_of_step}
+use Rattle.pv_tree.specs.Parts.{Part, parts_of, parts_of_args, parts_of_steps, reads_of_parts, IndexAt, indexes_behind}
 use Rattle.pv_tree.specs.Rules.{Rule, BreaksInPattern, out_of_range, wrong_address, no_pattern}
 use Rattle.pv_tree.specs.Rules.PatternRule.{divides, DividesAt}
 use Rattle.pv_tree.specs.Rules.Addresses.{is_wrong_operand}
@@ -44,7 +43,7 @@ use Rattle.pv_laws_types.proofs.ForCallers.{Shows}
 use Rattle.pv_laws_room.specs.Reached.{IsShortRoot, IsShortOperand}
 use Rattle.pv_laws_room.proofs.ForCallers.{contains_more, contains_front, contains_behind, literal_fits, written_fits, root_fits, read_of_parts}
 use Rattle.pv_pattern_read.specs.Making.{kept_two}
-use Rattle.pv_pattern_read.specs.Readable.{args_count, HasTerm, HaveTerms, ReadsSpot}
+use Rattle.pv_pattern_read.specs.Readable.{args_count, HasTerm, HaveTerms}
 use Rattle.pv_pattern_read.proofs.Spots.{NamesSpot, names_spot, some_of}
 
 -- ---- what is known of each part

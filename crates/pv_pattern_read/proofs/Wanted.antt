@@ -1,6 +1,6 @@
 -- What is asked of the parts of an expression, by what is asked of it; and that an expression which says something of a scan of a
 -- source that is run has a term.
-use Rattle.std.proofs.Common.{◌≡◌, ℕ, zero, suc, ◌+◌, ◌<◌, ◌≤◌, ℤ, List, [], ◌∷◌, length, map, get_or, Option, Some, None, IsTrue, Contains, refl, sym, ap, subst, ◌∙◌, arith}
+use Rattle.std.proofs.Common.{◌≡◌, ℕ, zero, suc, ◌+◌, ◌<◌, ◌≤◌, List, [], ◌∷◌, length, map, get_or, Option, Some, None, IsTrue, Contains, refl, sym, ap, subst, ◌∙◌, arith}
 use Rattle.std.specs.Prelude.{FitsSigned, Err, is_some}
 use Rattle.std.specs.Int.{w64}
 use Rattle.std.proofs.lemmas.Option.{none-some}
@@ -32,7 +32,6 @@ use Rattle.pv_eval.specs.declared.trap.Trap.{Trap}
 use Rattle.pv_eval.specs.Traps.{located}
 use Rattle.pv_eval.specs.Means.{activation}
 use Rattle.pv_resolve.specs.declared.context.Context.{Context}
-use Rattle.pv_resolve.specs.Contexts.{IsContext, block_in}
 use Rattle.pv_resolve.specs.Functions.{arity}
 use Rattle.pv_resolve.specs.Rooms.{FitsWhere, HasRoom}
 use Rattle.pv_laws_types.specs.Typed.{HasTable, IsAtWork}
@@ -43,7 +42,7 @@ use Rattle.pv_pattern.specs.Reads.{bare}
 use Rattle.pv_pattern.specs.Texts.{Says}
 use Rattle.pv_pattern_read.specs.Making.{kept_two, AreTermsOf}
 use Rattle.pv_pattern_read.specs.InContext.{AreTermsIn}
-use Rattle.pv_pattern_read.specs.Readable.{IsReadable, args_count, HasTerm, HaveTerms, HasTermIn, IsEntered, HasEntered}
+use Rattle.pv_pattern_read.specs.Readable.{IsReadable, args_count, HasTerm, HaveTerms, HasTermIn, HasEntered}
 use Rattle.pv_pattern_read.proofs.Termed.{scope_same}
 use Rattle.pv_pattern_read.proofs.Terms.{pattern_has_term}
 

@@ -1,4 +1,4 @@
-use Rattle.std.proofs.Common.{Err, map, sym, ap, ◌∙◌, subst}
+use Rattle.std.proofs.Common.{Err, map, ap, ◌∙◌}
 use Rattle.std.specs.Prelude.{string_bytes}
 use Rattle.pv_tree.specs.Rules.Chains.{here}
 use Rattle.pv_names.specs.Entries.{block_of}

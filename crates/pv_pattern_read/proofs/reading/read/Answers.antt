@@ -7,8 +7,7 @@ use Rattle.pv_tree.specs.Scopes.{ProjectTree}
 use Rattle.pv_tree.specs.View.{block_tree}
 use Rattle.pv_tree.specs.Projects.{symbol_tree}
 use Rattle.pv_names.specs.Entries.{block_of}
-use Rattle.pv_names.specs.Tables.{blocks_of, symbols_of, project_of}
-use Rattle.pv_mean.specs.ProjectSizes.{project_tree}
+use Rattle.pv_names.specs.Tables.{blocks_of, symbols_of}
 use Rattle.pv_pattern_read.proofs.PatternLaws.{project-seen, entered-is}
 use Rattle.pv_pattern_read.proofs.reading.read.Goals as goal
 

@@ -1,6 +1,4 @@
-use Rattle.std.proofs.Common.{Err, subst}
 use Rattle.pv_tree.specs.View.{expr_tree}
-use Rattle.pv_pattern_read.specs.Answers.{AnswersText}
 use Rattle.pv_pattern_read.specs.InContext.{scope_at}
 use Rattle.pv_pattern_read.proofs.Wanted.{says_term}
 use Rattle.pv_pattern_read.proofs.reading.term_in.Goals as goal

@@ -1,4 +1,4 @@
-use Rattle.std.proofs.Common.{Err, sym, ap, ◌∙◌}
+use Rattle.std.proofs.Common.{sym, ap, ◌∙◌}
 use Rattle.pv_eval.specs.Traps.{located}
 use Rattle.pv_pattern_read.proofs.Wanted.{trap_not_got}
 use Rattle.pv_pattern_read.proofs.spot.located.Goals as goal
