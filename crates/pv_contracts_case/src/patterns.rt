@@ -1,5 +1,5 @@
 //! Calls of pv_pattern_read.
-ghost use Rattle.std.specs.Prelude.{◌≡◌, ◌≤◌, ◌<◌, length, map, All, Some, IfOk, string_bytes, slice_get};
+ghost use Rattle.std.specs.Prelude.{◌≡◌, ◌≤◌, length, map, All, Some, IfOk, string_bytes, slice_get};
 ghost use Rattle.pv_lex.specs.declared.lex.TheConstants.{MAX_SOURCE};
 ghost use Rattle.pv_tree.specs.View.{operand_tree};
 ghost use Rattle.pv_names.specs.InScope.{scope_of};
@@ -8,6 +8,7 @@ ghost use Rattle.pv_mean.specs.ProjectSizes.{project_tree};
 ghost use Rattle.pv_bytes.specs.Lent.{bytes_tree};
 ghost use Rattle.pv_pattern.specs.Texts as texts;
 ghost use Rattle.pv_pattern_read.specs.Kinds.{count_of};
+ghost use Rattle.pv_pattern_read.specs.Readable.{HasSource};
 ghost use Rattle.pv_pattern_read.specs.Answers.{AnswersText, AnswersPattern};
 
 use pv_bytes::AreaBytes;
@@ -44,7 +45,7 @@ pub fn read(
 ) -> Result<Pattern, PatternFault>
     requires count { length texts.now ≡ count_of kind }
     requires short { All (λ t. length (string_bytes t) ≤ MAX_SOURCE) texts.now }
-    requires entered { entry < length project.now.blocks.list.items }
+    requires entered { HasSource (project_tree project.now) entry (bytes_tree bytes) }
     ensures { (source : Source) → project_tree project.now ≡ source.project
         → slice_get source.project.blocks entry ≡ Some source.entry
         → bytes_tree bytes.entry ≡ source.bytes

@@ -1,14 +1,11 @@
 -- Operands gathered one behind the other.
-use Rattle.std.proofs.Common.{◌≡◌, ℕ, suc, ◌+◌, ◌<◌, ◌≤◌, List, [], ◌∷◌, ◌++◌, map, drop, get_or, length, refl, sym, ap, ◌∙◌, append_assoc, arith}
+use Rattle.std.proofs.Common.{◌≡◌, ℕ, suc, ◌+◌, ◌<◌, ◌≤◌, List, [], ◌∷◌, ◌++◌, map, drop, get_or, length, sym, ap, ◌∙◌, append_assoc, arith}
 use Rattle.std.proofs.Math.Seq.{drop-cons}
 use Rattle.std.proofs.lemmas.List.{append-nil, drop_all}
-use Rattle.pv_place.specs.declared.place.Place.{Place}
 use Rattle.pv_tree.specs.declared.expr.Expr.{Expr}
 use Rattle.pv_tree.specs.declared.expr.Step.{Step}
 use Rattle.pv_tree.specs.declared.expr.Operand.{Operand}
-use Rattle.pv_tree.specs.declared.expr.BinaryOp.{BinaryOp}
-use Rattle.pv_tree.specs.declared.expr.StdFunction.{StdFunction}
-use Rattle.pv_tree.specs.Tree.{ExprTree, binary, std, read, OperandTree, operand, StepTrees, steps}
+use Rattle.pv_tree.specs.Tree.{read, OperandTree}
 use Rattle.pv_tree.specs.View.{exprs_of, expr_tree, operand_tree, step_tree, steps_of}
 use Rattle.pv_tree.specs.Operands.{operands_in, operands_in_args, operands_in_steps, operands_in_step}
 use Rattle.pv_tree.proofs.ForCallers.{operand_seen}

@@ -8,3 +8,7 @@ mod Spotted
 mod Walks
 mod TextLaws
 mod NamingLaws
+mod Spots
+mod Terms
+mod Deep
+mod Wanted

@@ -1,10 +1,9 @@
 -- Addresses one behind the other, text by text and operand by operand.
-use Rattle.std.proofs.Common.{◌≡◌, inl, inr, ℕ, suc, ◌+◌, ◌<◌, ◌≤◌, List, [], ◌∷◌, ◌++◌, map, filter, take, drop, length, get_or, Bool, true, false, cond, refl, sym, ap, ◌∙◌, subst, append_assoc, arith}
-use Rattle.std.specs.Prelude.{◌⊎◌}
+use Rattle.std.proofs.Common.{◌≡◌, inl, inr, ℕ, suc, ◌+◌, ◌<◌, ◌≤◌, List, [], ◌∷◌, ◌++◌, map, filter, take, drop, length, get_or, Bool, true, false, cond, refl, sym, ap, ◌∙◌, subst, append_assoc}
 use Rattle.std.proofs.Math.Seq.{drop-cons}
 use Rattle.std.proofs.lemmas.List.{append-nil, take_more, take_all, drop_all, map-append}
-use Rattle.pv_tree.specs.Tree.{ExprTree, OperandTree}
-use Rattle.pv_pattern.specs.Texts.{IsTextOf, is_address_operand, alone, addresses_in, AreNamed}
+use Rattle.pv_tree.specs.Tree.{OperandTree}
+use Rattle.pv_pattern.specs.Texts.{is_address_operand, alone, addresses_in, AreNamed}
 use Rattle.pv_pattern_read.specs.Naming.{addresses_of, NamesAlso}
 
 -- ---- texts

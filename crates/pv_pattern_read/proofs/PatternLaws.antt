@@ -1,11 +1,11 @@
 -- Texts read one by one: a pattern, or the first fault.
-use Rattle.std.proofs.Common.{◌≡◌, ℕ, zero, suc, ◌+◌, ◌<◌, ◌≤◌, List, [], ◌∷◌, ◌++◌, map, take, drop, length, get_or, Option, Some, None, Result, Ok, Err, IfSome, refl, sym, ap, ◌∙◌, subst, arith}
-use Rattle.std.specs.Prelude.{option_map, slice_get, string_bytes, ⊤}
+use Rattle.std.proofs.Common.{◌≡◌, ℕ, zero, suc, ◌+◌, ◌<◌, ◌≤◌, List, [], ◌∷◌, ◌++◌, map, take, drop, length, get_or, Some, Result, Ok, Err, refl, sym, ap, ◌∙◌, subst, arith}
+use Rattle.std.specs.Prelude.{option_map, slice_get}
 use Rattle.std.proofs.Math.Seq.{drop-cons}
 use Rattle.std.proofs.lemmas.List.{take-append-drop, take_more, take_all, map-append, length-map}
 use Rattle.std.proofs.lemmas.Option.{same_Some, slice_get_read, slice_get-map}
-use Rattle.pv_tree.specs.Tree.{ExprTree, BlockTree}
-use Rattle.pv_tree.specs.Scopes.{SymbolTree, ProjectTree, Scope}
+use Rattle.pv_tree.specs.Tree.{BlockTree}
+use Rattle.pv_tree.specs.Scopes.{SymbolTree, ProjectTree}
 use Rattle.pv_rules_decl.specs.Names.{rule_of}
 use Rattle.pv_mean.specs.Sources.{Source}
 use Rattle.pv_resolve.specs.declared.context.Context.{Context}
@@ -17,14 +17,14 @@ use Rattle.pv_pattern.specs.declared.pattern.Pattern.{Pattern as Found}
 use Rattle.pv_pattern.specs.declared.pattern.Pattern.TheVariants as found
 use Rattle.pv_pattern_read.specs.Kinds.{count_of}
 use Rattle.pv_pattern.specs.Patterns.{invariant, forbidden, implication, within, between, reach}
-use Rattle.pv_pattern.specs.Found.{IsPatternOf, is_invariant, is_forbidden, is_implication, is_within, is_between, is_reach}
+use Rattle.pv_pattern.specs.Found.{is_invariant, is_forbidden, is_implication, is_within, is_between, is_reach}
 use Rattle.pv_pattern.specs.Texts as texts
 use Rattle.pv_pattern.specs.Texts.{Fault, IsAtFault, FailsAt}
 use Rattle.pv_pattern_read.specs.Kinds.{IsReadPattern}
 use Rattle.pv_pattern_read.specs.declared.fault.PatternFault.{PatternFault}
 use Rattle.pv_pattern_read.specs.declared.fault.PatternFault.TheVariants as of
-use Rattle.pv_pattern_read.specs.Answers.{entered, FailsBy, AnswersPattern}
-use Rattle.pv_pattern_read.specs.InContext.{scope_at, InEach, IsTermIn, AreTermsIn, IsFaultOf, IsFoundIn, AnswersFound}
+use Rattle.pv_pattern_read.specs.Answers.{FailsBy, AnswersPattern}
+use Rattle.pv_pattern_read.specs.InContext.{scope_at, IsTermIn, AreTermsIn, IsFaultOf, IsFoundIn, AnswersFound}
 use Rattle.pv_pattern_read.proofs.Termed.{scope_same}
 
 -- ---- texts one by one

@@ -15,7 +15,6 @@ use Rattle.pv_tree.specs.Tree.{ExprTree}
 use Rattle.pv_tree.specs.Lexemes.{Lexeme, lexemes_of}
 use Rattle.pv_tree.specs.Reading.{AreEnded, ReadAsExpression, IsReadExpression}
 use Rattle.pv_parse.specs.FrontNames as name
-use Rattle.pv_parse.specs.Kinds.{kinds_of}
 use Rattle.pv_parse.specs.Front.{expression_productions, declaration_productions}
 use Rattle.pv_parse.specs.Items.{Stack, expr, expr_on}
 use Rattle.pv_parse.specs.Deeds.{making, kinded, expression_actions}

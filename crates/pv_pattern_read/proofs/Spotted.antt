@@ -1,20 +1,18 @@
 -- Terms that read spots.
-use Rattle.std.proofs.Common.{◌≡◌, ℕ, zero, suc, ◌+◌, ◌*◌, ◌-◌, ◌<◌, ◌≤◌, ℤ, pos, List, [], ◌∷◌, Bool, true, false, ◌||◌, ◌&&◌, Option, Some, None, IsTrue, inl, inr, refl, sym, ap, ◌∙◌, subst, arith}
+use Rattle.std.proofs.Common.{◌≡◌, ℕ, zero, suc, ◌+◌, ◌*◌, ◌-◌, ◌<◌, ℤ, pos, Bool, true, false, ◌||◌, ◌&&◌, inl, inr, refl, sym, ap, ◌∙◌, arith}
 use Rattle.std.specs.Prelude.{◌==◌, nat_le, nat_lt}
 use Rattle.std.specs.List.{list_any}
 use Rattle.std.proofs.lemmas.Bool.{cases_lt, le-leb, lt-ltb, le-ltb, eq-eqb, ne_eqb}
 use Rattle.std.proofs.lemmas.Bool.Decides.{leb_tells}
 use Rattle.pv_word.specs.declared.types.Ty.{Ty}
 use Rattle.pv_word.specs.Types.{wrap_of}
-use Rattle.pv_place.specs.declared.place.Place.{Place}
 use Rattle.pv_mean.specs.Endings.{Value, got}
 use Rattle.pv_mean.specs.Spots as m
 use Rattle.pv_mean.specs.Spots.{byte_in}
 use Rattle.pv_eval.specs.declared.node.OneOp.TheVariants.{Wrap}
-use Rattle.pv_mean.specs.Scans.{Visible}
 use Rattle.pv_pattern.specs.declared.term.Term.{Term, Constant, Cell, Bit, Byte, Word, Double}
-use Rattle.pv_pattern.specs.Reads.{numbers_from, cells_of_spot}
-use Rattle.pv_pattern.specs.Terms.{frame_by, term_value, term_reads, is_among}
+use Rattle.pv_pattern.specs.Reads.{numbers_from}
+use Rattle.pv_pattern.specs.Terms.{frame_by, is_among}
 use Rattle.pv_pattern_read.specs.Making.{IsSpotTerm, IsOne}
 
 or_none : (x : Bool) → (x || false) ≡ x

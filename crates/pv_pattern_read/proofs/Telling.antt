@@ -1,5 +1,5 @@
 -- What reading a text answers: its one expression, or that there is none.
-use Rattle.std.proofs.Common.{◌≡◌, ℕ, List, [], ◌∷◌, Option, Some, None, Result, Ok, Err, IfOk, IfSome, IfNone, sym, ap, ◌∙◌, subst}
+use Rattle.std.proofs.Common.{◌≡◌, ℕ, List, Option, Some, None, Result, Ok, Err, IfOk, IfSome, IfNone, sym, subst}
 use Rattle.std.specs.declared.alloc.AllocError.{AllocError}
 use Rattle.pv_place.specs.declared.place.Place.{Place}
 use Rattle.pv_lex.specs.declared.fault.FaultKind.{FaultKind}

@@ -1,5 +1,5 @@
 -- Which expressions terms are, form by form.
-use Rattle.std.proofs.Common.{◌≡◌, ℕ, zero, suc, ◌+◌, ◌<◌, ◌≤◌, ℤ, pos, List, [], ◌∷◌, ◌++◌, map, take, length, get_or, Bool, true, false, ◌||◌, Option, Some, None, IsTrue, is_some, refl, sym, ap, ◌∙◌, subst, arith}
+use Rattle.std.proofs.Common.{◌≡◌, ℕ, ◌+◌, ◌<◌, ◌≤◌, ℤ, List, [], ◌∷◌, ◌++◌, map, take, length, get_or, Bool, true, false, ◌||◌, Option, Some, None, IsTrue, is_some, refl, sym, ap, ◌∙◌, subst}
 use Rattle.std.specs.Prelude.{◌==◌, flat_map}
 use Rattle.std.specs.List.{list_any}
 use Rattle.std.proofs.lemmas.Bool.{false≢true}
@@ -14,7 +14,7 @@ use Rattle.pv_tree.specs.declared.expr.UnaryOp.{UnaryOp}
 use Rattle.pv_tree.specs.declared.expr.BinaryOp.{BinaryOp}
 use Rattle.pv_tree.specs.declared.expr.BinaryOp.TheVariants as tree
 use Rattle.pv_tree.specs.declared.expr.StdFunction.{StdFunction}
-use Rattle.pv_tree.specs.Tree.{ExprTree, lit, read, unary, binary, std, paren, ExprTrees, no_exprs, exprs, OperandTree, operand, StepTree, field, index, StepTrees, no_steps, steps, BlockTree}
+use Rattle.pv_tree.specs.Tree.{ExprTree, lit, read, unary, binary, std, paren, ExprTrees, no_exprs, exprs, OperandTree, operand, field, index, StepTrees, no_steps, steps, BlockTree}
 use Rattle.pv_tree.specs.View.{exprs_of, expr_tree}
 use Rattle.pv_tree.specs.Scopes.{ProjectTree, Scope}
 use Rattle.pv_tree.specs.Things.{place_of_operand}
@@ -22,10 +22,10 @@ use Rattle.pv_tree.specs.Types.{Written, signed, literal_of}
 use Rattle.pv_names.specs.Entries.{block_of}
 use Rattle.pv_names.specs.InScope.{scope_of}
 use Rattle.pv_mean.specs.Sources.{Source}
-use Rattle.pv_mean.specs.Endings.{Tried, Value, got, trap, and_then}
+use Rattle.pv_mean.specs.Endings.{Tried, Value, got, and_then}
 use Rattle.pv_mean.specs.Spots.{Spot, read_spot}
 use Rattle.pv_mean.specs.Activations.{scope_in}
-use Rattle.pv_mean.specs.Values.{value, values, locate, literal_or, unary_result, binary_result, function_result, result_type}
+use Rattle.pv_mean.specs.Values.{values, locate, literal_or, unary_result, binary_result, function_result, result_type}
 use Rattle.pv_mean.specs.Scans.{Visible, entry_activation, pattern_value}
 use Rattle.pv_eval.specs.declared.node.OneOp.{OneOp}
 use Rattle.pv_eval.specs.declared.node.TwoOp.{TwoOp}

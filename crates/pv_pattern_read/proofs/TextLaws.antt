@@ -1,5 +1,5 @@
 -- What is asked of a text's expression.
-use Rattle.std.proofs.Common.{◌≡◌, ℕ, List, Option, Some, None, Result, Err, IfSome, IfNone, sym, ap, subst}
+use Rattle.std.proofs.Common.{◌≡◌, ℕ, List, Option, Some, None, Err, IfSome, IfNone, sym, ap, subst}
 use Rattle.pv_tree.specs.declared.expr.Expr.{Expr}
 use Rattle.pv_types.specs.declared.declaration.Var.{Var}
 use Rattle.pv_types.specs.View.{var_tree, section_of}

@@ -1,6 +1,7 @@
 -- what public clauses cite
 pub mod Kinds
 pub mod Answers
+pub mod Readable
 -- what private clauses cite
 pub mod Making
 pub mod InContext

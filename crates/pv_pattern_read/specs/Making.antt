@@ -1,5 +1,5 @@
 -- How terms are made: what reads a spot, and terms of terms.
-use Rattle.std.specs.Prelude.{◌≡◌, ℕ, ◌==◌, ℤ, List, [], ◌∷◌, Bool, ◌||◌, Option, Some, None}
+use Rattle.std.specs.Prelude.{◌≡◌, ℕ, ◌==◌, List, [], ◌∷◌, ◌||◌, Option, Some, None}
 use Rattle.std.specs.List.{list_any}
 use Rattle.pv_word.specs.declared.types.Ty.{Ty}
 use Rattle.pv_place.specs.declared.place.Place.{Place}

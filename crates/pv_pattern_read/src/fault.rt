@@ -1,7 +1,6 @@
 //! Why texts are no pattern.
 ghost use Rattle.std.specs.Prelude.{◌≡◌};
 
-use pv_resolve::ResolveFault;
 use pv_rules_decl::Rule;
 use std::alloc::{AllocError, AllocFailed};
 use thiserror::Error;
@@ -67,43 +66,5 @@ impl<T: Drop> From<AllocFailed<T>> for PatternFault {
 
     fn from(_error: AllocFailed<T>) -> PatternFault {
         PatternFault::NoMemory
-    }
-}
-
-/// Why an expression has no term. An expression that keeps the rules on patterns and reads no brief cell has one, where its project
-/// has a table of cells.
-#[derive(Clone, Copy, PartialEq, Eq, Debug, Drop, Error)]
-pub(crate) enum TermFault {
-    #[error("the expression has no term")]
-    NoTerm,
-    #[error("out of memory")]
-    NoMemory,
-}
-
-impl From<AllocError> for TermFault {
-    ghost use Rattle.pv_pattern_read.specs.declared.fault.TermFault.TheVariants.{NoMemory};
-
-    ghost from_gives = { λ _ fault. fault ≡ NoMemory };
-
-    fn from(_error: AllocError) -> TermFault {
-        TermFault::NoMemory
-    }
-}
-
-impl<T: Drop> From<AllocFailed<T>> for TermFault {
-    ghost use Rattle.pv_pattern_read.specs.declared.fault.TermFault.TheVariants.{NoMemory};
-
-    ghost from_gives = { λ _ fault. fault ≡ NoMemory };
-
-    fn from(_error: AllocFailed<T>) -> TermFault {
-        TermFault::NoMemory
-    }
-}
-
-/// What a name that isn't found leaves.
-pub(crate) fn of_resolving(fault: ResolveFault) -> TermFault {
-    match fault {
-        ResolveFault::TooLarge => TermFault::NoTerm,
-        ResolveFault::NoMemory => TermFault::NoMemory,
     }
 }

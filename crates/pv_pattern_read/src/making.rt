@@ -1,5 +1,5 @@
 //! Terms of terms: operators and standard functions.
-ghost use Rattle.std.specs.Prelude.{◌≡◌, ◌∷◌, [], IfOk, IfSome, None};
+ghost use Rattle.std.specs.Prelude.{◌≡◌, ◌∷◌, [], IfOk, IsTrue, None, is_some, length};
 ghost use Rattle.pv_place.specs.declared.place.Place.{Place as PlaceOf};
 ghost use Rattle.pv_tree.specs.Tree.{ExprTree, ExprTrees, unary, binary, std};
 ghost use Rattle.pv_tree.specs.Types.{literal_of};
@@ -8,9 +8,9 @@ ghost use Rattle.pv_mean.specs.Scans.{entry_activation};
 ghost use Rattle.pv_mean.specs.Activations.{scope_in};
 ghost use Rattle.pv_mean.specs.Values.{result_type};
 ghost use Rattle.pv_pattern.specs.Terms.{IsTermOf};
+ghost use Rattle.pv_resolve.specs.Functions.{arity};
 ghost use Rattle.pv_pattern_read.specs.Making.{kept_two, IsOne, IsTwo, IsThree, OfOne, OfTwo, OfThree, AreTermsOf};
 
-use crate::fault::TermFault;
 use pv_eval::{OneOp, ThreeOp, TwoOp};
 use pv_pattern::Term;
 use pv_tree::{BinaryOp, StdFunction, UnaryOp};
@@ -93,100 +93,97 @@ fn two_of(op: BinaryOp) -> Option<TwoOp>
     }
 }
 
-/// An operator between its operands.
+/// An operator between its operands, which doesn't divide.
 pub(crate) fn binary_term(
     alloc: Global,
     op: BinaryOp,
     ty: Ty,
     left: Term,
     right: Term,
-) -> Result<Term, TermFault>
+) -> Result<Term, AllocError>
+    requires { IsTrue (is_some (kept_two op)) }
     ensures { (source : Source) (place : PlaceOf) (l r : ExprTree)
         → ty ≡ result_type (scope_in source (entry_activation source)) (binary op place l r)
         → IsTermOf source left l → IsTermOf source right r
         → IfOk result (λ t. IsTermOf source t (binary op place l r)) }
 {
     match two_of(op) {
-        Some(op) => {
-            let term = two(alloc, op, ty, left, right)?;
-            Ok(term)
-        }
-        None => Err(TermFault::NoTerm),
+        Some(op) => two(alloc, op, ty, left, right),
+        None => unreachable!(),
     }
 }
 
 /// The only one of some terms.
-pub(crate) fn only(terms: Vec<Term>) -> Option<Term>
-    ensures { IfSome result (λ t. terms.items ≡ t ∷ []) }
+pub(crate) fn only(terms: Vec<Term>) -> Term
+    requires { length terms.items ≡ 1 }
+    ensures { terms.items ≡ result ∷ [] }
 {
     let mut terms = terms;
-    let arg = terms.pop()?;
-    if terms.is_empty() { Some(arg) } else { None }
+    match terms.pop() {
+        Some(arg) => arg,
+        None => unreachable!(),
+    }
 }
 
 /// The two that some terms are.
-pub(crate) fn pair(terms: Vec<Term>) -> Option<(Term, Term)>
-    ensures { IfSome result (λ p. terms.items ≡ p.0 ∷ p.1 ∷ []) }
+pub(crate) fn pair(terms: Vec<Term>) -> (Term, Term)
+    requires { length terms.items ≡ 2 }
+    ensures { terms.items ≡ result.0 ∷ result.1 ∷ [] }
 {
     let mut terms = terms;
-    let right = terms.pop()?;
-    let left = only(terms)?;
-    Some((left, right))
+    match terms.pop() {
+        Some(right) => (only(terms), right),
+        None => unreachable!(),
+    }
 }
 
 /// The three that some terms are.
-pub(crate) fn triple(terms: Vec<Term>) -> Option<(Term, Term, Term)>
-    ensures { IfSome result (λ p. terms.items ≡ p.0 ∷ p.1 ∷ p.2 ∷ []) }
+pub(crate) fn triple(terms: Vec<Term>) -> (Term, Term, Term)
+    requires { length terms.items ≡ 3 }
+    ensures { terms.items ≡ result.0 ∷ result.1 ∷ result.2 ∷ [] }
 {
     let mut terms = terms;
-    let third = terms.pop()?;
-    let (first, second) = pair(terms)?;
-    Some((first, second, third))
+    match terms.pop() {
+        Some(third) => {
+            let (first, second) = pair(terms);
+            (first, second, third)
+        }
+        None => unreachable!(),
+    }
 }
 
-fn of_one(alloc: Global, op: OneOp, ty: Ty, terms: Vec<Term>) -> Result<Term, TermFault>
+fn of_one(alloc: Global, op: OneOp, ty: Ty, terms: Vec<Term>) -> Result<Term, AllocError>
+    requires { length terms.items ≡ 1 }
     ensures { IfOk result (OfOne op ty terms.items) }
 {
-    match only(terms) {
-        Some(arg) => {
-            let term = one(alloc, op, ty, arg)?;
-            Ok(term)
-        }
-        None => Err(TermFault::NoTerm),
-    }
+    let arg = only(terms);
+    one(alloc, op, ty, arg)
 }
 
-fn of_two(alloc: Global, op: TwoOp, ty: Ty, terms: Vec<Term>) -> Result<Term, TermFault>
+fn of_two(alloc: Global, op: TwoOp, ty: Ty, terms: Vec<Term>) -> Result<Term, AllocError>
+    requires { length terms.items ≡ 2 }
     ensures { IfOk result (OfTwo op ty terms.items) }
 {
-    match pair(terms) {
-        Some((left, right)) => {
-            let term = two(alloc, op, ty, left, right)?;
-            Ok(term)
-        }
-        None => Err(TermFault::NoTerm),
-    }
+    let (left, right) = pair(terms);
+    two(alloc, op, ty, left, right)
 }
 
-fn of_three(alloc: Global, op: ThreeOp, terms: Vec<Term>) -> Result<Term, TermFault>
+fn of_three(alloc: Global, op: ThreeOp, terms: Vec<Term>) -> Result<Term, AllocError>
+    requires { length terms.items ≡ 3 }
     ensures { IfOk result (OfThree op terms.items) }
 {
-    match triple(terms) {
-        Some((first, second, third)) => {
-            let term = three(alloc, op, first, second, third)?;
-            Ok(term)
-        }
-        None => Err(TermFault::NoTerm),
-    }
+    let (first, second, third) = triple(terms);
+    three(alloc, op, first, second, third)
 }
 
-/// A standard function of its arguments.
+/// A standard function of its arguments, which are as many as it takes.
 pub(crate) fn function_term(
     alloc: Global,
     function: StdFunction,
     ty: Ty,
     terms: Vec<Term>,
-) -> Result<Term, TermFault>
+) -> Result<Term, AllocError>
+    requires { length terms.items ≡ arity function }
     ensures { (source : Source) (place : PlaceOf) (args : ExprTrees)
         → ty ≡ result_type (scope_in source (entry_activation source)) (std function place args)
         → AreTermsOf source terms.items args

@@ -1,5 +1,6 @@
 //! Expressions as terms over visible cells.
-ghost use Rattle.std.specs.Prelude.{◌≡◌, IfOk, IfSome, unwrap_or};
+ghost use Rattle.std.specs.Prelude.{◌≡◌, FitsSigned, IfOk, IfSome, IfNone, unwrap_or};
+ghost use Rattle.std.specs.Int.{w64};
 ghost use Rattle.pv_word.specs.declared.types.Ty.TheVariants.{Dint};
 ghost use Rattle.pv_tree.specs.Sorts as sorts;
 ghost use Rattle.pv_tree.specs.View.{expr_tree};
@@ -10,8 +11,8 @@ ghost use Rattle.pv_mean.specs.Values as values;
 ghost use Rattle.pv_resolve.specs.Contexts.{IsContext, block_in};
 ghost use Rattle.pv_pattern.specs.declared.term.Term.TheVariants.{Constant};
 ghost use Rattle.pv_pattern.specs.Terms.{IsTermOf};
+ghost use Rattle.pv_pattern_read.specs.Readable.{HasTermIn};
 
-use crate::fault::TermFault;
 use crate::making::{binary_term, function_term, unary_term};
 use crate::spot::read_term;
 use pv_names::{Number, Scope, Sort, literal_of, own_type};
@@ -23,7 +24,8 @@ use std::alloc::{AllocError, Global};
 
 /// A literal's number with its sign, where 128 bits hold it.
 fn signed_value(n: &Number) -> Option<i128>
-    ensures { IfSome result (λ v. v ≡ number_value n.now) }
+    ensures value { IfSome result (λ v. v ≡ number_value n.now) }
+    ensures none { IfNone result (FitsSigned w64 (number_value n.now) → ⊥) }
 {
     if n.negated {
         n.value.checked_neg()
@@ -32,16 +34,17 @@ fn signed_value(n: &Number) -> Option<i128>
     }
 }
 
-/// A literal, where 64 bits hold it.
-fn constant(n: &Number) -> Result<Term, TermFault>
-    ensures { IfOk result (λ t. t ≡ Constant (number_value n.now)) }
+/// A literal, which 64 bits hold.
+fn constant(n: &Number) -> Term
+    requires { FitsSigned w64 (number_value n.now) }
+    ensures { result ≡ Constant (number_value n.now) }
 {
     let Some(value) = signed_value(n) else {
-        return Err(TermFault::NoTerm);
+        unreachable!();
     };
     match i64::try_from(value) {
-        Ok(v) => Ok(Term::Constant(v)),
-        Err(_) => Err(TermFault::NoTerm),
+        Ok(v) => Term::Constant(v),
+        Err(_) => unreachable!(),
     }
 }
 
@@ -65,20 +68,20 @@ fn result_type(scope: &Scope, alloc: Global, e: &Expr) -> Result<Ty, AllocError>
 
 /// The term that an expression of the entered block is.
 #[cycle(making)]
-pub(crate) fn term_of(context: &Context, alloc: Global, e: &Expr) -> Result<Term, TermFault>
+pub(crate) fn term_of(context: &Context, alloc: Global, e: &Expr) -> Result<Term, AllocError>
+    requires { HasTermIn context.now (expr_tree e.now) }
     ensures { (source : Source) → IsContext context.now source → block_in context.now ≡ source.entry
         → IfOk result (λ t. IsTermOf source t (expr_tree e.now)) }
 {
     match literal_of(e) {
-        Some(literal) => constant(&literal.number),
+        Some(literal) => Ok(constant(&literal.number)),
         None => match e {
-            Expr::Lit { .. } => Err(TermFault::NoTerm),
+            Expr::Lit { .. } => unreachable!(),
             Expr::Read(operand) => read_term(context, alloc, operand),
             Expr::Unary { op, arg, .. } => {
                 let term = term_of(context, alloc, arg)?;
                 let ty = result_type(&context.scope, alloc, e)?;
-                let made = unary_term(alloc, *op, ty, term)?;
-                Ok(made)
+                unary_term(alloc, *op, ty, term)
             }
             Expr::Binary {
                 op,

@@ -2,14 +2,14 @@
 use crate::cells::{tell_count, tell_table, tell_view};
 use crate::forms::{tell_circuit, tell_form};
 use crate::leaves::tell_leaves;
-use crate::patterns::{tell_named, tell_pattern};
+use crate::patterns::{tell_faults, tell_named};
 use crate::rules::{tell_breaches, tell_checked, tell_type};
 use crate::scans::tell_scans;
 use crate::sizes::tell_size;
 use pv_rows_form::{Calls, Row, Told, last};
 
 /// What may stand at the beginning of a line that is no row.
-pub const NAMES: [&str; 17] = [
+pub const NAMES: [&str; 15] = [
     "#",
     "call ",
     "source",
@@ -24,8 +24,6 @@ pub const NAMES: [&str; 17] = [
     "loops",
     "said",
     "steps",
-    "begin",
-    "end",
     "limit",
 ];
 
@@ -44,7 +42,7 @@ impl Calls for Meanings {
             "type" => tell_type(row, told),
             "checked" => tell_checked(row, told),
             "breaches" => tell_breaches(row, told),
-            "pattern" => tell_pattern(row, told),
+            "fault" => tell_faults(row, told),
             "named" => tell_named(row, told),
             "scans" => tell_scans(row, told),
             "size" => tell_size(row, told),

@@ -1,11 +1,12 @@
 //! Reads rows, each a case with its source and a stretch of scans, and prints the stretch, and the report of a claim that it shows, a line
-//! a row.
+//! a row; or with the values of one scan, and prints what the requirement says of it.
 //!
 //! The crate's README has the form of the rows.
 #![tactic(auto)]
 
 mod claim;
 mod files;
+mod judged;
 mod rows;
 mod trace;
 

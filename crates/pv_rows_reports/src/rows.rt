@@ -1,6 +1,7 @@
 //! Rows, run one by one.
 use crate::claim::verdict_of;
 use crate::files::files_of;
+use crate::judged::tell_judged;
 use crate::trace::{said, trace_of};
 use pv_claims::{Ending, Trace};
 use pv_command_load::{SourceText, Subject, SubjectStop, subject_in};
@@ -12,9 +13,11 @@ use pv_rows_form::{Calls, Row, Told};
 use pv_stretch::{Stretch, StretchEnd, StretchStart, run_stretch};
 
 /// What may stand at the beginning of a line that is no row.
-pub const NAMES: [&str; 7] = ["#", "file", "lines", "with", "start", "scans", "claim"];
+pub const NAMES: [&str; 9] = [
+    "#", "file", "lines", "with", "start", "scans", "claim", "begin", "end",
+];
 
-/// Rows that are stretches, and reports of them.
+/// Rows that are stretches, and reports of them, or single scans.
 pub struct Stretches;
 
 /// Runs the stretch from where the trace begins.
@@ -116,6 +119,16 @@ fn tell_subject(subject: &Subject, row: Row<'_>, told: &mut Told) {
     }
 }
 
+/// What the requirement says of the row's scan, where it has one; else the row's stretch.
+fn tell_asked(subject: &Subject, row: Row<'_>, told: &mut Told) {
+    let end = said(row, "end", told);
+    if end.as_str().is_empty() {
+        tell_subject(subject, row, told);
+    } else {
+        tell_judged(&subject.pattern, row, told);
+    }
+}
+
 /// The line of a fault.
 fn tell_stop(stop: &SubjectStop, told: &mut Told) {
     match stop.text(told.alloc()) {
@@ -129,7 +142,7 @@ impl Calls for Stretches {
         let mut files = files_of(row, told);
         match subject_in(told.alloc(), &mut files, "c.json") {
             Ok(subject) => {
-                tell_subject(&subject, row, told);
+                tell_asked(&subject, row, told);
                 drop(subject);
             }
             Err(stop) => {

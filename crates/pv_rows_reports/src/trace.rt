@@ -9,7 +9,7 @@ pub fn said(row: Row<'_>, name: &str, told: &mut Told) -> String {
 }
 
 /// The numbers that stand in a text between blanks.
-fn values_of(text: &str, told: &mut Told) -> CellValues {
+pub fn values_of(text: &str, told: &mut Told) -> CellValues {
     let mut values = CellValues::new(told.alloc());
     for word in text.split(' ') {
         if let Ok(value) = word.parse::<i128>() {

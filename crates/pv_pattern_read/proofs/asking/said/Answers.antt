@@ -1,8 +1,6 @@
-use Rattle.std.proofs.Common.{Err, sym, subst}
-use Rattle.std.specs.Prelude.{IfSome}
+use Rattle.std.proofs.Common.{subst}
 use Rattle.pv_tree.specs.View.{expr_tree}
 use Rattle.pv_names.specs.InScope.{scope_of}
-use Rattle.pv_pattern.specs.Texts.{IsTextOf}
 use Rattle.pv_pattern_read.specs.Answers.{AnswersExpr}
 use Rattle.pv_pattern_read.proofs.TextLaws.{of_expr, none_is, some_is}
 use Rattle.pv_pattern_read.proofs.asking.said.Goals as goal

@@ -1,4 +1,4 @@
-use Rattle.std.proofs.Common.{◌<◌, length, sym, ap, ◌∙◌, arith, add-one}
+use Rattle.std.proofs.Common.{◌<◌, length, sym, ◌∙◌, arith, add-one}
 use Rattle.pv_tree.specs.View.{operand_tree}
 use Rattle.pv_names.specs.InScope.{scope_of}
 use Rattle.pv_pattern.specs.Texts.{is_brief_operand}

@@ -1,9 +1,10 @@
-use Rattle.std.proofs.Common.{[], ◌∷◌, ap}
+use Rattle.std.proofs.Common.{[], ◌∷◌, ap, ◌∙◌}
 use Rattle.std.proofs.lemmas.Result.{IfOk-weaker}
 use Rattle.pv_mean.specs.Values.{function_result}
 use Rattle.pv_eval.specs.declared.node.OneOp.TheVariants as one
 use Rattle.pv_eval.specs.declared.node.TwoOp.TheVariants as two
 use Rattle.pv_eval.specs.declared.node.ThreeOp.TheVariants as three
+use Rattle.pv_resolve.specs.Functions.{arity}
 use Rattle.pv_pattern_read.proofs.Termed.{of_function_1, of_function_2, of_function_3}
 use Rattle.pv_pattern_read.proofs.making.function_term.Goals as goal
 
@@ -62,3 +63,27 @@ returns-in-Shr c = λ source place args type_is h.
     (λ t o. of_function_2 source c.args.function two.Shr c.args.ty place args c.args.terms.items t
     (λ a b. ap (λ f. function_result f c.args.ty (a ∷ b ∷ [])) c.in-Shr.is) type_is h o)
     c.of_two-in-Shr.ensures
+
+pub of_one-requires : goal.of_one-requires
+of_one-requires c = c.requires ∙ ap arity c.in-Convert.is
+
+pub of_one-requires-in-Abs : goal.of_one-requires-in-Abs
+of_one-requires-in-Abs c = c.requires ∙ ap arity c.in-Abs.is
+
+pub of_two-requires : goal.of_two-requires
+of_two-requires c = c.requires ∙ ap arity c.in-Min.is
+
+pub of_two-requires-in-Max : goal.of_two-requires-in-Max
+of_two-requires-in-Max c = c.requires ∙ ap arity c.in-Max.is
+
+pub of_three-requires : goal.of_three-requires
+of_three-requires c = c.requires ∙ ap arity c.in-Limit.is
+
+pub of_three-requires-in-Sel : goal.of_three-requires-in-Sel
+of_three-requires-in-Sel c = c.requires ∙ ap arity c.in-Sel.is
+
+pub of_two-requires-in-Shl : goal.of_two-requires-in-Shl
+of_two-requires-in-Shl c = c.requires ∙ ap arity c.in-Shl.is
+
+pub of_two-requires-in-Shr : goal.of_two-requires-in-Shr
+of_two-requires-in-Shr c = c.requires ∙ ap arity c.in-Shr.is

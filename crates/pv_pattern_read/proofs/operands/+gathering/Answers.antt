@@ -1,8 +1,8 @@
-use Rattle.std.proofs.Common.{[], ◌∷◌, ◌++◌, refl, map, ap, sym, ◌∙◌, arith}
-use Rattle.pv_tree.specs.View.{exprs_of, expr_tree, operand_tree, step_tree, steps_of}
-use Rattle.pv_tree.specs.Operands.{operands_in, operands_in_args, operands_in_steps}
-use Rattle.pv_tree.proofs.ForCallers.{binary_seen, std_seen}
-use Rattle.pv_pattern_read.proofs.Gathering.{gathered_both, gathered_next, gathered_last, args_left, steps_left, no_args_left, no_steps_left, operand_first}
+use Rattle.std.proofs.Common.{◌++◌, refl, map, ap, sym, arith}
+use Rattle.pv_tree.specs.View.{expr_tree, operand_tree}
+use Rattle.pv_tree.specs.Operands.{operands_in}
+use Rattle.pv_tree.proofs.ForCallers.{std_seen}
+use Rattle.pv_pattern_read.proofs.Gathering.{gathered_next, gathered_last, args_left, no_args_left}
 use Rattle.pv_pattern_read.proofs.operands.+gathering.Goals as goal
 
 pub push_expr-loop-arg-init : goal.push_expr-loop-arg-init

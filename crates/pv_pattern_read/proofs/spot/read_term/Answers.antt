@@ -7,5 +7,5 @@ use Rattle.pv_pattern_read.proofs.spot.read_term.Goals as goal
 pub returns : goal.returns
 returns c = λ source is entered.
     IfOk-weaker c.term_at.result _ _
-    (λ t s. of_read source (operand_tree c.args.operand.now) t (spot_of c.in_ok-spot.spot) (c.is_fixed.ensures c.if-not-is_fixed.false)
-    (c.in_ok-spot.ensures source is entered) s) c.term_at.ensures
+    (λ t s. of_read source (operand_tree c.args.operand.now) t (spot_of c.in_ok-spot.spot) c.requires.has.literal
+    (c.in_ok-spot.ensures.spot source is entered) s) c.term_at.ensures

@@ -1,5 +1,4 @@
-use Rattle.std.proofs.Common.{subst, arith}
-use Rattle.pv_tree.specs.View.{expr_tree}
+use Rattle.std.proofs.Common.{subst}
 use Rattle.pv_scl_parse.specs.Answers.{AnswersExpression}
 use Rattle.pv_pattern_read.proofs.Telling.{outside_unread, syntax_unread, deep_unread}
 use Rattle.pv_pattern_read.proofs.text.expression_among.Goals as goal

@@ -1,4 +1,4 @@
-use Rattle.std.proofs.Common.{ℕ, List, sym, subst, ◌∙◌}
+use Rattle.std.proofs.Common.{ℕ, List, subst}
 use Rattle.pv_lex.specs.declared.token.Language.TheVariants.{Scl}
 use Rattle.pv_lex.specs.Tokens.{IsFault}
 use Rattle.pv_pattern_read.proofs.Telling.{found_in, none_in, faultless}
