@@ -41,13 +41,3 @@ next_of [] before end = []
 next_of (s ∷ start) [] end = []
 next_of (s ∷ start) (x ∷ before) [] = []
 next_of (s ∷ start) (x ∷ before) (y ∷ end) = (if is_moved s then y else x) ∷ next_of start before end
-
--- no bit has one value in every state
-abbrev pub IsFixed : Start → Type 0
-IsFixed (Fixed b) = ⊤
-IsFixed (Begins b) = ⊥
-IsFixed Free = ⊥
-
-abbrev pub NoneFixed : List Start → Type 0
-NoneFixed [] = ⊤
-NoneFixed (s ∷ start) = (IsFixed s → ⊥) × NoneFixed start

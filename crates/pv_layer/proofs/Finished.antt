@@ -1,17 +1,15 @@
 -- All spots came: the parts are the automaton of their layout, and legal where spots and loops are a sound text, as those of a typed body.
-use Rattle.std.proofs.Common.{◌≡◌, ℕ, suc, ◌+◌, ◌≤◌, List, [], ◌∷◌, map, length, Some, None, All, refl, sym, subst, ap, ◌∙◌, arith}
-use Rattle.std.proofs.lemmas.List.{length-append}
+use Rattle.std.proofs.Common.{◌≡◌, ℕ, suc, ◌+◌, ◌≤◌, List, map, length, Some, None, All, refl, sym, subst, ap, ◌∙◌}
 use Rattle.pv_flow.specs.declared.parts.Parts.{Parts as CodeParts}
 use Rattle.pv_flow.specs.Automata.{Variable, Edge, CallEdge, Loop, TrapEnd, OverEnd, Parts, type_at}
 use Rattle.pv_flow.specs.Faults.{IsFaultless}
 use Rattle.pv_flow.specs.WellMade.{IsVariable, IsWellMade}
 use Rattle.pv_flow.specs.View.{terms_of, edge_of, call_edge_of, loop_of, trap_end_of, over_end_of, parts_of as seen_parts}
-use Rattle.pv_layout.specs.Spots.{way, Spot, Act, Branch}
-use Rattle.pv_layout.specs.Flows.{Flow, act, enter, leave, then_, if_, choice, while_, for_, repeat_}
-use Rattle.pv_layout.specs.Layout.{Head, Text, Exits, before, in_loop, to_done, width, loops_in, spots_of, text_of, marks_of, turned_loops, edges_of, calls_of, traps_of, checks_in, parts_of}
+use Rattle.pv_layout.specs.Spots.{Spot}
+use Rattle.pv_layout.specs.Layout.{Head, Text, to_done, width, text_of, marks_of, turned_loops, edges_of, calls_of, traps_of, checks_in, parts_of}
 use Rattle.pv_layout.specs.Sound.{IsSoundText}
 use Rattle.pv_layout.specs.Bodies.{Body, IsTypedBody}
-use Rattle.pv_layout.proofs.ForCallers.{texts_are_legal, flow_sound}
+use Rattle.pv_layout.proofs.ForCallers.{length_spots, texts_are_legal, flow_sound}
 use Rattle.pv_layer.specs.Standing.{Stands}
 use Rattle.pv_layer.specs.Finished.{AreParts, AreLegal, AreBody}
 
@@ -77,31 +75,6 @@ are_parts head done spots loops p here truth h all = record {
 
 -- ---- legal
 
-spots_wide : (f : Flow) (a i : ℕ) (to : Exits) → length (spots_of f a i to) ≡ width f
-spots_wide (act checks sets) a i to = refl
-spots_wide (enter block instance place) a i to = refl
-spots_wide (leave which) a i to = refl
-spots_wide (then_ f g) a i to =
-    let all = length-append (spots_of f a i (before (a + width f) to)) (spots_of g (a + width f) (i + loops_in f) to) in
-    let one = spots_wide f a i (before (a + width f) to) in
-    let other = spots_wide g (a + width f) (i + loops_in f) to in
-    omega (arith, all, one, other)
-spots_wide (if_ checks c f) a i to = ap (λ (n : ℕ). suc n) (spots_wide f (suc a) i to)
-spots_wide (choice checks c f g) a i to =
-    let all = length-append (spots_of f (suc a) i to) (spots_of g (suc a + width f) (i + loops_in f) to) in
-    let one = spots_wide f (suc a) i to in
-    let other = spots_wide g (suc a + width f) (i + loops_in f) to in
-    omega (arith, all, one, other)
-spots_wide (while_ checks c f place) a i to = ap (λ (n : ℕ). suc n) (spots_wide f (suc a) (suc i) (in_loop a to))
-spots_wide (for_ checks c f sets place) a i to =
-    let all = length-append (spots_of f (suc a) (suc i) (in_loop (suc a + width f) to)) (Act [] (way a sets None) ∷ []) in
-    let one = spots_wide f (suc a) (suc i) (in_loop (suc a + width f) to) in
-    omega (arith, all, one)
-spots_wide (repeat_ f checks c place) a i to =
-    let all = length-append (spots_of f a (suc i) (in_loop (a + width f) to)) (Branch checks c (way to.next [] None) (way a [] (Some i)) ∷ []) in
-    let one = spots_wide f a (suc i) (in_loop (a + width f) to) in
-    omega (arith, all, one)
-
 pub are_legal : (head : Head) (done : ℕ) (text : Text) (p : CodeParts) (here truth : ℕ)
     → Stands head done text.spots text.loops p here truth → length text.spots ≡ done
     → All IsVariable head.vars → head.bound + head.shared ≤ length head.vars → IsSoundText (length head.vars) (type_at head.vars) text
@@ -124,4 +97,4 @@ are_body body p here truth h typed = record {
 }
   where
     all : length (text_of body.code).spots ≡ width body.code
-    all = spots_wide body.code 0 0 (to_done (width body.code))
+    all = length_spots body.code 0 0 (to_done (width body.code))

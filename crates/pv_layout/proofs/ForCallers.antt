@@ -2,6 +2,7 @@
 pub use Rattle.pv_layout.proofs.Guards.{IsBit, true_is, holds_both, on_both, on_negated, spots_choose, one_edge}
 pub use Rattle.pv_layout.proofs.Rounds.{reach_then, reach_from, reach_to}
 pub use Rattle.pv_layout.proofs.FlowRuns.{flow_acts}
+pub use Rattle.pv_layout.proofs.Laying.{length_spots}
 pub use Rattle.pv_layout.proofs.Whole.{whole_reaches}
 pub use Rattle.pv_layout.proofs.PartRuns.{parts_run}
 pub use Rattle.pv_layout.proofs.BlockRuns.{blocks_run}

@@ -11,7 +11,6 @@ mod Fields
 mod Walking
 mod Elements
 mod Loops
-mod Instances
 mod Rooms
 mod Roots
 mod Nears

@@ -32,9 +32,9 @@ use Rattle.pv_mean.specs.Layout.{Laid, size_of_name, size_in, size_among, laid_a
 use Rattle.pv_mean.specs.Sources.{Source}
 use Rattle.pv_mean.specs.Activations.{Begins, in_visible, in_brief, at, visible_where, brief_where}
 use Rattle.pv_mean.specs.Values.{field_begins}
+use Rattle.pv_mean.proofs.ForCallers.{size_laid_out, instance_among}
 use Rattle.pv_eval.specs.Operands.{span}
 use Rattle.pv_resolve.specs.Rooms.{IsNested, IsRight, IsSound, IsRoomy, BeginsRoomy}
-use Rattle.pv_resolve.proofs.Instances.{size_laid_out, instance_among}
 
 -- ---- lists
 
