@@ -1,9 +1,12 @@
 //! What a command works on that is of the first form, by all its stages up to that.
-ghost use Rattle.std.specs.Prelude.{◌≡◌, ◌≢◌, ◌≤◌, ℕ, List, [], Option, length, All, Some, Ok, Err, IfOk, IfErr, MatchResult, slice_get, string_bytes};
+ghost use Rattle.std.specs.Prelude.{◌≡◌, ◌≢◌, ◌≤◌, ℕ, List, [], Option, length, map, All, Some, Ok, Err, IfOk, IfErr, MatchResult, slice_get, string_bytes};
 ghost use Rattle.pv_edge.specs.Files.{FileMap};
 ghost use Rattle.pv_lex.specs.declared.lex.TheConstants.{MAX_SOURCE};
+ghost use Rattle.pv_tree.specs.View.{block_trees};
 ghost use Rattle.pv_case.specs.Cases.{data_of};
 ghost use Rattle.pv_command_load.specs.Held.{Counts, IsUnread};
+ghost use Rattle.pv_command_load.specs.ReadTexts.{AreRead};
+ghost use Rattle.pv_command_load.specs.Stops.{text_tree};
 ghost use Rattle.pv_command_load.specs.Subjects.{Given, blocks_of, SubjectData};
 ghost use Rattle.pv_command_load.specs.Reads.{HoldsCase, ReadsSources, Reads};
 ghost use Rattle.pv_command_load.specs.Made.{IsCase, AreGiven, IsProjectOf};
@@ -57,6 +60,7 @@ fn first_project(
     texts: &[SourceText],
     blocks: Blocks,
 ) -> Result<Project, FirstStop>
+    requires { AreRead (map text_tree texts.now) (block_trees blocks.list.items) }
     ensures found { (given : Given) → data_of case.now ≡ given.case → IsFirstCase given.case
         → AreGiven texts.now blocks.list.items [] given
         → IfOk result (λ project. IsProjectOf given project × IsFirstAlone (blocks_of given)) }

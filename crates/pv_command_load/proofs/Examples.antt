@@ -1,7 +1,7 @@
 -- Places and fault lines as they are printed, found by hand.
 use Rattle.std.proofs.Common.{◌≡◌, codes, refl, [], ◌∷◌}
 use Rattle.std.specs.Fmt.{digits}
-use Rattle.pv_case.specs.declared.fault.Kind.TheVariants.{MissingField}
+use Rattle.pv_case.specs.declared.fault.Kind.TheVariants.{MissingField, UnknownField}
 use Rattle.pv_lex.specs.declared.fault.FaultKind.TheVariants.{NumberTooWide}
 use Rattle.pv_tree.specs.Rules.{out_of_range}
 use Rattle.pv_command_load.specs.Positions.{FileText, position_text}
@@ -54,6 +54,13 @@ no_json = refl
 
 no_version : case_refusal_line (broken MissingField (codes "version")) ≡ codes "plcv: case: MissingField version\n"
 no_version = refl
+
+-- a name of three lines, of which the first is told, and one whose first line is empty
+many_lines : case_refusal_line (broken UnknownField (codes "a\nb\n")) ≡ codes "plcv: case: UnknownField a\n"
+many_lines = refl
+
+no_line : case_refusal_line (broken UnknownField (codes "\nb")) ≡ codes "plcv: case: UnknownField \n"
+no_line = refl
 
 wide_number : source_line (lex NumberTooWide (codes "a.scl:7:6")) ≡ codes "plcv: a.scl:7:6: Lex NumberTooWide\n"
 wide_number = refl

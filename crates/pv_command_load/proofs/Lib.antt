@@ -1,6 +1,8 @@
 mod Examples
 pub mod Exits
 mod Lines
+mod LineLaws
+pub mod Located
 pub mod CaseTexts
 pub mod EntryLaws
 mod ProjectLaws

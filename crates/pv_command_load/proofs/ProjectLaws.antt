@@ -16,7 +16,7 @@ use Rattle.pv_case.specs.declared.case.Symbol.{Symbol}
 use Rattle.pv_case.specs.Cases.{symbol_data}
 use Rattle.pv_command_load.specs.declared.position.SourceText.{SourceText}
 use Rattle.pv_command_load.specs.declared.project.ProjectStop.{ProjectStop}
-use Rattle.pv_command_load.specs.Positions.{FileText, place_text}
+use Rattle.pv_command_load.specs.Positions.{FileText, place_text, LiesAmong}
 use Rattle.pv_command_load.specs.Refusals as r
 use Rattle.pv_command_load.specs.Refusals.{ProjectRefusal}
 use Rattle.pv_command_load.specs.Subjects.{Given, project_of, symbol_of, texts_of, RefusesProject}
@@ -42,12 +42,13 @@ pub is_kept : (given : Given) (tree : ProjectTree) (project : Project) → tree 
 is_kept given tree project is kept = record { keeps = subst KeepsRules is kept.keeps; same = kept.same ∙ is }
 
 pub is_broken : (given : Given) (tree : ProjectTree) (texts : List FileText) (rule : Rule) (place : Place) (stop : ProjectStop)
-    → tree ≡ project_of given → texts ≡ texts_of given → IsLeastFault tree rule place
+    → tree ≡ project_of given → texts ≡ texts_of given → IsLeastFault tree rule place → LiesAmong texts place
     → project_stopped stop ≡ refused (r.rule rule (place_text texts place)) → StopsProject given stop
-is_broken given tree texts rule place stop is are least stopped =
+is_broken given tree texts rule place stop is are least lies stopped =
     let refuses : RefusesProject given (r.rule rule (place_text texts place)) = record {
       place = place;
       least = subst (λ p. IsLeastFault p rule place) is least;
+      lies = subst (λ t. LiesAmong t place) are lies;
       is_there = ap (λ t. place_text t place) are;
     } in
     subst (λ (s : Stopped ProjectRefusal). StopsAt asks_none (RefusesProject given) s) (sym stopped) refuses

@@ -9,6 +9,7 @@ pub mod Reads
 pub mod Stopped
 pub mod Stops
 pub mod Gathered
+pub mod ReadTexts
 -- what the stages make, by the code's types
 pub mod Made
 -- what laws will say

@@ -1,7 +1,7 @@
 -- Places as they are printed, FILE:LINE:COLUMN, by the bytes of a source. Lines and columns count from 1. A line ends with a line
 -- feed alone, and a column is a byte.
-use Rattle.std.specs.Prelude.{ℕ, ◌+◌, ◌==◌, List, [], ◌++◌, take, count_by, codes, decimal, Bool, not, Option, Some, None, slice_get}
-use Rattle.std.specs.List.{suffix_len}
+use Rattle.std.specs.Prelude.{◌≡◌, ℕ, ◌+◌, ◌==◌, ◌≤◌, List, [], ◌++◌, length, take, count_by, codes, decimal, Bool, not, Option, Some, None, IsSomeAnd, slice_get}
+use Rattle.std.specs.List.{suffix_len, slice_split, sum_by}
 use Rattle.pv_place.specs.declared.place.Place.{Place}
 
 -- a source: its file's name, and the bytes that the file holds
@@ -36,3 +36,26 @@ position_where (Some text) offset = position_text text offset
 -- where a place lies in these sources, whose numbers are those of its files
 abbrev pub place_text : List FileText → Place → List ℕ
 place_text texts place = position_where (slice_get texts place.file) place.offset
+
+-- it lies in one of them: its file is the number of one, and no more bytes stand before it than that has
+abbrev pub LiesAmong : List FileText → Place → Type 0
+LiesAmong texts place =
+    IsSomeAnd (slice_get texts place.file) (λ text. place.offset ≤ length text.bytes)
+
+-- ---- lines and columns within a source
+
+-- its lines, without their line feeds; behind a last line feed stands an empty one
+abbrev pub lines_in : List ℕ → List (List ℕ)
+lines_in bytes = slice_split is_feed bytes
+
+-- there is such a line and such a column of it, the one behind its last byte at most, and behind so many bytes stands no other: so many
+-- whole lines with their line feeds are before it, and so many bytes of its own line
+pub record IsLineAndColumn (bytes : List ℕ) (offset line column : ℕ) : Type 0 where
+  pub lines : ℕ
+  pub of_line : ℕ
+  pub its_line : List ℕ
+  pub is_line : slice_get (lines_in bytes) lines ≡ Some its_line
+  pub within : of_line ≤ length its_line
+  pub is_offset : offset ≡ sum_by (λ l. length l + 1) (take lines (lines_in bytes)) + of_line
+  pub line_is : line ≡ lines + 1
+  pub column_is : column ≡ of_line + 1

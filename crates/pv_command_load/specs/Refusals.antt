@@ -1,12 +1,14 @@
 -- Why what is read is refused, stage by stage, with what is told of it: places and words as they are printed, and names of files
 -- and of members of the case. Each refusal has a status and a fault line.
 use Rattle.std.specs.Prelude.{ℕ, List, [], ◌++◌, codes, decimal, slice_get, unwrap_or}
+use Rattle.std.specs.List.{before_first}
 use Rattle.pv_types.specs.declared.layout.TheConstants.{MAX_LEAVES}
 use Rattle.pv_lex.specs.declared.fault.FaultKind.{FaultKind}
 use Rattle.pv_lex.specs.declared.lex.TheConstants.{MAX_SOURCE}
 use Rattle.pv_tree.specs.Rules.{Rule, number_of}
 use Rattle.pv_case.specs.declared.fault.Kind.{Kind}
 use Rattle.pv_case.specs.Fields.{expression_names}
+use Rattle.pv_command_load.specs.Positions.{is_feed}
 use Rattle.pv_command_load.specs.Words.{kind_word, lex_word}
 
 -- ---- the refusals
@@ -72,9 +74,14 @@ read_line file = codes "plcv: read " ++ (file ++ codes "\n")
 abbrev pub form_line : List ℕ → List ℕ
 form_line file = codes "plcv: form " ++ (file ++ codes "\n")
 
--- of a rule on cases, with the member that breaks it
+-- a text up to its first line feed, or all of it where it has none
+abbrev pub first_line : List ℕ → List ℕ
+first_line text = before_first is_feed text
+
+-- of a rule on cases, with the member that breaks it; of a name of several lines the first is told
 abbrev pub case_line : List ℕ → List ℕ → List ℕ
-case_line word field = codes "plcv: case: " ++ (word ++ (codes " " ++ (field ++ codes "\n")))
+case_line word field =
+    codes "plcv: case: " ++ (word ++ (codes " " ++ (first_line field ++ codes "\n")))
 
 -- of what is at fault at a place of a source
 abbrev pub place_line : List ℕ → List ℕ → List ℕ

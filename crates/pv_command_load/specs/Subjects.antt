@@ -18,7 +18,7 @@ use Rattle.pv_pattern_read.specs.Kinds.{IsReadPattern}
 use Rattle.pv_case.specs.Cases.{CaseData, SymbolData}
 use Rattle.pv_case_fit.specs.Entries.{IsEntry}
 use Rattle.pv_case_fit.specs.Inputs.{Views, IsStray, IsMisfit}
-use Rattle.pv_command_load.specs.Positions.{FileText, place_text}
+use Rattle.pv_command_load.specs.Positions.{FileText, place_text, LiesAmong}
 use Rattle.pv_command_load.specs.Refusals.{ProjectRefusal, rule, TableRefusal, no_entry, too_many_cells, FitRefusal, not_an_input, bound_range, pattern_text, pattern_rule, brief_cell, not_bool}
 use Rattle.pv_command_load.specs.Sources.{ReadSource}
 
@@ -42,10 +42,11 @@ symbol_of s = record { name = s.name; at = s.at; ty = s.ty }
 abbrev pub project_of : Given → ProjectTree
 project_of given = record { blocks = blocks_of given; symbols = map symbol_of given.case.symbols }
 
--- the first breach of a rule of the language over all sources, and what is printed for its place
+-- the first breach of a rule of the language over all sources, which lies in one of them, and what is printed for its place
 pub record IsFirstBreach (given : Given) (rule : Rule) (at : List ℕ) : Type 0 where
   pub place : Place
   pub least : IsLeastFault (project_of given) rule place
+  pub lies : LiesAmong (texts_of given) place
   pub is_there : at ≡ place_text (texts_of given) place
 
 abbrev pub RefusesProject : Given → ProjectRefusal → Type 0

@@ -4,7 +4,7 @@ ghost use Rattle.pv_case.specs.declared.case.TheConstants.{MAX_SOURCES};
 ghost use Rattle.pv_case.specs.Cases.{data_of};
 ghost use Rattle.pv_command_load.specs.Held.{Counts, IsUnread};
 ghost use Rattle.pv_command_load.specs.Words.{kind_word};
-ghost use Rattle.pv_command_load.specs.Refusals.{case_line, case_refusal_line};
+ghost use Rattle.pv_command_load.specs.Refusals.{first_line, case_line, case_refusal_line};
 ghost use Rattle.pv_command_load.specs.Reads.{HoldsCase};
 ghost use Rattle.pv_command_load.specs.Stopped.{stopped_text};
 ghost use Rattle.pv_command_load.specs.Stops.{StopsCase, case_stopped, case_status, case_unread};
@@ -70,10 +70,21 @@ fn name_of(kind: Kind) -> &'static str
     }
 }
 
-/// The fault line of a rule on cases, with the member that breaks it.
+/// A text up to its first line feed, or all of it where it has none.
+fn first_line(text: &str) -> &str
+    ensures { result.now ≡ first_line text.now }
+{
+    match text.split_once('\n') {
+        Some((line, _behind)) => line,
+        None => text,
+    }
+}
+
+/// The fault line of a rule on cases, with the member that breaks it. Of a name of several lines the first is told, so the line is one.
 pub(crate) fn case_line(alloc: Global, rule: &str, field: &str) -> Result<String, AllocError>
     ensures { IfOk result (λ text. string_bytes text ≡ case_line rule.now field.now) }
 {
+    let field = first_line(field);
     format!(in alloc; "plcv: case: {rule} {field}\n")
 }
 

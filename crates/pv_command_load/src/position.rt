@@ -1,6 +1,6 @@
 //! Places as they are printed.
 ghost use Rattle.std.specs.Prelude.{◌≡◌, IfOk, map, string_bytes};
-ghost use Rattle.pv_command_load.specs.Positions.{line_behind, column_behind, position_text, place_text};
+ghost use Rattle.pv_command_load.specs.Positions.{line_behind, column_behind, position_text, place_text, LiesAmong};
 ghost use Rattle.pv_command_load.specs.Stops.{at_text, text_tree};
 
 use pv_place::Place;
@@ -54,17 +54,18 @@ impl SourceText {
 }
 
 impl SourcePosition {
-    /// Where a place lies in these sources, whose numbers are those of its files.
+    /// Where a place lies that is in one of these sources, whose numbers are those of its files.
     pub fn of(
         alloc: Global,
         sources: &[SourceText],
         place: Place,
     ) -> Result<SourcePosition, AllocError>
+        requires { LiesAmong (map text_tree sources.now) place }
         ensures { IfOk result (λ at. at_text at ≡ place_text (map text_tree sources.now) place) }
     {
         match sources.get(place.file as usize) {
             Some(source) => source.position(alloc, place.offset),
-            None => Err(AllocError),
+            None => unreachable!(),
         }
     }
 

@@ -1,9 +1,11 @@
 //! The third stage of a command: the rules of the language, over all sources.
 ghost use Rattle.std.specs.Prelude.{◌≡◌, map, Some, IfOk, IfErr, string_bytes};
+ghost use Rattle.pv_tree.specs.View.{block_trees};
 ghost use Rattle.pv_rules_decl.specs.Names.{rule_of};
 ghost use Rattle.pv_command_load.specs.Refusals as refusals;
 ghost use Rattle.pv_command_load.specs.Refusals.{project_line};
-ghost use Rattle.pv_command_load.specs.Positions.{place_text};
+ghost use Rattle.pv_command_load.specs.Positions.{place_text, LiesAmong};
+ghost use Rattle.pv_command_load.specs.ReadTexts.{AreRead};
 ghost use Rattle.pv_command_load.specs.Subjects.{Given};
 ghost use Rattle.pv_command_load.specs.Stopped.{refused, stopped_status, stopped_text};
 ghost use Rattle.pv_command_load.specs.Stops.{text_tree, at_text, project_stopped, StopsProject};
@@ -82,6 +84,7 @@ fn symbols_of(alloc: Global, symbols: Vec<Symbol>) -> Result<Vec<(Name, Operand,
 
 /// The stop at a breach.
 fn broken(alloc: Global, sources: &[SourceText], breach: Breach) -> Result<ProjectStop, AllocError>
+    requires { LiesAmong (map text_tree sources.now) breach.place }
     ensures { IfOk result (λ stop. project_stopped stop
         ≡ refused (refusals.rule (rule_of breach.rule) (place_text (map text_tree sources.now) breach.place))) }
 {
@@ -92,13 +95,14 @@ fn broken(alloc: Global, sources: &[SourceText], breach: Breach) -> Result<Proje
     })
 }
 
-/// The project of the blocks of these sources and of these symbols.
+/// The project of the blocks of these sources, as which they are read, and of these symbols.
 pub fn project_of(
     alloc: Global,
     sources: &[SourceText],
     blocks: Blocks,
     symbols: Vec<Symbol>,
 ) -> Result<Project, ProjectStop>
+    requires { AreRead (map text_tree sources.now) (block_trees blocks.list.items) }
     ensures found { (given : Given) → AreGiven sources.now blocks.list.items symbols.items given
         → IfOk result (IsProjectOf given) }
     ensures stopped { (given : Given) → AreGiven sources.now blocks.list.items symbols.items given

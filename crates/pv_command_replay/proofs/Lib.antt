@@ -2,6 +2,7 @@ mod Examples
 pub mod OneEnd
 pub mod Ending
 pub mod Places
+pub mod Located
 pub mod Starts
 pub mod TraceLaws
 pub mod Saying

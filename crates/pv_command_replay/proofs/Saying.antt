@@ -6,7 +6,7 @@ use Rattle.pv_edge.specs.Files.{FileMap}
 use Rattle.pv_mean.specs.Runs.{run}
 use Rattle.pv_claims.specs.declared.trace.Trace.{Trace}
 use Rattle.pv_command_load.specs.declared.subject.Subject.{Subject}
-use Rattle.pv_command_load.specs.Subjects.{SubjectData, source_in}
+use Rattle.pv_command_load.specs.Subjects.{texts_of, SubjectData, source_in}
 use Rattle.pv_command_load.specs.Reads.{Reads}
 use Rattle.pv_command_load.specs.Held.{Counts, IsUnread}
 use Rattle.pv_command_load.specs.Stops.{text_tree}
@@ -18,6 +18,7 @@ use Rattle.pv_command_replay.specs.declared.trace.TraceStop.{TraceStop}
 use Rattle.pv_command_replay.specs.declared.replay.ReplayStop.{ReplayStop}
 use Rattle.pv_command_replay.specs.declared.replay.ReplayStop.TheVariants as replay_stop
 use Rattle.pv_command_replay.specs.Ends.{IsEnd}
+use Rattle.pv_command_replay.specs.Located.{EndLies}
 use Rattle.pv_command_replay.specs.Traces.{HoldsTrace, StopsTrace}
 use Rattle.pv_command_replay.specs.Judged.{HasValuesOf}
 use Rattle.pv_command_replay.specs.Replays.{IsReplayed, IsRan, IsReportOf, StopsReplay, stop_status, stop_unread, SaysReplay, replay_status, replay_unread}
@@ -28,22 +29,31 @@ module _ (told again : Option FileMap) (case_file trace_file : List ℕ) (subjec
   pub says_ran : (trace : Trace) (end : End) → Reads told case_file s → IsSubject subject s → again ≡ told
       → HoldsTrace again trace_file (source_in s) trace
       → (HasValuesOf (source_in s) trace → IsEnd (source_in s) s.pattern (run (source_in s) trace.params trace.inputs) end)
+      → (IsEnd (source_in s) s.pattern (run (source_in s) trace.params trace.inputs) end → EndLies (texts_of s.given) end)
       → IsRan told case_file trace_file s (record { subject = subject; trace = trace; end = end })
-  says_ran trace end reads is same held ends = record {
-    subject = is;
-    replayed = record {
-      reads = reads;
-      trace = trace;
-      trace_held = subst (λ t. HoldsTrace t trace_file (source_in s) trace) same held;
-      ends = ends (has_values again trace_file (source_in s) trace held);
-    };
-    trace = refl;
-  }
+  says_ran trace end reads is same held ends lies =
+      let ends_so = ends (has_values again trace_file (source_in s) trace held) in
+      record {
+        subject = is;
+        replayed = record {
+          reads = reads;
+          trace = trace;
+          trace_held = subst (λ t. HoldsTrace t trace_file (source_in s) trace) same held;
+          ends = ends_so;
+          lies = lies ends_so;
+        };
+        trace = refl;
+      }
 
   -- it stops at its trace
   pub says_stopped : (stop : TraceStop) → Reads told case_file s → again ≡ told → StopsTrace again trace_file (source_in s) stop
       → StopsReplay told case_file trace_file (replay_stop.Trace stop)
   says_stopped stop reads same stops = (s, reads, subst (λ t. StopsTrace t trace_file (source_in s) stop) same stops)
+
+-- the place of its end lies in one of the sources that it has
+pub ran_lies : (told : Option FileMap) (case_file trace_file : List ℕ) (s : SubjectData) (ran : Ran) → IsRan told case_file trace_file s ran
+    → EndLies (map text_tree ran.subject.sources.items) ran.end
+ran_lies told case_file trace_file s ran is = subst (λ texts. EndLies texts ran.end) (sym is.subject.texts) is.replayed.lies
 
 -- a run is reported so
 pub reported_as : (s : SubjectData) (subject : Subject) (r : Replayed) → IsSubject subject s → r.case ≡ subject.case.name

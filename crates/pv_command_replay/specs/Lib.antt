@@ -2,6 +2,7 @@
 pub mod Ends
 pub mod Reports
 pub mod Traces
+pub mod Located
 pub mod Replays
 -- what laws say
 pub mod Correct

@@ -15,17 +15,20 @@ use Rattle.pv_command_replay.specs.declared.replay.Replayed.{Replayed}
 use Rattle.pv_command_replay.specs.declared.replay.ReplayStop.{ReplayStop}
 use Rattle.pv_command_replay.specs.declared.replay.ReplayStop.TheVariants as replay_stop
 use Rattle.pv_command_replay.specs.Ends.{IsEnd}
+use Rattle.pv_command_replay.specs.Located.{EndLies}
 use Rattle.pv_command_replay.specs.Reports.{end_status, report_text}
 use Rattle.pv_command_replay.specs.Traces.{HoldsTrace, HoldsNoTrace, trace_line, trace_stopped, StopsTrace}
 
 -- ---- what it does
 
--- the files hold what the command works on and a trace of it, and the run over the trace's scans ends so
+-- the files hold what the command works on and a trace of it, and the run over the trace's scans ends so, at a place, where the end has
+-- one, that lies in one of the sources
 pub record IsReplayed (told : Option FileMap) (case_file trace_file : List ℕ) (s : SubjectData) (end : End) : Type 0 where
   pub reads : Reads told case_file s
   pub trace : Trace
   pub trace_held : HoldsTrace told trace_file (source_in s) trace
   pub ends : IsEnd (source_in s) s.pattern (run (source_in s) trace.params trace.inputs) end
+  pub lies : EndLies (texts_of s.given) end
 
 -- they hold what the command works on and no trace of it: this line is the first with which none begins so
 pub record IsNoTrace (told : Option FileMap) (case_file trace_file : List ℕ) (s : SubjectData) (line : ℕ) : Type 0 where

@@ -6,12 +6,14 @@ mod end;
 pub mod laws;
 mod replay;
 mod report;
+mod running;
 mod scans;
 mod trace;
 
 pub use end::{Cause, End};
 pub use pv_command_load::laws::files_decide_one;
 pub use pv_command_load::{NO_MEMORY, Status, Subject, WORDS_REFUSED, WRITE_FAULT};
-pub use replay::{Ran, ReplayStop, Replayed, replay_in, run_in};
+pub use replay::{Ran, ReplayStop, Replayed};
 pub use report::end_lines;
+pub use running::{replay_in, run_in};
 pub use trace::TraceStop;

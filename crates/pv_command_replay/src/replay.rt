@@ -1,20 +1,16 @@
-//! The command `replay CASE TRACE`.
-ghost use Rattle.std.specs.Prelude.{◌≡◌, Ok, Some, IfOk, IfErr, MatchResult, string_bytes};
-ghost use Rattle.pv_command_load.specs.Held.{Counts, IsUnread};
-ghost use Rattle.pv_command_load.specs.Subjects.{SubjectData};
-ghost use Rattle.pv_command_replay.specs.Replays.{IsRan, StopsReplay, stop_status, stop_unread, stop_text, SaysReplay, replay_status, replay_unread, replay_text};
-ghost use Rattle.pv_command_replay.specs.declared.replay.ReplayStop.TheVariants.{Subject as AtSubject, Trace as AtTrace, NoMemory};
+//! What a replay comes to: what was run, what is reported of it, and why it stops before.
+ghost use Rattle.std.specs.Prelude.{map};
+ghost use Rattle.pv_command_load.specs.Stops.{text_tree};
+ghost use Rattle.pv_command_replay.specs.Located.{EndLies, EndLies-prop};
 
 use crate::end::End;
 use crate::report::report;
-use crate::scans::end_of;
-use crate::trace::{TraceStop, trace_in};
+use crate::trace::TraceStop;
 use pv_case::PatternKind;
 use pv_claims::Trace;
 use pv_command_load::{
-    HOLDS, HOLDS_NOT, NO_MEMORY, SourceText, Status, Subject, SubjectStop, UNDECIDED, subject_in,
+    HOLDS, HOLDS_NOT, NO_MEMORY, SourceText, Status, Subject, SubjectStop, UNDECIDED,
 };
-use pv_edge::Files;
 use std::alloc::{AllocError, Global};
 use thiserror::Error;
 
@@ -36,6 +32,8 @@ pub struct Replayed {
     /// Its sources in their order; a place's file is the number of one.
     pub sources: Vec<SourceText>,
     pub end: End,
+    /// A place of the end lies in one of the sources.
+    pub ghost lies: { EndLies (map text_tree sources.items) end } by { EndLies-prop (map text_tree sources.items) end },
 }
 
 /// Why a replay stops before its report, by the stage at which it does.
@@ -50,6 +48,9 @@ pub enum ReplayStop {
 }
 
 impl From<AllocError> for ReplayStop {
+    ghost use Rattle.std.specs.Prelude.{◌≡◌};
+    ghost use Rattle.pv_command_replay.specs.declared.replay.ReplayStop.TheVariants.{NoMemory};
+
     ghost from_gives = { λ _ stop. stop ≡ NoMemory };
 
     fn from(_error: AllocError) -> ReplayStop {
@@ -58,6 +59,9 @@ impl From<AllocError> for ReplayStop {
 }
 
 impl From<SubjectStop> for ReplayStop {
+    ghost use Rattle.std.specs.Prelude.{◌≡◌};
+    ghost use Rattle.pv_command_replay.specs.declared.replay.ReplayStop.TheVariants.{Subject as AtSubject};
+
     ghost from_gives = { λ stop passed. passed ≡ AtSubject stop };
 
     fn from(stop: SubjectStop) -> ReplayStop {
@@ -66,6 +70,9 @@ impl From<SubjectStop> for ReplayStop {
 }
 
 impl From<TraceStop> for ReplayStop {
+    ghost use Rattle.std.specs.Prelude.{◌≡◌};
+    ghost use Rattle.pv_command_replay.specs.declared.replay.ReplayStop.TheVariants.{Trace as AtTrace};
+
     ghost from_gives = { λ stop passed. passed ≡ AtTrace stop };
 
     fn from(stop: TraceStop) -> ReplayStop {
@@ -74,6 +81,9 @@ impl From<TraceStop> for ReplayStop {
 }
 
 impl ReplayStop {
+    ghost use Rattle.std.specs.Prelude.{◌≡◌, Some, IfOk, string_bytes};
+    ghost use Rattle.pv_command_replay.specs.Replays.{stop_status, stop_text};
+
     pub fn status(&self) -> Status
         ensures { result ≡ stop_status self.now }
     {
@@ -97,6 +107,9 @@ impl ReplayStop {
 }
 
 impl Replayed {
+    ghost use Rattle.std.specs.Prelude.{◌≡◌, Ok, Some, IfOk, string_bytes};
+    ghost use Rattle.pv_command_replay.specs.Replays.{replay_status, replay_text};
+
     pub fn status(&self) -> Status
         ensures { result ≡ replay_status (Ok self.now) }
     {
@@ -124,8 +137,11 @@ impl Replayed {
 }
 
 impl Ran {
+    ghost use Rattle.std.specs.Prelude.{◌≡◌};
+
     /// What is reported of it.
     pub fn reported(self) -> Replayed
+        requires { EndLies (map text_tree self.subject.sources.items) self.end }
         ensures case { result.case ≡ self.subject.case.name }
         ensures kind { result.kind ≡ self.subject.case.pattern.kind }
         ensures sources { result.sources ≡ self.subject.sources }
@@ -142,48 +158,4 @@ impl Ran {
             end,
         }
     }
-}
-
-/// Runs the trace on the case's project, scan by scan, up to the first scan that fails or reaches what is asked for. What the case is about
-/// is read and refused first, then the trace.
-pub fn run_in<F: Files>(
-    alloc: Global,
-    files: &mut F,
-    case_file: &str,
-    trace_file: &str,
-) -> Result<Ran, ReplayStop>
-    ensures files { F.told files.new ≡ F.told files.old }
-    ensures ran { IfOk result (λ ran. (s : SubjectData) × IsRan (F.told files.old) case_file.now trace_file.now s ran) }
-    ensures stopped { IfErr result (StopsReplay (F.told files.old) case_file.now trace_file.now) }
-    ensures counted { MatchResult result
-        (λ ran. F.read_faults files.new ≡ F.read_faults files.old)
-        (λ stop. Counts (stop_status stop) (F.read_faults files.old) (F.read_faults files.new)) }
-    ensures named { IfErr result (λ stop. IsUnread (stop_unread stop) (F.unread files.new)) }
-    ensures writes { F.write_faults files.new ≡ F.write_faults files.old }
-{
-    let subject = subject_in(alloc, files, case_file)?;
-    let trace = trace_in(alloc, files, trace_file, subject.table.cells())?;
-    let end = end_of(alloc, &subject, &trace)?;
-    Ok(Ran {
-        subject,
-        trace,
-        end,
-    })
-}
-
-/// Replays the trace on the case's project: what is reported of a run of it ([`run_in`]).
-pub fn replay_in<F: Files>(
-    alloc: Global,
-    files: &mut F,
-    case_file: &str,
-    trace_file: &str,
-) -> Result<Replayed, ReplayStop>
-    ensures files { F.told files.new ≡ F.told files.old }
-    ensures says { SaysReplay (F.told files.old) case_file.now trace_file.now result }
-    ensures counted { Counts (replay_status result) (F.read_faults files.old) (F.read_faults files.new) }
-    ensures named { IsUnread (replay_unread result) (F.unread files.new) }
-    ensures writes { F.write_faults files.new ≡ F.write_faults files.old }
-{
-    let ran = run_in(alloc, files, case_file, trace_file)?;
-    Ok(ran.reported())
 }

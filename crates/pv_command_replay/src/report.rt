@@ -1,9 +1,11 @@
 //! The report of a replay.
 ghost use Rattle.std.specs.Prelude.{◌≡◌, IfOk, map, string_bytes};
 ghost use Rattle.pv_command_load.specs.Positions as positions;
+ghost use Rattle.pv_command_load.specs.Positions.{LiesAmong};
 ghost use Rattle.pv_command_load.specs.Stops.{text_tree};
 ghost use Rattle.pv_command_replay.specs.Reports as reports;
 ghost use Rattle.pv_command_replay.specs.Reports.{end_text, report_text};
+ghost use Rattle.pv_command_replay.specs.Located.{CauseLies, EndLies};
 ghost use Rattle.pv_command_replay.specs.declared.end.End.TheVariants.{Broken, Over, NotReached};
 
 use crate::end::{Cause, End};
@@ -14,6 +16,7 @@ use pv_report::{head, trap_name};
 use std::alloc::{AllocError, Global};
 
 fn place_text(alloc: Global, sources: &[SourceText], place: Place) -> Result<String, AllocError>
+    requires { LiesAmong (map text_tree sources.now) place }
     ensures { IfOk result (λ text. string_bytes text ≡ positions.place_text (map text_tree sources.now) place) }
 {
     let at = SourcePosition::of(alloc, sources, place)?;
@@ -27,6 +30,7 @@ fn trap_text(
     kind: TrapKind,
     place: Place,
 ) -> Result<String, AllocError>
+    requires { LiesAmong (map text_tree sources.now) place }
     ensures { IfOk result (λ text. string_bytes text ≡ reports.trap_text (map text_tree sources.now) kind place) }
 {
     let kind = trap_name(kind);
@@ -35,6 +39,7 @@ fn trap_text(
 }
 
 fn cause_text(alloc: Global, sources: &[SourceText], cause: Cause) -> Result<String, AllocError>
+    requires { CauseLies (map text_tree sources.now) cause }
     ensures { IfOk result (λ text. string_bytes text ≡ reports.cause_text (map text_tree sources.now) cause) }
 {
     match cause {
@@ -49,6 +54,7 @@ fn broken_lines(
     scan: u64,
     cause: Cause,
 ) -> Result<String, AllocError>
+    requires { EndLies (map text_tree sources.now) (Broken scan cause) }
     ensures { IfOk result (λ text. string_bytes text ≡ end_text (map text_tree sources.now) (Broken scan cause)) }
 {
     let cause = cause_text(alloc, sources, cause)?;
@@ -61,6 +67,7 @@ fn over_lines(
     scan: u64,
     place: Place,
 ) -> Result<String, AllocError>
+    requires { EndLies (map text_tree sources.now) (Over scan place) }
     ensures { IfOk result (λ text. string_bytes text ≡ end_text (map text_tree sources.now) (Over scan place)) }
 {
     let at = place_text(alloc, sources, place)?;
@@ -73,6 +80,7 @@ fn not_reached_lines(
     scans: u64,
     trap: Option<(TrapKind, Place)>,
 ) -> Result<String, AllocError>
+    requires { EndLies (map text_tree sources.now) (NotReached scans trap) }
     ensures { IfOk result (λ text. string_bytes text ≡ end_text (map text_tree sources.now) (NotReached scans trap)) }
 {
     match trap {
@@ -84,8 +92,9 @@ fn not_reached_lines(
     }
 }
 
-/// The lines of an end, with places in these sources; an error where memory ends, or a place lies in none of them.
+/// The lines of an end, with places in these sources; an error where memory ends.
 pub fn end_lines(alloc: Global, sources: &[SourceText], end: End) -> Result<String, AllocError>
+    requires { EndLies (map text_tree sources.now) end }
     ensures { IfOk result (λ text. string_bytes text ≡ end_text (map text_tree sources.now) end) }
 {
     match end {
@@ -105,6 +114,7 @@ pub(crate) fn report(
     sources: &[SourceText],
     end: End,
 ) -> Result<String, AllocError>
+    requires { EndLies (map text_tree sources.now) end }
     ensures { IfOk result (λ text. string_bytes text ≡ report_text (string_bytes case.now) kind (map text_tree sources.now) end) }
 {
     let head = head(alloc, case, kind)?;

@@ -4,10 +4,11 @@ use Rattle.std.specs.Prelude.{IfOk}
 use Rattle.std.specs.Result.{IsErrAnd}
 use Rattle.pv_edge.specs.Files.{FileMap}
 use Rattle.pv_mean.specs.Runs.{run}
-use Rattle.pv_command_replay.specs.Handed.{Counts, IsUnread, SubjectData, source_in}
+use Rattle.pv_command_replay.specs.Handed.{Counts, IsUnread, texts_of, SubjectData, source_in}
 use Rattle.pv_command_replay.specs.declared.replay.Ran.{Ran}
 use Rattle.pv_command_replay.specs.declared.replay.ReplayStop.{ReplayStop}
 use Rattle.pv_command_replay.specs.Ends.{IsEnd}
+use Rattle.pv_command_replay.specs.Located.{EndLies}
 use Rattle.pv_command_replay.specs.Traces.{HoldsTrace}
 use Rattle.pv_command_replay.specs.Judged.{HasValuesOf}
 use Rattle.pv_command_replay.specs.Replays.{IsRan, StopsReplay, stop_status, stop_unread}
@@ -36,6 +37,7 @@ says_shown told case_file trace_file s ran r is name kind texts end scans = (
       trace_held = is.replayed.trace_held;
       ends = subst (IsEnd (source_in s) s.pattern (run (source_in s) is.replayed.trace.params is.replayed.trace.inputs)) (sym end)
           is.replayed.ends;
+      lies = subst (EndLies (texts_of s.given)) (sym end) is.replayed.lies;
     };
     reported = reported_as s ran.subject r.replayed is.subject name kind texts;
     scans = scans ∙ ap (λ t. shown_scans (source_in s) s.pattern t ran.end) (sym is.trace)

@@ -9,15 +9,16 @@ ghost use Rattle.pv_command_load.specs.Gathered.{HasSources};
 ghost use Rattle.pv_command_load.specs.Held.{Counts, Holds, IsUnread};
 ghost use Rattle.pv_command_load.specs.Made.{AreGiven, IsCase, IsFit, IsProjectOf, IsSubject, IsTableOf, view_tree};
 ghost use Rattle.pv_command_load.specs.Passing.{source_named};
+ghost use Rattle.pv_command_load.specs.ReadTexts.{AreRead};
 ghost use Rattle.pv_command_load.specs.Reads.{HoldsCase, Reads};
 ghost use Rattle.pv_command_load.specs.Sources.{ReadsAs};
-ghost use Rattle.pv_command_load.specs.Stops.{StopsAtSource, StopsCase, StopsFit, StopsProject, StopsRead, StopsSource, StopsSubject, StopsTable, case_status, case_unread, read_status, read_unread, source_status, source_unread, subject_status, subject_unread};
+ghost use Rattle.pv_command_load.specs.Stops.{StopsAtSource, StopsCase, StopsFit, StopsProject, StopsRead, StopsSource, StopsSubject, StopsTable, case_status, case_unread, read_status, read_unread, source_status, source_unread, subject_status, subject_unread, text_tree};
 ghost use Rattle.pv_command_load.specs.Subjects.{Entered, Given, SubjectData};
 ghost use Rattle.pv_mean.specs.Cells.{with_view};
 ghost use Rattle.pv_pattern.specs.Patterns.{Pattern as Said};
 ghost use Rattle.pv_pattern_read.specs.Kinds.{count_of};
 ghost use Rattle.pv_tree.specs.View.{block_trees};
-ghost use Rattle.std.specs.Prelude.{All, IfErr, IfOk, MatchResult, length, string_bytes, ◌<◌, ◌≡◌, ◌≤◌};
+ghost use Rattle.std.specs.Prelude.{All, IfErr, IfOk, MatchResult, length, map, string_bytes, ◌<◌, ◌≡◌, ◌≤◌};
 
 use pv_case::{Case, MAX_SOURCES, Symbol};
 use pv_cells::Table;
@@ -102,6 +103,7 @@ pub fn project_of(
     blocks: Blocks,
     symbols: Vec<Symbol>,
 ) -> Result<Project, ProjectStop>
+    requires { AreRead (map text_tree sources.now) (block_trees blocks.list.items) }
     ensures found { (given : Given) → AreGiven sources.now blocks.list.items symbols.items given
         → IfOk result (IsProjectOf given) }
     ensures stopped { (given : Given) → AreGiven sources.now blocks.list.items symbols.items given

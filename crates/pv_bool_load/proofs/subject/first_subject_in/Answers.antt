@@ -3,7 +3,7 @@ use Rattle.pv_types.specs.declared.layout.TheConstants.{MAX_LEAVES}
 use Rattle.pv_case.specs.Cases.{data_of}
 use Rattle.pv_command_load.specs.Held.{IsUnread}
 use Rattle.pv_command_load.specs.declared.subject.SubjectStop.TheVariants as stop_at
-use Rattle.pv_command_load.proofs.ForCallers.{passed, none_unread, code_count, code_short, is_case, held_texts, given_by, are_given, reads_kept, reads_project, reads_table, entry_within}
+use Rattle.pv_command_load.proofs.ForCallers.{passed, are_read, none_unread, code_count, code_short, is_case, held_texts, given_by, are_given, reads_kept, reads_project, reads_table, entry_within}
 use Rattle.pv_bool_load.specs.declared.stop.FirstStop.TheVariants.{Subject as At_subject}
 use Rattle.pv_bool_load.specs.Stops.{first_stop_status, first_stop_unread, StopsFirst}
 use Rattle.pv_bool_load.proofs.Working.{no_symbols, few_sources, stays, first_other, passed_counts, stops_source, are_first}
@@ -28,6 +28,10 @@ returns-in_err-sources-clause-stopped g c =
     passed (StopsFirst told file) c.from_residual-in_err-sources.result (At_subject (stop_at.Source stop))
     c.from_residual-in_err-sources.ensures.1
     (stops_source told _ file (data_of c.in_ok-case.case) stop c.in_ok-case.ensures.files found.0 found.1 c.in_err-sources.ensures.stopped)
+
+pub first_project-requires : goal.first_project-requires
+first_project-requires g c =
+    are_read _ _ c.in_ok-sources.sources c.as_slice.result.now c.as_slice.ensures.value c.in_ok-sources.ensures.found
 
 pub returns-in_err-project-clause-stopped : goal.returns-in_err-project-clause-stopped
 returns-in_err-project-clause-stopped g c =

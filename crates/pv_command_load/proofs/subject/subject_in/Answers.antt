@@ -8,6 +8,7 @@ use Rattle.pv_command_load.proofs.Exits.{passed}
 use Rattle.pv_command_load.proofs.CaseTexts.{code_count, code_short}
 use Rattle.pv_command_load.proofs.SubjectLaws.{is_case, held_texts, given_by, are_given, reads_kept, reads_project, reads_table, reads_all, entry_within, data_by, is_subject}
 use Rattle.pv_command_load.proofs.Unread.{none_unread}
+use Rattle.pv_command_load.proofs.Located.{are_read}
 use Rattle.pv_command_load.proofs.subject.subject_in.Goals as goal
 
 pub returns-in_err-project-clause-stopped : goal.returns-in_err-project-clause-stopped
@@ -146,3 +147,7 @@ pub returns-in_err-view-clause-named : goal.returns-in_err-view-clause-named
 returns-in_err-view-clause-named g c =
     passed (λ e. IsUnread (subject_unread e) _) c.from_residual-in_err-view.result (stop_at.Fit c.in_err-view.field-0.0)
     c.from_residual-in_err-view.ensures.1 (none_unread _)
+
+pub project_of-requires : goal.project_of-requires
+project_of-requires g c =
+    are_read _ _ c.in_ok-sources.sources c.as_slice.result.now c.as_slice.ensures.value c.in_ok-sources.ensures.found

@@ -7,7 +7,7 @@ use Rattle.pv_command_replay.specs.declared.replay.ReplayStop.TheVariants.{Trace
 use Rattle.pv_command_replay.proofs.Starts.{subject_starts}
 use Rattle.pv_command_replay.proofs.TraceLaws.{err_passed}
 use Rattle.pv_command_replay.proofs.Saying.{says_ran, says_stopped, err_counted, all_read}
-use Rattle.pv_command_replay.proofs.replay.run_in.Goals as goal
+use Rattle.pv_command_replay.proofs.running.run_in.Goals as goal
 
 pub returns-clause-ran : goal.returns-clause-ran
 returns-clause-ran g c =
@@ -16,7 +16,9 @@ returns-clause-ran g c =
       s,
       says_ran _ _ c.args.case_file.now c.args.trace_file.now c.in_ok-subject.subject s c.in_ok-trace.trace c.in_ok-end.end found.1 found.2
           c.in_ok-subject.ensures.files (c.in_ok-trace.ensures.found (source_in s) (sym (c.cells.ensures ∙ found.2.cells)))
-          (λ values. c.in_ok-end.ensures s found.2 (subject_starts _ c.args.case_file.now s found.1) values),
+          (λ values. c.in_ok-end.ensures s found.2 (subject_starts _ c.args.case_file.now s found.1) values)
+          (λ ends. c.ends_lie_in_sources.ensures _ c.args.case_file.now s c.in_ok-trace.trace.params c.in_ok-trace.trace.inputs
+          c.in_ok-end.end found.1 ends),
     )
 
 pub returns-in_err-trace-clause-stopped : goal.returns-in_err-trace-clause-stopped

@@ -1,5 +1,10 @@
-use Rattle.pv_command_replay.proofs.Saying.{says_replayed, err_said, err_kept, err_told}
-use Rattle.pv_command_replay.proofs.replay.replay_in.Goals as goal
+use Rattle.pv_command_replay.proofs.Saying.{ran_lies, says_replayed, err_said, err_kept, err_told}
+use Rattle.pv_command_replay.proofs.running.replay_in.Goals as goal
+
+pub reported-requires : goal.reported-requires
+reported-requires g c =
+    let found = c.in_ok-ran.ensures.ran in
+    ran_lies _ c.args.case_file.now c.args.trace_file.now found.0 c.in_ok-ran.ran found.1
 
 pub returns-clause-says : goal.returns-clause-says
 returns-clause-says g c =
