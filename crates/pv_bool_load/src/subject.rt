@@ -21,6 +21,7 @@ use pv_bool_case::{is_first_case, is_first_project, only_block, program_by, sour
 use pv_case::Case;
 use pv_command_load::{SourceText, Subject, case_in, fitted, project_of, sources_in, table_of};
 use pv_edge::Files;
+use pv_mean::laws::views_keep_paths_types_and_starts;
 use pv_pattern_read::laws::texts_are_one_expression;
 use pv_tree::{Blocks, Project};
 use std::alloc::Global;
@@ -150,6 +151,7 @@ pub fn first_subject_in<F: Files>(
     ensures named { IfErr result (λ stop. IsUnread (first_stop_unread stop) (F.unread files.new)) }
     ensures writes { F.write_faults files.new ≡ F.write_faults files.old }
 {
+    views_keep_paths_types_and_starts();
     let case = first_case_in(alloc, files, case_file)?;
     let sources = sources_in(alloc, files, &case)?;
     let texts = sources.texts;

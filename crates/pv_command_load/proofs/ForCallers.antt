@@ -4,7 +4,8 @@ pub use Rattle.pv_command_load.proofs.Exits.{passed}
 pub use Rattle.pv_command_load.proofs.Located.{held_read, are_read, among, breach_lies, breaches_lie}
 pub use Rattle.pv_command_load.proofs.CaseTexts.{HasTexts, has_texts, code_count, code_short}
 pub use Rattle.pv_command_load.proofs.EntryLaws.{entry_below, some_there, there_below}
-pub use Rattle.pv_command_load.proofs.SubjectLaws.{is_case, held_texts, given_by, are_given, reads_sources, reads_kept, reads_project, reads_table, entry_within}
+pub use Rattle.pv_command_load.proofs.SubjectLaws.{is_case, held_texts, given_by, are_given, reads_sources, reads_kept, reads_project, reads_table}
+pub use Rattle.pv_command_load.proofs.Sourced.{has_source}
 pub use Rattle.pv_command_load.proofs.SubjectLaws.{no_file_project, no_file_table, no_file_fit}
 pub use Rattle.pv_command_load.proofs.Unread.{none_unread, stopped_other, subject_other, TellsUnread, stopped_tells, tells_of, subject_tells}
 pub use Rattle.pv_command_load.proofs.OneCase.{one_held, held_both, CaseLaws, one_case, one_refused, case_apart}

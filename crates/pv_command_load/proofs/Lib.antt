@@ -18,4 +18,5 @@ pub mod OneCase
 pub mod OneSource
 pub mod OneSubject
 pub mod OneReading
+pub mod Sourced
 pub mod ForCallers

@@ -1,11 +1,8 @@
 -- What all stages make together.
-use Rattle.std.proofs.Common.{◌≡◌, ◌<◌, ℕ, List, length, map, Option, Some, refl, sym, ap, subst, ◌∙◌, arith}
+use Rattle.std.proofs.Common.{◌≡◌, ℕ, List, map, Option, Some, refl, sym, ap, subst, ◌∙◌, arith}
 use Rattle.std.specs.Prelude.{slice_get}
 use Rattle.pv_edge.specs.Files.{FileMap}
 use Rattle.pv_tree.specs.declared.kept.Project.{Project}
-use Rattle.pv_tree.specs.View.{block_tree}
-use Rattle.pv_tree.specs.Scopes.{ProjectTree}
-use Rattle.std.proofs.lemmas.List.{length-map}
 use Rattle.pv_mean.specs.declared.view.CaseView.{CaseView}
 use Rattle.pv_mean.specs.Cells.{with_view}
 use Rattle.pv_pattern.specs.declared.pattern.Pattern.{Pattern as Found}
@@ -34,7 +31,6 @@ use Rattle.pv_command_load.specs.Reads.{HoldsCase, ReadsSources, ReadsProject, R
 use Rattle.pv_command_load.specs.Stops.{text_tree, StopsSource, StopsSubject, subject_status}
 use Rattle.pv_command_load.specs.Made.{IsCase, AreGiven, IsProjectOf, IsTableOf, IsFit, IsSubject, view_tree}
 use Rattle.pv_command_load.proofs.CaseTexts.{HasTexts, has_texts}
-use Rattle.pv_command_load.proofs.EntryLaws.{there_below}
 
 pub is_case : (case : Case) → IsCase case (data_of case)
 is_case case = record {
@@ -79,13 +75,6 @@ reads_project told file given project reads is = record { sources = reads; keeps
 pub reads_table : (told : Option FileMap) (file : List ℕ) (given : Given) (entered : Entered) (entry : ℕ) (table : Table)
     → ReadsProject told file given → IsTableOf given entered entry table → ReadsTable told file given entered
 reads_table told file given entered entry table reads is = record { project = reads; table = is.has }
-
--- the entered block is one of the code's
-pub entry_within : (given : Given) (entered : Entered) (entry : ℕ) (table : Table) (project : Project)
-    → IsProjectOf given project → IsTableOf given entered entry table → entry < length project.blocks.list.items
-entry_within given entered entry table project is t =
-    subst (λ n. entry < n) (length-map project.blocks.list.items block_tree)
-    (subst (λ (p : ProjectTree). entry < length p.blocks) (sym is.same) (there_below (blocks_of given) entry entered.block t.is))
 
 abbrev pub data_by : Given → Entered → CaseView → Pattern → SubjectData
 data_by given entered view p = record { given = given; entered = entered; view = view_tree view; pattern = p }

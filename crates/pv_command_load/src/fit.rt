@@ -1,10 +1,13 @@
 //! The fifth stage of a command: what its case says of the project's inputs, and the requirement.
-ghost use Rattle.std.specs.Prelude.{◌≡◌, ◌<◌, ◌≤◌, length, Some, All, IfOk, IfErr, string_bytes};
+ghost use Rattle.std.specs.Prelude.{◌≡◌, ◌≤◌, length, Some, All, IfOk, IfErr, string_bytes};
 ghost use Rattle.pv_types.specs.declared.layout.TheConstants.{MAX_LEAVES};
 ghost use Rattle.pv_lex.specs.declared.lex.TheConstants.{MAX_SOURCE};
 ghost use Rattle.pv_mean.specs.Cells.{with_view};
+ghost use Rattle.pv_mean.specs.ProjectSizes.{project_tree};
+ghost use Rattle.pv_cells.specs.Named.{wide_bytes};
 ghost use Rattle.pv_pattern.specs.Patterns.{Pattern as Said};
 ghost use Rattle.pv_pattern_read.specs.Kinds.{count_of};
+ghost use Rattle.pv_pattern_read.specs.Readable.{HasSource};
 ghost use Rattle.pv_command_load.specs.Refusals.{expression_name, fit_line};
 ghost use Rattle.pv_command_load.specs.Subjects.{Given, Entered};
 ghost use Rattle.pv_command_load.specs.Stopped.{stopped_status, stopped_text};
@@ -145,7 +148,7 @@ pub fn fitted(
 ) -> Result<(CaseView, Pattern), FitStop>
     requires count { length case.now.pattern.expressions.items ≡ count_of case.now.pattern.kind }
     requires short { All (λ t. length (string_bytes t) ≤ MAX_SOURCE) case.now.pattern.expressions.items }
-    requires entered { entry < length project.now.blocks.list.items }
+    requires entered { HasSource (project_tree project.now) entry (wide_bytes table.old.bytes) }
     requires few { length table.old.cells.items ≤ MAX_LEAVES }
     ensures found { (given : Given) (entered : Entered) → IsCase case.now given.case
         → IsProjectOf given project.now → IsTableOf given entered entry table.old

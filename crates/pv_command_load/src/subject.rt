@@ -20,6 +20,7 @@ use pv_case::{Case, Symbol};
 use pv_cells::Table;
 use pv_edge::Files;
 use pv_mean::CaseView;
+use pv_mean::laws::views_keep_paths_types_and_starts;
 use pv_pattern::Pattern;
 use pv_tree::Project;
 use std::alloc::{AllocError, Global};
@@ -146,6 +147,7 @@ pub fn subject_in<F: Files>(
     ensures named { IfErr result (λ stop. IsUnread (subject_unread stop) (F.unread files.new)) }
     ensures writes { F.write_faults files.new ≡ F.write_faults files.old }
 {
+    views_keep_paths_types_and_starts();
     let mut case = case_in(alloc, files, case_file)?;
     let sources = sources_in(alloc, files, &case)?;
     let texts = sources.texts;

@@ -5,6 +5,7 @@
 #![tactic(auto)]
 
 ghost use Rattle.pv_case.specs.Cases.{data_of};
+ghost use Rattle.pv_cells.specs.Named.{wide_bytes};
 ghost use Rattle.pv_command_load.specs.Gathered.{HasSources};
 ghost use Rattle.pv_command_load.specs.Held.{Counts, Holds, IsUnread};
 ghost use Rattle.pv_command_load.specs.Made.{AreGiven, IsCase, IsFit, IsProjectOf, IsSubject, IsTableOf, view_tree};
@@ -15,10 +16,12 @@ ghost use Rattle.pv_command_load.specs.Sources.{ReadsAs};
 ghost use Rattle.pv_command_load.specs.Stops.{StopsAtSource, StopsCase, StopsFit, StopsProject, StopsRead, StopsSource, StopsSubject, StopsTable, case_status, case_unread, read_status, read_unread, source_status, source_unread, subject_status, subject_unread, text_tree};
 ghost use Rattle.pv_command_load.specs.Subjects.{Entered, Given, SubjectData};
 ghost use Rattle.pv_mean.specs.Cells.{with_view};
+ghost use Rattle.pv_mean.specs.ProjectSizes.{project_tree};
 ghost use Rattle.pv_pattern.specs.Patterns.{Pattern as Said};
 ghost use Rattle.pv_pattern_read.specs.Kinds.{count_of};
+ghost use Rattle.pv_pattern_read.specs.Readable.{HasSource};
 ghost use Rattle.pv_tree.specs.View.{block_trees};
-ghost use Rattle.std.specs.Prelude.{All, IfErr, IfOk, MatchResult, length, map, string_bytes, ◌<◌, ◌≡◌, ◌≤◌};
+ghost use Rattle.std.specs.Prelude.{All, IfErr, IfOk, MatchResult, length, map, string_bytes, ◌≡◌, ◌≤◌};
 
 use pv_case::{Case, MAX_SOURCES, Symbol};
 use pv_cells::Table;
@@ -133,7 +136,7 @@ pub fn fitted(
 ) -> Result<(CaseView, Pattern), FitStop>
     requires count { length case.now.pattern.expressions.items ≡ count_of case.now.pattern.kind }
     requires short { All (λ t. length (string_bytes t) ≤ MAX_SOURCE) case.now.pattern.expressions.items }
-    requires entered { entry < length project.now.blocks.list.items }
+    requires entered { HasSource (project_tree project.now) entry (wide_bytes table.old.bytes) }
     requires few { length table.old.cells.items ≤ MAX_LEAVES }
     ensures found { (given : Given) (entered : Entered) → IsCase case.now given.case
         → IsProjectOf given project.now → IsTableOf given entered entry table.old

@@ -3,7 +3,7 @@ use Rattle.pv_types.specs.declared.layout.TheConstants.{MAX_LEAVES}
 use Rattle.pv_case.specs.Cases.{data_of}
 use Rattle.pv_command_load.specs.Held.{IsUnread}
 use Rattle.pv_command_load.specs.declared.subject.SubjectStop.TheVariants as stop_at
-use Rattle.pv_command_load.proofs.ForCallers.{passed, are_read, none_unread, code_count, code_short, is_case, held_texts, given_by, are_given, reads_kept, reads_project, reads_table, entry_within}
+use Rattle.pv_command_load.proofs.ForCallers.{passed, are_read, none_unread, code_count, code_short, is_case, held_texts, given_by, are_given, reads_kept, reads_project, reads_table, has_source}
 use Rattle.pv_bool_load.specs.declared.stop.FirstStop.TheVariants.{Subject as At_subject}
 use Rattle.pv_bool_load.specs.Stops.{first_stop_status, first_stop_unread, StopsFirst}
 use Rattle.pv_bool_load.proofs.Working.{no_symbols, few_sources, stays, first_other, passed_counts, stops_source, are_first}
@@ -102,8 +102,11 @@ fitted-requires-clause-entered g c =
     let are = are_given _ case sources c.as_slice.result.now [] c.as_slice.ensures.value (no_symbols case found.1) has in
     let reads = reads_kept told _ file (data_of case) sources c.in_ok-case.ensures.files found.0 has in
     let project = c.in_ok-project.ensures.found given refl found.1 are in
+    let kept = reads_project told file given c.in_ok-project.project reads project.0 in
     let made = c.in_ok-entry.ensures.found given (is_case case) project.0 in
-    entry_within given made.0 c.in_ok-entry.entry c.in_ok-entry.table c.in_ok-project.project project.0 made.1
+    let filled = reads_table told file given made.0 c.in_ok-entry.entry c.in_ok-entry.table kept made.1 in
+    has_source c.views_keep_paths_types_and_starts.ensures.types told file given made.0 c.in_ok-entry.entry c.in_ok-entry.table
+    c.in_ok-project.project filled project.0 made.1
 
 pub fitted-requires-clause-few : goal.fitted-requires-clause-few
 fitted-requires-clause-few g c =

@@ -8,6 +8,11 @@ use Rattle.pv_command_load.proofs.Exits.{passed}
 use Rattle.pv_command_load.proofs.FitLaws.{AreOf, has_view, stops_pattern, answered, is_fit}
 use Rattle.pv_command_load.proofs.fit.fitted.Goals as goal
 
+pub read-requires-clause-entered : goal.read-requires-clause-entered
+read-requires-clause-entered c =
+    let h = c.requires.entered in
+    record { source = h.source; same = h.same; at = h.at; bytes_are = c.bytes.ensures ∙ h.bytes_are; is = h.is }
+
 pub returns-in_err-pattern-clause-stopped : goal.returns-in_err-pattern-clause-stopped
 returns-in_err-pattern-clause-stopped c = λ given entered case project table.
     let cells = c.cells.result.now in

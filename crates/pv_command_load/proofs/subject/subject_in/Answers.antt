@@ -6,7 +6,8 @@ use Rattle.pv_command_load.specs.declared.subject.SubjectStop.TheVariants as sto
 use Rattle.pv_command_load.specs.Stops.{StopsSubject, subject_unread}
 use Rattle.pv_command_load.proofs.Exits.{passed}
 use Rattle.pv_command_load.proofs.CaseTexts.{code_count, code_short}
-use Rattle.pv_command_load.proofs.SubjectLaws.{is_case, held_texts, given_by, are_given, reads_kept, reads_project, reads_table, reads_all, entry_within, data_by, is_subject}
+use Rattle.pv_command_load.proofs.SubjectLaws.{is_case, held_texts, given_by, are_given, reads_kept, reads_project, reads_table, reads_all, data_by, is_subject}
+use Rattle.pv_command_load.proofs.Sourced.{has_source}
 use Rattle.pv_command_load.proofs.Unread.{none_unread}
 use Rattle.pv_command_load.proofs.Located.{are_read}
 use Rattle.pv_command_load.proofs.subject.subject_in.Goals as goal
@@ -61,15 +62,21 @@ fitted-requires-clause-short g c =
 
 pub fitted-requires-clause-entered : goal.fitted-requires-clause-entered
 fitted-requires-clause-entered g c =
+    let told = g.F.Files.told c.args.files.now in
+    let file = c.args.case_file.now in
     let case = c.in_ok-case.case in
     let has = c.in_ok-sources.ensures.found in
     let given = given_by (data_of case) has.read in
     let is = c.take_symbols-symbols.ensures.rest (data_of case) (is_case case) in
     let are = are_given _ case c.in_ok-sources.sources c.as_slice.result.now c.take_symbols-symbols.result.items c.as_slice.ensures.value
     c.take_symbols-symbols.ensures.symbols has in
+    let reads = reads_kept told _ file (data_of case) c.in_ok-sources.sources c.in_ok-case.ensures.files c.in_ok-case.ensures.found has in
     let project = c.in_ok-project.ensures.found given are in
+    let kept = reads_project told file given c.in_ok-project.project reads project in
     let made = c.in_ok-entry.ensures.found given is project in
-    entry_within given made.0 c.in_ok-entry.entry c.in_ok-entry.table c.in_ok-project.project project made.1
+    let filled = reads_table told file given made.0 c.in_ok-entry.entry c.in_ok-entry.table kept made.1 in
+    has_source c.views_keep_paths_types_and_starts.ensures.types told file given made.0 c.in_ok-entry.entry c.in_ok-entry.table c.in_ok-project.project
+    filled project made.1
 
 pub fitted-requires-clause-few : goal.fitted-requires-clause-few
 fitted-requires-clause-few g c =
