@@ -42,7 +42,7 @@ use Rattle.pv_laws_types.specs.Typed.{IsTyped, SpotHas, SuitsAddress}
 use Rattle.pv_laws_types.proofs.ForCallers.{ReadsLie, widens_lies, reads_lie, typed_spot, dated_means, root_means, block_known, AreKnown, Means}
 use Rattle.pv_laws_lower.specs.Below.{BelowLaws}
 use Rattle.pv_laws_lower.specs.Fit.{bytes_in, HasBytes, IsThere, IsAddressed, IsLaidOut, LiteralLies, IsFit, IsFitOperand}
-use Rattle.pv_laws_lower.specs.Agrees.{Agrees, AtWork, outcome, spot_in, spot_found}
+use Rattle.pv_laws_lower.specs.Agrees.{Agrees, outcome, spot_in, spot_found}
 use Rattle.pv_laws_lower.specs.Correct.{ValuesHold, AssignedHold, PlacesHold, SpotsAreRead, SpotsAreWritten, SpotsAreWrittenWhere, sets_of}
 use Rattle.pv_laws_lower.proofs.Checked.{then_checked, checked_map, passed_over, passes_with, got_there}
 use Rattle.pv_laws_lower.proofs.Sorts.{some_told, unwrapped}
@@ -83,8 +83,11 @@ full_all : (asks : Type 0) (source : Source) (scope : Scope) (ps : List Part) �
     → AllByRecursion (IsAddressed source.bytes) (reads_of_parts ps) → AskEach asks scope ps → AreFull asks source scope ps
 full_all asks source scope [] g a b = tt
 full_all asks source scope (p ∷ ps) g a b = (
-  (g.0, all_both (IsAddressed source.bytes) (Asks asks scope) (IsNamable asks source scope) (operands_read p.expr) (λ o x y. (x, y))
-      (all_front (IsAddressed source.bytes) (operands_read p.expr) (reads_of_parts ps) a) b.0),
+  (
+    g.0,
+    all_both (IsAddressed source.bytes) (Asks asks scope) (IsNamable asks source scope) (operands_read p.expr) (λ o x y. (x, y))
+        (all_front (IsAddressed source.bytes) (operands_read p.expr) (reads_of_parts ps) a) b.0,
+  ),
   full_all asks source scope ps g.1 (all_back (IsAddressed source.bytes) (operands_read p.expr) (reads_of_parts ps) a) b.1,
 )
 
