@@ -21,6 +21,7 @@ WORD = r"\b(?:IF|ELSIF|CASE|FOR|WHILE|UNTIL|EXIT|CONTINUE|RETURN|END_\w+)\b"
 TEST = r"\b(?:IF|ELSIF)\b(.*?)\bTHEN\b|\bWHILE\b(.*?)\bDO\b|\bUNTIL\b(.*?)(?:;|\bEND_REPEAT\b)"
 TYPES = "BOOL|BYTE|WORD|DWORD|INT|DINT|TIME"
 TEXTS = ("a", "b", "c")
+ADDRESS = r"(?<![\w.])%?([IQM])\s*([BWD]?)\s*(\d+)(?:\.(\d+))?"
 
 
 def without_comments(text):
@@ -58,7 +59,18 @@ def tests(text, first, last):
     """The conditions in the text from one place to another, with the places where they begin."""
     for found in re.finditer(TEST, text[first:last], re.I | re.S):
         part = next(at for at in (1, 2, 3) if found[at] is not None)
-        yield found[part], first + found.start(part)
+        bare = found[part].lstrip()
+        yield bare, first + found.end(part) - len(bare)
+
+
+def naming(pattern):
+    """A function that names the addresses which a pattern's texts name, as their bytes have cells too."""
+    found = re.finditer(ADDRESS, " ; ".join(pattern[text] for text in TEXTS if text in pattern), re.I)
+    names = {one.group() for one in found if (one[2] == "") == (one[4] is not None)}
+    target = lambda name: {"b": "y", "w": "w", "d": "d"}.get(re.match(ADDRESS, name, re.I)[2].lower(), "b")
+    body = " ".join(f"{target(name)} := {name};" for name in sorted(names))
+    temp = "VAR_TEMP b : BOOL; y : BYTE; w : WORD; d : DWORD; END_VAR"
+    return f"FUNCTION named_by_the_pattern : INT {temp} {body} named_by_the_pattern := 0; END_FUNCTION" if names else ""
 
 
 # ---- listings
@@ -149,7 +161,7 @@ class Block:
             yield name, f"{target} := {value.strip()}", answers.get(name, "nothing"), read_sets, sets
         for at, (text, begins) in enumerate(self.conditions, 1):
             name, tested = f"{self.name}t {at}", lambda answer, begins=begins: self.tests(answer, begins)
-            yield name, text.strip(), answers.get(name, "nothing"), read_term, tested
+            yield name, text, answers.get(name, "nothing"), read_term, tested
 
     def checked(self, at, checks, places):
         """Whether the edges before this one are those of the checks, which stand so far behind one of these places."""
@@ -223,7 +235,7 @@ def asked_of(path):
             continue
         listing = Listing(row, case)
         texts = [without_comments(row["files"][source["file"]]) for source in sources]
-        whole, number, stem = "\n".join(texts), 0, f"{pathlib.Path(path).stem}{at}"
+        whole, number, stem = "\n".join([*texts, naming(case["pattern"])]), 0, f"{pathlib.Path(path).stem}{at}"
         if listing.pattern is not None and listing.entry is not None:
             yield Pattern(f"{stem}p", listing, whole, case["pattern"])
         for file, text in enumerate(texts):

@@ -1,5 +1,5 @@
 -- What holds of all elements of lists.
-use Rattle.std.proofs.Common.{ℕ, zero, suc, List, [], ◌∷◌, ◌++◌, Contains, refl, arith}
+use Rattle.std.proofs.Common.{suc, List, [], ◌∷◌, ◌++◌, Contains, refl, arith}
 use Rattle.std.specs.List.{AllByRecursion}
 
 -- of two, one behind the other, and of each

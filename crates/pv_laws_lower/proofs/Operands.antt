@@ -42,7 +42,7 @@ use Rattle.pv_laws_types.specs.Typed.{IsTyped, SpotHas, SuitsAddress}
 use Rattle.pv_laws_types.proofs.ForCallers.{ReadsLie, widens_lies, reads_lie, typed_spot, dated_means, root_means, block_known, AreKnown, Means}
 use Rattle.pv_laws_lower.specs.Below.{BelowLaws}
 use Rattle.pv_laws_lower.specs.Fit.{bytes_in, HasBytes, IsThere, IsAddressed, IsLaidOut, LiteralLies, IsFit, IsFitOperand}
-use Rattle.pv_laws_lower.specs.Agrees.{Agrees, AtWork, outcome, spot_in, spot_found}
+use Rattle.pv_laws_lower.specs.Agrees.{Agrees, outcome, spot_in, spot_found}
 use Rattle.pv_laws_lower.specs.Correct.{ValuesHold, AssignedHold, PlacesHold, SpotsAreRead, SpotsAreWritten, SpotsAreWrittenWhere, sets_of}
 use Rattle.pv_laws_lower.proofs.Checked.{then_checked, checked_map, passed_over, passes_with, got_there}
 use Rattle.pv_laws_lower.proofs.Sorts.{some_told, unwrapped}

@@ -1,7 +1,7 @@
 -- Patterns: expressions that read no brief cell have the values of their terms by visible cells alone, and those that break no rule make no
 -- check.
-use Rattle.std.proofs.Common.{◌≡◌, ℕ, zero, suc, ◌+◌, ◌-◌, ℤ, List, [], ◌∷◌, ◌++◌, length, map, filter, Bool as Truth, true, false, ◌||◌, ◌&&◌, not, cond, Option, Some, None, IsTrue, Contains, refl, sym, ap, subst, ◌∙◌, inl, inr, arith}
-use Rattle.std.specs.Prelude.{⊤, is_some, is_none, slice_index_or, if◌then◌else◌}
+use Rattle.std.proofs.Common.{◌≡◌, ℕ, zero, suc, ◌+◌, ◌-◌, ℤ, List, [], ◌∷◌, length, map, filter, Bool as Truth, true, false, ◌||◌, ◌&&◌, cond, Option, Some, None, IsTrue, Contains, refl, sym, ap, subst, ◌∙◌, inl, inr, arith}
+use Rattle.std.specs.Prelude.{is_some, is_none, slice_index_or, if◌then◌else◌}
 use Rattle.std.specs.List.{AllByRecursion, list_any}
 use Rattle.std.proofs.lemmas.Bool.{false≢true, true≢false}
 use Rattle.std.proofs.lemmas.List.Elements.{recursion_from_All}
@@ -15,7 +15,7 @@ use Rattle.pv_tree.specs.declared.expr.Area.TheVariants.{I, Q, M}
 use Rattle.pv_tree.specs.declared.expr.Root.TheVariants.{Local, Named, Area as InArea}
 use Rattle.pv_tree.specs.declared.expr.BinaryOp.{BinaryOp}
 use Rattle.pv_tree.specs.declared.expr.BinaryOp.TheVariants as two
-use Rattle.pv_tree.specs.Tree.{ExprTree, lit, read, unary, binary, std, paren, ExprTrees, no_exprs, exprs, OperandTree, operand, StepTree, field, index, StepTrees, no_steps, steps, BlockTree}
+use Rattle.pv_tree.specs.Tree.{ExprTree, lit, read, unary, binary, std, paren, ExprTrees, no_exprs, exprs, OperandTree, operand, field, index, StepTrees, no_steps, steps, BlockTree}
 use Rattle.pv_tree.specs.LiteralTypes.{Want, nothing}
 use Rattle.pv_tree.specs.Operands.{operands_in}
 use Rattle.pv_tree.specs.Parts.{Part, IndexAt, parts_of, parts_of_args, indexes_behind, operands_read, reads_of_parts, path_of, indexes_of}
@@ -25,7 +25,7 @@ use Rattle.pv_tree.specs.Scopes.{Scope, first_var, is_stl, own_value}
 use Rattle.pv_tree.specs.Sorts.{wanted_beside, wants_of}
 use Rattle.pv_tree.specs.Things.{Thing, is_address, last_byte, quoted_value, first_place, root_place, thing_of_root}
 use Rattle.pv_tree.specs.Types.{Written, signed, literal_of, sort_of, sorts_of}
-use Rattle.pv_mean.specs.AreaBytes.{Bytes, bytes_of_operand, from_on, is_same_area}
+use Rattle.pv_mean.specs.AreaBytes.{Bytes, from_on, is_same_area}
 use Rattle.pv_mean.specs.Sources.{Source}
 use Rattle.pv_mean.specs.Frames.{Image, Input, visible_ranges, image_ranges, input_ranges}
 use Rattle.pv_mean.specs.Endings.{ended}
@@ -38,11 +38,11 @@ use Rattle.pv_variables.specs.Variables.{is_entry, value_count}
 use Rattle.pv_access.specs.Accesses.{Check}
 use Rattle.pv_access.specs.Correct.{checked}
 use Rattle.pv_pattern.specs.Patterns.{is_true_value}
-use Rattle.pv_pattern.specs.Texts.{is_brief_var, is_brief_operand, reads_brief, KeepsRules, Says, is_address_root, is_address_operand, alone, addresses_in, HasCells}
+use Rattle.pv_pattern.specs.Texts.{is_brief_var, is_brief_operand, reads_brief, KeepsRules, Says, is_address_operand, alone, addresses_in, HasCells}
 use Rattle.pv_lower.specs.Lowered.{scope_of}
 use Rattle.pv_laws_types.specs.Typed.{IsAtWork}
 use Rattle.pv_laws_lower.specs.Below.{BelowLaws}
-use Rattle.pv_laws_lower.specs.Fit.{HasBytes, IsWide, IsAddressed, IsLaidOut, LiteralLies, IsFit}
+use Rattle.pv_laws_lower.specs.Fit.{HasBytes, IsWide, IsAddressed, IsLaidOut, LiteralLies}
 use Rattle.pv_laws_lower.specs.Agrees.{outcome}
 use Rattle.pv_laws_lower.specs.Correct.{ChecksAreCounted, EntryLies}
 use Rattle.pv_laws_lower.specs.Patterns.{HasVisible, IsOfVisible, pattern_lowered, PatternsHold, ScansAreSeen, SaidAreFit}
