@@ -15,7 +15,7 @@ none-some-words words word more none is = let e : 0 ≡ suc (length more) = ap l
 
 no-command : (words : List (List ℕ)) → words ≡ [] → IsCommand words → ⊥
 no-command words none (inl h) = none-some-words words (codes "check") _ none h.1
-no-command words none (inr h) = elim h.1.1 [
+no-command words none (inr h) = elim h.2 [
   | inl r ↦ none-some-words words (codes "replay") _ none r
   | inr other ↦ elim other [
     | inl c ↦ none-some-words words (codes "recheck") _ none c
@@ -60,5 +60,5 @@ pub faults : {S : Type 0} (sink_call : List ℕ → Result ℕ SinkFault → S �
 faults sink_call call case_file h is seven =
     elim ((h.check case_file is).chain (λ v. no-verdict call.status seven v)) [
       | inl stays ↦ stays
-      | inr chain ↦ omega (arith, seven, chain.0)
+      | inr chain ↦ absurd (omega (arith, seven, chain.0))
     ]
