@@ -1,9 +1,8 @@
 #!/usr/bin/env python3
 """Lowers 100 reads of an array at an index that isn't a literal, of n elements and of 2n: instructions, memory, and nodes.
 
-Usage: run.py [n] (9,999: twice as many, the index and the target are the 20,000 cells that a table may have). Builds bench/lower/program.txt
-over pv_lower in a temporary copy, and needs `rt`; instructions need `valgrind`. What lowering takes is what a run takes that lowers once less
-what one takes which only reads the source."""
+Usage: run.py [n] (5,000: an array has at most 10,000 elements). Builds bench/lower/program.txt over pv_lower in a temporary copy, and needs
+`rt`; instructions need `valgrind`. What lowering takes is what a run takes that lowers once less what one takes which only reads the source."""
 import pathlib
 import shutil
 import sys
@@ -41,7 +40,7 @@ class Taken:
 
 
 def main():
-    n = int(sys.argv[1]) if len(sys.argv) > 1 else 9999
+    n = int(sys.argv[1]) if len(sys.argv) > 1 else 5000
     machine()
     with tempfile.TemporaryDirectory() as place:
         program = built(place, "lower_bench", HERE / "program.txt")
