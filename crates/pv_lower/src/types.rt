@@ -175,7 +175,7 @@ pub(crate) fn wants_of(
 fn magnitude_of(n: Number) -> Result<u32, LowerFault>
     ensures { IfOk result (λ m. m ≡ unsigned_abs (number_value n)) }
 {
-    match u32::try_from(n.value) {
+    match u32::try_from(n.value.unsigned_abs()) {
         Ok(count) => Ok(count),
         Err(_) => Err(LowerFault::NoMemory),
     }
