@@ -22,6 +22,7 @@ from measure import compare, machine, measured  # noqa: E402
 HEAD, FOOT = "FUNCTION f : VOID BEGIN ", "END_FUNCTION"
 ORDINARY = "IF ready AND NOT fault THEN\n  motor := valve OR #pumps;\nEND_IF;\nspeed := power * (level + 15) - gains[count];\n"
 CODE = "FUNCTION f : VOID BEGIN NETWORK "
+SHARED = "TYPE t STRUCT " + "a,b:STRUCT " * 22 + "x:BOOL;" + "END_STRUCT;" * 22 + "END_STRUCT END_TYPE\n"
 
 # What is read (a source of a language, or an expression), what stands at the begin, what is repeated, what stands in the middle, what is
 # repeated after it, what stands at the end, and how the answer begins.
@@ -39,6 +40,7 @@ TEXTS = {
     "variables": ("scl", "FUNCTION_BLOCK f VAR ", "speed : INT;\n", "", "", "END_VAR END_FUNCTION_BLOCK", "reads"),
     "dense variables": ("scl", "FUNCTION_BLOCK f VAR a", ",b", "", "", ":INT;END_VAR END_FUNCTION_BLOCK", "reads"),
     "blocks": ("scl", "", "TYPE t STRUCT END_STRUCT END_TYPE\n", "", "", "", "reads"),
+    "structures of 22 levels that two words share": ("scl", "", SHARED, "", "", "", "reads"),
     "values of a data block": ("scl", "DATA_BLOCK d f BEGIN ", "a:=1;", "", "", "END_DATA_BLOCK", "reads"),
     "structures": ("scl", "TYPE t STRUCT a:", "STRUCT a:", "INT;", "END_STRUCT;", "END_STRUCT END_TYPE", "Deep"),
     "IF": ("scl", HEAD, "IF a THEN ", ";", "END_IF;", FOOT, "Deep"),

@@ -52,8 +52,14 @@ def types(n):
     return text + f"TYPE {last} STRUCT a : {last}; END_STRUCT END_TYPE\n", 3
 
 
+def shared(n):
+    """Types of 22 levels, each of two words that share the structure beneath."""
+    deep = "a, b : STRUCT " * 22 + "x : BOOL;" + "END_STRUCT;" * 22
+    return "".join(f"TYPE t{k} STRUCT {deep} END_STRUCT END_TYPE\n" for k in range(n)), 0
+
+
 # How many parts n is, and how many less where instructions are counted, which takes some fifty times as long.
-CASES = {variables: (10_000, 1), assignments: (419_000, 16), blocks: (1_000, 1), types: (2_500, 1)}
+CASES = {variables: (10_000, 1), assignments: (419_000, 16), blocks: (1_000, 1), types: (2_500, 1), shared: (1_000, 16)}
 
 
 class Source:

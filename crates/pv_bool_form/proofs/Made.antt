@@ -4,10 +4,10 @@ use Rattle.std.specs.Prelude.{unwrap_or}
 use Rattle.std.specs.List.{AllByRecursion}
 use Rattle.std.proofs.lemmas.List.Elements.{All-nil}
 use Rattle.pv_word.specs.declared.types.Ty.TheVariants.{Bool as BoolType}
-use Rattle.pv_types.specs.declared.declaration.Var.{Var}
+use Rattle.pv_types.specs.declared.var.Var.{Var}
 use Rattle.pv_types.specs.declared.declaration.Section.{Section}
 use Rattle.pv_types.specs.Tree.{TypeTree, plain, VarTree, var}
-use Rattle.pv_types.specs.View.{var_tree, var_trees}
+use Rattle.pv_types.specs.View.{var_tree}
 use Rattle.pv_tree.specs.declared.expr.Root.{Root}
 use Rattle.pv_tree.specs.declared.expr.Root.TheVariants.{Local, Named, Area}
 use Rattle.pv_tree.specs.Tree.{ExprTree, lit, read, unary, binary, std, paren, OperandTree, operand, assign, assign_call, if_, case_, for_, while_, repeat_, exit_, continue_, return_, call_, empty_, StmtTrees, no_stmts, stmts, BodyTree, scl, stl, starts, BlockTree}
@@ -131,7 +131,7 @@ bits_seen : (vs : List VarTree) → map bit_of_cell (map first_cell vs) ≡ map 
 bits_seen [] = refl
 bits_seen (v ∷ vs) = ap (λ b. b ∷ map bit_of_cell (map first_cell vs)) (bit_seen v) ∙ ap (λ bs. bit_of_var v ∷ bs) (bits_seen vs)
 
-bits_of_vars : (vars : List Var) → map (λ v. bit_of_var (var_tree v)) vars ≡ map bit_of_var (var_trees vars)
+bits_of_vars : (vars : List Var) → map (λ v. bit_of_var (var_tree v)) vars ≡ map bit_of_var (map var_tree vars)
 bits_of_vars [] = refl
 bits_of_vars (v ∷ vars) = ap (λ bs. bit_of_var (var_tree v) ∷ bs) (bits_of_vars vars)
 
@@ -140,12 +140,12 @@ bits_of_vars (v ∷ vars) = ap (λ bs. bit_of_var (var_tree v) ∷ bs) (bits_of_
 -- what is made of a block's variables, its body and the pattern
 pub record IsMadeOf (block : BlockTree) (vs : List VarTree) (p : Pattern) (bits : List Bit) (body : List AssignmentTree) (holds : TermTree) : Type 0 where
   pub vars : vs ≡ block.vars
-  pub bits_are : bits ≡ map bit_of_var block.vars
+  pub bits_are : bits ≡ map bit_of_var vs
   pub body_is : body ≡ assignments_of (place_among vs) block.body
   pub holds_is : holds ≡ pattern_term (place_among vs) p
 
-pub made_of : (vars items : List Var) (bits : List Bit) → bits ≡ map (λ v. bit_of_var (var_tree v)) vars → vars ≡ items → bits ≡ map bit_of_var (var_trees items)
-made_of vars items bits are same = are ∙ bits_of_vars vars ∙ ap (λ vs. map bit_of_var (var_trees vs)) same
+pub made_of : (vars items : List Var) (bits : List Bit) → bits ≡ map (λ v. bit_of_var (var_tree v)) vars → vars ≡ items → bits ≡ map bit_of_var (map var_tree items)
+made_of vars items bits are same = are ∙ bits_of_vars vars ∙ ap (λ vs. map bit_of_var (map var_tree vs)) same
 
 abbrev program_with : List Bit → List AssignmentTree → TermTree → ProgramTree
 program_with bits body holds = record { bits = bits; body = body; holds = holds }
@@ -155,7 +155,7 @@ pub made_is : (block : BlockTree) (vs : List VarTree) (p : Pattern) (bits : List
     → program_with bits body holds ≡ pattern_program (first_source block patterns bound) p
 made_is block vs p bits body holds is form first patterns bound are =
     let source = first_source block patterns bound in
-    ap (λ bs. program_with bs body holds) (is.bits_are ∙ sym (bits_seen block.vars) ∙ ap (λ cs. map bit_of_cell cs) (sym (cells_are block patterns bound form are)))
+    ap (λ bs. program_with bs body holds) (is.bits_are ∙ ap (λ ws. map bit_of_var ws) is.vars ∙ sym (bits_seen block.vars) ∙ ap (λ cs. map bit_of_cell cs) (sym (cells_are block patterns bound form are)))
     ∙ ap (λ b. program_with (map bit_of_cell source.cells) b holds)
     (is.body_is ∙ ap (λ ws. assignments_of (place_among ws) block.body) is.vars ∙ sym (body_numbered source block.body form form.body))
     ∙ ap (λ t. program_with (map bit_of_cell source.cells) (assignments_of (number_of source) block.body) t)

@@ -2,14 +2,20 @@
 use Rattle.std.proofs.Math.Seq.{take-length, take-suc}
 use Rattle.std.proofs.Common.{◌≡◌, ◌<◌, ◌≤◌, ◌↔◌, ◌+◌, ℕ, suc, List, [], ◌∷◌, ◌++◌, length, take, get_or, append_assoc, map, Bool, true, false, nat_eq, Option, Some, None, is_some, option_map, bytes_eq, if◌then◌else◌, true≢false, refl, ap, sym, subst, ◌∙◌, arith}
 use Rattle.std.specs.Prelude.{All, unwrap_or}
-use Rattle.std.specs.List.{AllByRecursion}
+use Rattle.std.specs.List.{AllByRecursion, flat_map}
 use Rattle.std.proofs.lemmas.Bool.{eqb-true}
 use Rattle.std.proofs.lemmas.List.{append-nil, length-map, map-append}
 use Rattle.std.proofs.lemmas.List.Elements.{recursion_from_All, All-from_recursion}
-use Rattle.pv_types.specs.declared.declaration.Var.{Var}
-use Rattle.pv_types.specs.Tree.{VarTree}
-use Rattle.pv_types.specs.View.{name_of, var_tree, var_trees}
-use Rattle.pv_types.proofs.ForCallers.{var_seen}
+use Rattle.pv_types.specs.declared.var.Var.{Var}
+use Rattle.pv_types.specs.declared.declaration.Vars.{Vars}
+use Rattle.pv_types.specs.declared.declaration.Section.{Section}
+use Rattle.pv_types.specs.declared.declaration.Literal.{Literal}
+use Rattle.pv_types.specs.declared.name.Name.{Name}
+use Rattle.pv_place.specs.declared.place.Place.{Place}
+use Rattle.pv_types.specs.Tree.{TypeTree, VarTree, plain}
+use Rattle.pv_word.specs.declared.types.Ty.TheVariants.{Bool as BoolType}
+use Rattle.pv_types.specs.View.{type_tree, name_of, var_tree, vars_tree, word_tree}
+use Rattle.pv_types.proofs.ForCallers.{var_seen, vars_seen}
 use Rattle.pv_tree.specs.declared.expr.Root.{Root}
 use Rattle.pv_tree.specs.declared.expr.Root.TheVariants.{Local, Named, Area}
 use Rattle.pv_tree.specs.declared.expr.Operand.{Operand, fold_out-Operand}
@@ -19,16 +25,16 @@ use Rattle.pv_tree.specs.Tree.{ExprTree, StepTree, StepTrees, no_steps, steps as
 use Rattle.pv_tree.specs.View.{expr_step, step_step, operand_step, operand_tree, step_tree, steps_of, stmt_tree, stmts_of, stmt_trees}
 use Rattle.pv_tree.specs.Scopes.{first_var}
 use Rattle.pv_names.specs.Firsts.{first_number}
-use Rattle.pv_bool_form.specs.FirstForm.{IsFirstRoot, IsFirstOperand, IsFirstStmt, AreFirstStmts}
+use Rattle.pv_bool_form.specs.FirstForm.{IsFirstSection, IsFirstVar, IsFirstRoot, IsFirstOperand, IsFirstStmt, AreFirstStmts}
 use Rattle.pv_bool_form.specs.Numbering.{place_of_key, place_of_root}
 use Rattle.pv_bool_form.specs.Programs.{assignments_of_stmt, assignments_by}
 
 -- ---- variables
 
-pub keys_seen : (vars : List Var) → map (λ v. v.name.key) vars ≡ map (λ t. (name_of t).key) (var_trees vars)
+pub keys_seen : (vars : List Var) → map (λ v. v.name.now.key) vars ≡ map (λ t. (name_of t).key) (map var_tree vars)
 keys_seen [] = refl
 keys_seen (v ∷ vars) =
-    ap (λ t. (name_of t).key ∷ map (λ u. u.name.key) vars) (sym (var_seen v))
+    ap (λ t. (name_of t).key ∷ map (λ u. u.name.now.key) vars) (sym (var_seen v))
     ∙ ap (λ keys. (name_of (var_tree v)).key ∷ keys) (keys_seen vars)
 
 -- ---- numbers
@@ -82,7 +88,7 @@ root_declared vars (Area area bits byte bit) = (λ e. absurd (true≢false (sym 
 
 -- ---- the code's trees
 
-pub operand_seen : (o : Operand) → operand_tree o ≡ operand o.root (steps_of (map step_tree o.steps.items)) o.place
+pub operand_seen : (o : Operand) → operand_tree o ≡ operand o.root.value (steps_of (map step_tree o.steps.items)) o.place
 operand_seen o = fold_out-Operand ExprTree StepTree OperandTree expr_step step_step operand_step o
 
 pub stmts_seen : (vars : List VarTree) (ss : List Stmt) → All (λ s. IsFirstStmt vars (stmt_tree s)) ss ↔ AreFirstStmts vars (stmt_trees ss)
@@ -95,21 +101,6 @@ stmts_seen vars ss = (λ all. from ss (recursion_from_All _ ss all), λ are. All
     to : (xs : List Stmt) → AreFirstStmts vars (stmt_trees xs) → AllByRecursion (λ s. IsFirstStmt vars (stmt_tree s)) xs
     to [] are = tt
     to (x ∷ xs) are = (are.0, to xs are.1)
-
--- what holds of each element is what holds of each mapped one
-pub each-mapped : {X Y : Type 0} (P : Y → Type 0) (f : X → Y) (xs : List X) → All (λ x. P (f x)) xs ↔ All P (map f xs)
-each-mapped P f xs = (
-  λ all. All-from_recursion P (map f xs) (from xs (recursion_from_All _ xs all)),
-  λ all. All-from_recursion _ xs (to xs (recursion_from_All P (map f xs) all)),
-)
-  where
-    from : (ys : List _) → AllByRecursion (λ x. P (f x)) ys → AllByRecursion P (map f ys)
-    from [] all = tt
-    from (y ∷ ys) all = (all.0, from ys all.1)
-
-    to : (ys : List _) → AllByRecursion P (map f ys) → AllByRecursion (λ x. P (f x)) ys
-    to [] all = tt
-    to (y ∷ ys) all = (all.0, to ys all.1)
 
 -- no steps are none
 pub steps_none : (steps : List Step) → (nat_eq (length steps) 0 ≡ true) ↔ (steps_of (map step_tree steps) ≡ no_steps)
@@ -124,11 +115,11 @@ steps_none steps = none steps
     none (s ∷ ss) = (λ e. absurd (omega (arith, eqb-true (length (s ∷ ss)) 0 e)), λ e. absurd (true≢false (sym (ap (λ m. is_none m) e))))
 
 -- an operand is a first one where its root is and it has no steps
-pub operand_is : (vars : List VarTree) (o : Operand) → IsFirstRoot vars o.root → steps_of (map step_tree o.steps.items) ≡ no_steps
+pub operand_is : (vars : List VarTree) (o : Operand) → IsFirstRoot vars o.root.value → steps_of (map step_tree o.steps.items) ≡ no_steps
     → IsFirstOperand vars (operand_tree o)
 operand_is vars o root none = let P : OperandTree → Type 0 = λ t. IsFirstOperand vars t in subst P (sym (operand_seen o)) (root, none)
 
-pub operand_was : (vars : List VarTree) (o : Operand) → IsFirstOperand vars (operand_tree o) → IsFirstRoot vars o.root × (steps_of (map step_tree o.steps.items) ≡ no_steps)
+pub operand_was : (vars : List VarTree) (o : Operand) → IsFirstOperand vars (operand_tree o) → IsFirstRoot vars o.root.value × (steps_of (map step_tree o.steps.items) ≡ no_steps)
 operand_was vars o is = let P : OperandTree → Type 0 = λ t. IsFirstOperand vars t in
     subst P (operand_seen o) is
 
@@ -153,8 +144,70 @@ stmts_grown number xs i j x inside is e =
 
 -- names that were all put are those of all variables
 pub all_named : (vars : List Var) (i : ℕ) (key : List ℕ) (number : Option ℕ) → length vars ≤ i → i ≤ length vars
-    → number ≡ first_number (bytes_eq key) (map (λ v. v.name.key) (take i vars)) → number ≡ place_of_key (var_trees vars) key
+    → number ≡ first_number (bytes_eq key) (map (λ v. v.name.now.key) (take i vars)) → number ≡ place_of_key (map var_tree vars) key
 all_named vars i key number least most is =
     let e : i ≡ length vars = omega (arith, least, most) in
-    is ∙ ap (λ (vs : List Var). first_number (bytes_eq key) (map (λ v. v.name.key) vs)) (ap (λ n. take n vars) e ∙ take-length vars)
+    is ∙ ap (λ (vs : List Var). first_number (bytes_eq key) (map (λ v. v.name.now.key) vs)) (ap (λ n. take n vars) e ∙ take-length vars)
     ∙ ap (λ (keys : List (List ℕ)). first_number (bytes_eq key) keys) (keys_seen vars)
+
+-- ---- declarations
+
+-- what holds of all elements of some lists holds of all of those in each
+pub each-joined : {X Y : Type 0} (P : Y → Type 0) (f : X → List Y) (xs : List X) → All (λ x. All P (f x)) xs ↔ All P (flat_map f xs)
+each-joined P f xs = (
+  λ all. All-from_recursion P (flat_map f xs) (from xs (recursion_from_All _ xs all)),
+  λ all. All-from_recursion _ xs (to xs (recursion_from_All P (flat_map f xs) all)),
+)
+  where
+    both : (ys zs : List _) → AllByRecursion P ys → AllByRecursion P zs → AllByRecursion P (ys ++ zs)
+    both [] zs a c = c
+    both (y ∷ ys) zs a c = (a.0, both ys zs a.1 c)
+
+    front : (ys zs : List _) → AllByRecursion P (ys ++ zs) → AllByRecursion P ys
+    front [] zs a = tt
+    front (y ∷ ys) zs a = (a.0, front ys zs a.1)
+
+    back : (ys zs : List _) → AllByRecursion P (ys ++ zs) → AllByRecursion P zs
+    back [] zs a = a
+    back (y ∷ ys) zs a = back ys zs a.1
+
+    from : (ys : List _) → AllByRecursion (λ x. All P (f x)) ys → AllByRecursion P (flat_map f ys)
+    from [] all = tt
+    from (y ∷ ys) all = both (f y) (flat_map f ys) (recursion_from_All P (f y) all.0) (from ys all.1)
+
+    to : (ys : List _) → AllByRecursion P (flat_map f ys) → AllByRecursion (λ x. All P (f x)) ys
+    to [] all = tt
+    to (y ∷ ys) all = (All-from_recursion P (f y) (front (f y) (flat_map f ys) all), to ys (back (f y) (flat_map f ys) all))
+
+abbrev pub IsFirstDeclared : Vars → Type 0
+IsFirstDeclared v = IsFirstSection v.section × (type_tree v.ty ≡ plain BoolType) × (v.start ≡ None)
+
+words-first : (s : Section) (t : TypeTree) (start : Option Literal) (ws : List (Name × Place))
+    → IsFirstSection s × (t ≡ plain BoolType) × (start ≡ None) → AllByRecursion IsFirstVar (map (word_tree s t start) ws)
+words-first s t start [] is = tt
+words-first s t start (w ∷ ws) is = (is, words-first s t start ws is)
+
+-- variables that are declared at once are of the first form where the declaration is, or has no names
+pub declared-first : (v : Vars) → IsFirstDeclared v → All IsFirstVar (vars_tree v)
+declared-first v is =
+    All-from_recursion IsFirstVar (vars_tree v)
+    (subst (AllByRecursion IsFirstVar) (sym (vars_seen v)) (words-first v.section (type_tree v.ty) v.start v.names.items is))
+
+pub nameless-first : (v : Vars) → v.names.items ≡ [] → All IsFirstVar (vars_tree v)
+nameless-first v none =
+    All-from_recursion IsFirstVar (vars_tree v)
+    (subst (AllByRecursion IsFirstVar) (ap (map (word_tree v.section (type_tree v.ty) v.start)) (sym none) ∙ sym (vars_seen v)) tt)
+
+pub first-declared : (v : Vars) (w : Name × Place) (ws : List (Name × Place)) → v.names.items ≡ w ∷ ws → All IsFirstVar (vars_tree v)
+    → IsFirstDeclared v
+first-declared v w ws some all =
+    (subst (AllByRecursion IsFirstVar) (vars_seen v ∙ ap (map (word_tree v.section (type_tree v.ty) v.start)) some)
+    (recursion_from_All IsFirstVar (vars_tree v) all)).0
+
+-- so it is where there are names
+pub some-first : (v : Vars) → (v.names.items ≡ [] → ⊥) → All IsFirstVar (vars_tree v) → IsFirstDeclared v
+some-first v some all = by v.names.items refl
+  where
+    by : (ws : List (Name × Place)) → v.names.items ≡ ws → IsFirstDeclared v
+    by [] none = absurd (some none)
+    by (w ∷ ws) is = first-declared v w ws is all

@@ -6,3 +6,4 @@ pub mod Correct
 pub mod Machines
 -- cited by private contracts alone
 pub mod Numbering
+pub mod Wording

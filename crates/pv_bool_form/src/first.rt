@@ -2,7 +2,8 @@
 //!
 //! Each variable has one cell then, so the number of a word's cell is that of the variable.
 ghost use Rattle.std.specs.Prelude.{◌≡◌, ◌↔◌, ◌++◌, ℕ, List, All, OnOk, map, IfOk, IfSome, IsSome};
-ghost use Rattle.pv_types.specs.View.{var_tree, var_trees};
+ghost use Rattle.pv_types.specs.View.{var_tree};
+ghost use Rattle.pv_bool_form.specs.Wording.{words_of};
 ghost use Rattle.pv_tree.specs.Tree.{OperandTree};
 ghost use Rattle.pv_tree.specs.View.{operand_tree, expr_tree, stmt_tree, stmt_trees, body_tree, block_tree};
 ghost use Rattle.pv_bool.specs.Tree.{negation, term_tree, assignment_tree};
@@ -76,7 +77,7 @@ fn make_program(
     block: &Block,
     required: Requirement<'_>,
 ) -> Result<Program, AllocError>
-    requires words { var_trees words.now.vars.now ≡ (block_tree block.now).vars }
+    requires words { words_of words.now ≡ (block_tree block.now).vars }
     requires is_first { IsFirstForm (block_tree block.now)
         × IsFirstPattern (block_tree block.now).vars (pattern_tree required) }
     ensures { IfOk result (λ program. (patterns : List OperandTree) (bound : ℕ)
@@ -84,7 +85,7 @@ fn make_program(
         → program_tree program ≡ pattern_program
         (first_source (block_tree block.now) patterns bound) (pattern_tree required.entry)) }
 {
-    let bits = make_bits(alloc, block.interface.vars.as_slice())?;
+    let bits = make_bits(alloc, words.vars())?;
     let body = body_of(alloc, words, &block.body)?;
     let holds = term_of_pattern(alloc, words, required)?;
     Ok(Program { bits, body, holds })
@@ -95,15 +96,15 @@ fn make_bits(alloc: Global, vars: &[Var]) -> Result<Vec<Bit>, AllocError>
 {
     let mut bits = Vec::with_capacity(alloc, vars.len())?;
     for var in vars {
-        bits.push(make_bit(var))?;
+        bits.push(make_bit(*var))?;
     }
     Ok(bits)
 }
 
-fn make_bit(var: &Var) -> Bit
-    ensures { result ≡ bit_of_var (var_tree var.now) }
+fn make_bit(var: Var) -> Bit
+    ensures { result ≡ bit_of_var (var_tree var.entry) }
 {
-    let role = match var.section {
+    let role = match var.of.section {
         Section::Input | Section::InOut => BitRole::Input,
         _ => BitRole::Kept,
     };
@@ -112,7 +113,7 @@ fn make_bit(var: &Var) -> Bit
 
 fn body_of(alloc: Global, words: &Words, body: &Body) -> Result<Vec<Assignment>, AllocError>
     ensures { IfOk result (λ made. map assignment_tree made.items
-        ≡ assignments_of (place_among (var_trees words.now.vars.now)) (body_tree body.now)) }
+        ≡ assignments_of (place_among (words_of words.now)) (body_tree body.now)) }
 {
     match body {
         Body::Scl(statements) => assignments(alloc, words, statements.as_slice()),
@@ -126,7 +127,7 @@ fn assignments(
     statements: &[Stmt],
 ) -> Result<Vec<Assignment>, AllocError>
     ensures { IfOk result (λ made. map assignment_tree made.items
-        ≡ assignments_by (place_among (var_trees words.now.vars.now)) (stmt_trees statements.now)) }
+        ≡ assignments_by (place_among (words_of words.now)) (stmt_trees statements.now)) }
 {
     let mut made = Vec::with_capacity(alloc, statements.len())?;
     for statement in statements {
@@ -142,7 +143,7 @@ fn push_assignment(
     made: &mut Vec<Assignment>,
 ) -> Result<(), AllocError>
     ensures { OnOk result (map assignment_tree made.new.items ≡ map assignment_tree made.old.items
-        ++ assignments_of_stmt (place_among (var_trees words.now.vars.now)) (stmt_tree statement.now)) }
+        ++ assignments_of_stmt (place_among (words_of words.now)) (stmt_tree statement.now)) }
 {
     match statement {
         Stmt::Assign { target, value, .. } => {
@@ -160,8 +161,8 @@ fn assignment(
     value: &Expr,
 ) -> Result<Assignment, AllocError>
     ensures { IfOk result (λ made. assignment_tree made ≡ record {
-      target = place_among (var_trees words.now.vars.now) (operand_tree target.now);
-      value = term_by (place_among (var_trees words.now.vars.now)) (expr_tree value.now);
+      target = place_among (words_of words.now) (operand_tree target.now);
+      value = term_by (place_among (words_of words.now)) (expr_tree value.now);
     }) }
 {
     Ok(Assignment {
@@ -171,7 +172,8 @@ fn assignment(
 }
 
 fn term_of(alloc: Global, words: &Words, e: &Expr) -> Result<Term, AllocError>
-    ensures { IfOk result (λ made. term_tree made ≡ term_by (place_among (var_trees words.now.vars.now)) (expr_tree e.now)) }
+    ensures { IfOk result (λ made. term_tree made
+        ≡ term_by (place_among (words_of words.now)) (expr_tree e.now)) }
 {
     match e {
         Expr::Lit { value, .. } => Ok(Term::Constant(*value == 1)),
@@ -199,7 +201,7 @@ fn term_of_pattern(
     required: Requirement<'_>,
 ) -> Result<Term, AllocError>
     ensures { IfOk result (λ made. term_tree made
-        ≡ pattern_term (place_among (var_trees words.now.vars.now)) (pattern_tree required.entry)) }
+        ≡ pattern_term (place_among (words_of words.now)) (pattern_tree required.entry)) }
 {
     match required {
         Requirement::Invariant(a) => term_of(alloc, words, a),
@@ -217,7 +219,7 @@ fn term_of_pattern(
 
 fn negation_of(alloc: Global, words: &Words, e: &Expr) -> Result<Term, AllocError>
     ensures { IfOk result (λ made. term_tree made
-        ≡ negation (term_by (place_among (var_trees words.now.vars.now)) (expr_tree e.now))) }
+        ≡ negation (term_by (place_among (words_of words.now)) (expr_tree e.now))) }
 {
     let term = term_of(alloc, words, e)?;
     Ok(Term::Not(Box::new(alloc, term)?))

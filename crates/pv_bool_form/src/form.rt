@@ -1,7 +1,8 @@
 //! Whether a block and an expression are of the first form: each test is of one part of the tree.
 ghost use Rattle.std.specs.Prelude.{◌≡◌, ◌≤◌, ◌↔◌, ◌⊎◌, ℕ, List, All, IfOk, IsTrue, length, map, Some, None};
 ghost use Rattle.pv_types.specs.Tree.{plain};
-ghost use Rattle.pv_types.specs.View.{type_tree, var_tree, var_trees};
+ghost use Rattle.pv_types.specs.View.{type_tree, vars_tree, var_trees};
+ghost use Rattle.pv_bool_form.specs.Wording.{words_of};
 ghost use Rattle.pv_tree.specs.Tree.{no_steps};
 ghost use Rattle.pv_tree.specs.View.{operand_tree, step_tree, steps_of, expr_tree, stmt_tree, stmt_trees, body_tree, block_tree};
 ghost use Rattle.pv_bool_form.specs.FirstForm.{IsFirstSection, IsFirstVar, IsFirstOperand, IsTruth, IsFirstExpr, IsFirstPattern, IsFirstStmt, AreFirstStmts, IsFirstBody, IsFirstForm, IsFirstBlock};
@@ -10,7 +11,7 @@ ghost use Rattle.pv_bool_form.specs.Requirements.{pattern_tree};
 use crate::requirement::Requirement;
 use crate::words::Words;
 use pv_tree::{BinaryOp, Block, BlockKind, Body, Expr, Operand, Step, Stmt, UnaryOp};
-use pv_types::{DeclType, Interface, MAX_LEAVES, Section, Var};
+use pv_types::{DeclType, Interface, MAX_LEAVES, Section, Vars, are_at_most};
 use pv_word::Ty;
 use std::alloc::{AllocError, Global};
 
@@ -40,12 +41,12 @@ pub fn is_first_requirement(alloc: Global, block: &Block, a: &Expr) -> Result<bo
 pub(crate) fn has_few_vars(block: &Block) -> bool
     ensures { IsTrue result ↔ (length (block_tree block.now).vars ≤ MAX_LEAVES) }
 {
-    block.interface.vars.len() <= MAX_LEAVES
+    are_at_most(block.interface.vars.as_slice(), MAX_LEAVES)
 }
 
 /// Whether the block, whose words these are, is of the first form.
 pub(crate) fn is_first_form(words: &Words, block: &Block) -> bool
-    requires words { var_trees words.now.vars.now ≡ (block_tree block.now).vars }
+    requires words { words_of words.now ≡ (block_tree block.now).vars }
     ensures { IsTrue result ↔ IsFirstForm (block_tree block.now) }
 {
     is_plain_function_block(block)
@@ -70,14 +71,24 @@ fn is_first_interface(interface: &Interface) -> bool
     are_first_vars(interface.vars.as_slice())
 }
 
-fn are_first_vars(vars: &[Var]) -> bool
-    ensures { IsTrue result ↔ All (λ v. IsFirstVar (var_tree v)) vars.now }
+fn are_first_vars(vars: &[Vars]) -> bool
+    ensures { IsTrue result ↔ All (λ v. All IsFirstVar (vars_tree v)) vars.now }
 {
-    vars.iter().all(|v| is_first_var(v))
+    vars.iter().all(|v| are_first_words(v))
 }
 
-fn is_first_var(v: &Var) -> bool
-    ensures { IsTrue result ↔ IsFirstVar (var_tree v.now) }
+fn are_first_words(v: &Vars) -> bool
+    ensures { IsTrue result ↔ All IsFirstVar (vars_tree v.now) }
+{
+    if v.names.is_empty() {
+        return true;
+    }
+    is_first_declared(v)
+}
+
+fn is_first_declared(v: &Vars) -> bool
+    ensures { IsTrue result ↔ (IsFirstSection v.now.section × (type_tree v.now.ty ≡ plain Ty.Bool)
+        × (v.now.start ≡ None)) }
 {
     is_first_section(v.section) && is_bool(&v.ty) && v.start.is_none()
 }
@@ -101,7 +112,7 @@ fn is_bool(ty: &DeclType) -> bool
 }
 
 fn is_first_body(words: &Words, body: &Body) -> bool
-    ensures { IsTrue result ↔ IsFirstBody (var_trees words.now.vars.now) (body_tree body.now) }
+    ensures { IsTrue result ↔ IsFirstBody (words_of words.now) (body_tree body.now) }
 {
     match body {
         Body::Scl(statements) => are_first_statements(words, statements.as_slice()),
@@ -110,13 +121,14 @@ fn is_first_body(words: &Words, body: &Body) -> bool
 }
 
 fn are_first_statements(words: &Words, statements: &[Stmt]) -> bool
-    ensures { IsTrue result ↔ All (λ s. IsFirstStmt (var_trees words.now.vars.now) (stmt_tree s)) statements.now }
+    ensures { IsTrue result
+        ↔ All (λ s. IsFirstStmt (words_of words.now) (stmt_tree s)) statements.now }
 {
     statements.iter().all(|s| is_first_stmt(words, s))
 }
 
 fn is_first_stmt(words: &Words, statement: &Stmt) -> bool
-    ensures { IsTrue result ↔ IsFirstStmt (var_trees words.now.vars.now) (stmt_tree statement.now) }
+    ensures { IsTrue result ↔ IsFirstStmt (words_of words.now) (stmt_tree statement.now) }
 {
     match statement {
         Stmt::Assign { target, value, .. } => {
@@ -128,7 +140,7 @@ fn is_first_stmt(words: &Words, statement: &Stmt) -> bool
 
 /// Whether the expression is of the first form over these words.
 pub(crate) fn is_first_expr(words: &Words, e: &Expr) -> bool
-    ensures { IsTrue result ↔ IsFirstExpr (var_trees words.now.vars.now) (expr_tree e.now) }
+    ensures { IsTrue result ↔ IsFirstExpr (words_of words.now) (expr_tree e.now) }
 {
     match e {
         Expr::Lit { ty, value, .. } => is_truth(*ty, *value),
@@ -147,7 +159,7 @@ pub(crate) fn is_first_expr(words: &Words, e: &Expr) -> bool
 
 /// Whether it is a requirement of a scan's end, with expressions of the first form over these words.
 pub(crate) fn is_first_pattern(words: &Words, required: Requirement<'_>) -> bool
-    ensures { IsTrue result ↔ IsFirstPattern (var_trees words.now.vars.now) (pattern_tree required.entry) }
+    ensures { IsTrue result ↔ IsFirstPattern (words_of words.now) (pattern_tree required.entry) }
 {
     match required {
         Requirement::Invariant(a) => is_first_expr(words, a),
@@ -187,7 +199,7 @@ fn is_and_or_or(op: BinaryOp) -> bool
 }
 
 fn is_first_operand(words: &Words, operand: &Operand) -> bool
-    ensures { IsTrue result ↔ IsFirstOperand (var_trees words.now.vars.now) (operand_tree operand.now) }
+    ensures { IsTrue result ↔ IsFirstOperand (words_of words.now) (operand_tree operand.now) }
 {
     words.has(&operand.root) && is_none(operand.steps.as_slice())
 }

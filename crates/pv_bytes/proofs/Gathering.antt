@@ -36,7 +36,7 @@ pub steps_listed : (ss : List Step) → flat_map (λ s. operands_in_step (step_t
 steps_listed [] = refl
 steps_listed (s ∷ ss) = ap (λ l. operands_in_step (step_tree s) ++ l) (steps_listed ss)
 
-pub operand_seen : (o : Operand) → operand_tree o ≡ operand o.root (steps_of (map step_tree o.steps.items)) o.place
+pub operand_seen : (o : Operand) → operand_tree o ≡ operand o.root.value (steps_of (map step_tree o.steps.items)) o.place
 operand_seen o = fold_out-Operand ExprTree StepTree OperandTree expr_step step_step operand_step o
 
 pub conditions_listed : {X : Type 0} (g : X → ExprTree) (h : X → StmtTrees) (xs : List X)

@@ -14,7 +14,8 @@ ghost use Rattle.pv_bytes.specs.Operands.{operands_in_call, operands_in_stmt, op
 use crate::marks::Marks;
 use crate::statements::statements_of;
 use pv_tree::{
-    Area, Block, Body, CallTree, Expr, Instr, Operand, Project, Stmt, operand_of_instruction,
+    Area, Block, Body, CallTree, Expr, ForHead, Instr, Operand, Project, Stmt,
+    operand_of_instruction,
 };
 use pv_types::{Literal, Name};
 use pv_word::Ty;
@@ -80,7 +81,7 @@ impl Marks {
             (flat_map (λ s. operands_in_call s.call)
             (parts.calls_of_instruction (instr_tree instr.now))) }
     {
-        match &instr.call {
+        match instr.call() {
             Some(call) => self.mark_call(area, call),
             None => {}
         }
@@ -103,6 +104,14 @@ impl Marks {
     {
         self.mark_expr(area, left);
         self.mark_expr(area, right);
+    }
+
+    /// Marks the bytes that the start and the end of a FOR name.
+    fn mark_head(&mut self, area: Area, head: &ForHead)
+        ensures { MarksAlso area self.old.flags.items self.new.flags.items
+            (operands_in (expr_tree head.now.first) ++ operands_in (expr_tree head.now.last)) }
+    {
+        self.mark_both(area, &head.first, &head.last);
     }
 
     /// Marks the bytes that an assignment's value and its target's indexes name.
@@ -133,7 +142,7 @@ impl Marks {
             Stmt::AssignCall { target, call, .. } => self.mark_assigned_call(area, target, call),
             Stmt::If { arms, .. } => self.mark_conditions(area, arms.as_slice()),
             Stmt::Case { selector, .. } => self.mark_expr(area, selector),
-            Stmt::For { first, last, .. } => self.mark_both(area, first, last),
+            Stmt::For { head, .. } => self.mark_head(area, head),
             Stmt::While { cond, .. } => self.mark_expr(area, cond),
             Stmt::Repeat { cond, .. } => self.mark_expr(area, cond),
             Stmt::Call(call) => self.mark_call(area, call),

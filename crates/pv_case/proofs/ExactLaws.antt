@@ -1,5 +1,5 @@
 -- The first rule that a case breaks is one.
-use Rattle.std.proofs.Common.{◌≡◌, ℕ, pos, ◌≢◌, List, [], ◌∷◌, ◌++◌, Bool, true, false, ◌&&◌, ◌||◌, IsTrue, true≢false, Option, Some, None, unwrap_or, refl, sym, ap, ◌∙◌, subst, bytes_eq, codes, is_some}
+use Rattle.std.proofs.Common.{◌≡◌, ℕ, pos, List, [], ◌∷◌, ◌++◌, Bool, true, false, ◌&&◌, ◌||◌, IsTrue, true≢false, Option, Some, None, unwrap_or, refl, sym, ap, ◌∙◌, subst, bytes_eq, codes, is_some}
 use mathlib.Core.Logic.{inl, inr}
 use Rattle.std.specs.Prelude.{ℤ}
 use Rattle.std.specs.List.{list_all}

@@ -60,6 +60,7 @@ fn operand_of(alloc: Global, at: &str, ty: &str) -> Result<Option<TypedAt>, Allo
         byte: address.byte,
         bit: address.bit,
     };
+    let root = Box::new(alloc, root)?;
     Ok(Some(TypedAt {
         at: Operand {
             root,
@@ -95,7 +96,7 @@ fn add<'a>(
         return Err(bad(name));
     };
     let name_of = Name::plain(alloc, name.as_bytes())?;
-    let key = name_of.key.clone()?;
+    let key = name_of.key().clone()?;
     if !symbols.seen.insert(key)? {
         return Err(bad(name));
     }

@@ -22,8 +22,8 @@ stepped root place (step ∷ more) e = refl
 
 -- one with steps is no name
 pub steps_unnamed : (o : Operand) → nat_eq (length o.steps.items) 0 ≡ false → name_of_operand (operand_tree o) ≡ None
-steps_unnamed o e = ap name_of_operand (operand_seen o) ∙ stepped o.root o.place o.steps.items e
+steps_unnamed o e = ap name_of_operand (operand_seen o) ∙ stepped o.root.value o.place o.steps.items e
 
 -- one without steps has the name of where it begins
-pub root_named : (o : Operand) → nat_eq (length o.steps.items) 0 ≡ true → name_of_operand (operand_tree o) ≡ name_of_root o.root
-root_named o e = ap name_of_operand (operand_seen o) ∙ stepless o.root o.place o.steps.items e
+pub root_named : (o : Operand) → nat_eq (length o.steps.items) 0 ≡ true → name_of_operand (operand_tree o) ≡ name_of_root o.root.value
+root_named o e = ap name_of_operand (operand_seen o) ∙ stepless o.root.value o.place o.steps.items e

@@ -54,7 +54,7 @@ fn number_of(blocks: &[Block], name: &Name) -> Result<Option<u32>, AllocError>
 fn may_enter(block: &Block, name: &Name) -> bool
     ensures { result ≡ may_enter name.now.key (block_tree block.now) }
 {
-    name.key == block.name.key && matches!(block.kind, BlockKind::Fb | BlockKind::Ob)
+    name.key() == block.name.key() && matches!(block.kind, BlockKind::Fb | BlockKind::Ob)
 }
 
 /// Whether a source may be so long.

@@ -117,10 +117,10 @@ module _ (b : BlockTree) where
       lead false e = refl
 
 -- what the code finds of a block, said of its entry
-pub held-there : (b c : BlockTree) (v : VarTree) → b ≡ c → Some v ≡ (if is_db b.kind then Some (data_var b) else None)
-    → (is_db c.kind ≡ true) × (v ≡ data_var c)
-held-there b c v same is =
-    there_where (is_db c.kind) v (data_var c) (is ∙ ap (λ x. if is_db x.kind then Some (data_var x) else None) same)
+pub held-there : (b c : BlockTree) (vs : List VarTree) → b ≡ c → Some vs ≡ (if is_db b.kind then Some (data_var b ∷ []) else None)
+    → (is_db c.kind ≡ true) × (vs ≡ data_var c ∷ [])
+held-there b c vs same is =
+    there_where (is_db c.kind) vs (data_var c ∷ []) (is ∙ ap (λ x. if is_db x.kind then Some (data_var x ∷ []) else None) same)
 
-pub none-there : (b c : BlockTree) → b ≡ c → None ≡ (if is_db b.kind then Some (data_var b) else None) → is_db c.kind ≡ false
-none-there b c same is = none_where (is_db c.kind) (data_var c) (is ∙ ap (λ x. if is_db x.kind then Some (data_var x) else None) same)
+pub none-there : (b c : BlockTree) → b ≡ c → None ≡ (if is_db b.kind then Some (data_var b ∷ []) else None) → is_db c.kind ≡ false
+none-there b c same is = none_where (is_db c.kind) (data_var c ∷ []) (is ∙ ap (λ x. if is_db x.kind then Some (data_var x ∷ []) else None) same)

@@ -71,12 +71,12 @@ module _ (p : ProjectTree) (ss : List Step) (i : ℕ) (t whole : Option Laid) wh
   pub steps-done : length ss ≤ i → same_laid (laid_behind p t (steps_of (map step_tree (drop i ss)))) whole → same_laid t whole
   steps-done past left = ap (λ l. C (laid_behind p t (steps_of (map step_tree l)))) (sym (drop_all i ss past)) ∙ left
 
-operand_seen : (o : Operand) → operand_tree o ≡ operand o.root (steps_of (map step_tree o.steps.items)) o.place
+operand_seen : (o : Operand) → operand_tree o ≡ operand o.root.value (steps_of (map step_tree o.steps.items)) o.place
 operand_seen o = fold_out-Operand ExprTree StepTree OperandTree expr_step step_step operand_step o
 
-pub started-made : (p : ProjectTree) (ty : TypeTree) (o : Operand) (r root : Option Laid) (ss : List Step) → root ≡ C (started_from p ty o.root)
+pub started-made : (p : ProjectTree) (ty : TypeTree) (o : Operand) (r root : Option Laid) (ss : List Step) → root ≡ C (started_from p ty o.root.value)
     → ss ≡ o.steps.items → same_laid r (laid_behind p root (steps_of (map step_tree ss))) → same_laid r (started p ty (operand_tree o))
 started-made p ty o r root ss begins all goes =
     goes ∙ ap (λ l. C (laid_behind p root (steps_of (map step_tree l)))) all
-    ∙ behind-same p (steps_of (map step_tree o.steps.items)) root (started_from p ty o.root) (counted-same root (started_from p ty o.root) begins)
+    ∙ behind-same p (steps_of (map step_tree o.steps.items)) root (started_from p ty o.root.value) (counted-same root (started_from p ty o.root.value) begins)
     ∙ ap (λ x. C (started p ty x)) (sym (operand_seen o))

@@ -58,7 +58,7 @@ fn push_instr<'p>(calls: &mut Vec<Made<'p>>, instr: &'p Instr) -> Result<(), All
     ensures { OnOk result (map made_tree calls.new.items
         ≡ map made_tree calls.old.items ++ calls_of_instruction (instr_tree instr.now)) }
 {
-    match &instr.call {
+    match instr.call() {
         Some(call) => push_call(calls, how_of(instr.op), call),
         None => Ok(()),
     }

@@ -1,12 +1,13 @@
 //! Copies of declarations: a data block is laid out as the one variable that it is, which takes its fields with it.
-ghost use Rattle.std.specs.Prelude.{◌≡◌, Some, None, IfOk, option_map, if◌then◌else◌};
-ghost use Rattle.pv_types.specs.View.{type_tree, var_tree, var_trees};
+ghost use Rattle.std.specs.Prelude.{◌≡◌, ◌∷◌, [], Some, None, IfOk, option_map, if◌then◌else◌};
+ghost use Rattle.pv_types.specs.View.{type_tree, vars_tree, var_trees};
 ghost use Rattle.pv_tree.specs.View.{block_tree};
 ghost use Rattle.pv_mean.specs.Layout.{is_db, data_type};
 ghost use Rattle.pv_cells.specs.Starts.{data_var};
 
+use pv_place::Place;
 use pv_tree::{Block, BlockKind};
-use pv_types::{DeclType, Section, Var};
+use pv_types::{DeclType, Name, Section, Vars};
 use std::alloc::{AllocError, Global};
 
 /// A copy of a type.
@@ -36,30 +37,40 @@ fn copied_type(alloc: Global, ty: &DeclType) -> Result<DeclType, AllocError>
     }
 }
 
-/// A copy of a variable.
-#[cycle(copying)]
-fn copied_var(alloc: Global, var: &Var) -> Result<Var, AllocError>
-    ensures { IfOk result (λ copy. var_tree copy ≡ var_tree var.now) }
+/// Copies of names with their places.
+fn copied_names(alloc: Global, names: &[(Name, Place)]) -> Result<Vec<(Name, Place)>, AllocError>
+    ensures { IfOk result (λ copies. copies.items ≡ names.now) }
 {
-    let name = var.name.clone()?;
-    let ty = copied_type(alloc, &var.ty)?;
-    Ok(Var {
-        name,
-        section: var.section,
+    let mut copies = Vec::with_capacity(alloc, names.len())?;
+    for word in names {
+        copies.push((word.0.clone()?, word.1))?;
+    }
+    Ok(copies)
+}
+
+/// A copy of variables that are declared at once, which share the copy of the type.
+#[cycle(copying)]
+fn copied_declared(alloc: Global, of: &Vars) -> Result<Vars, AllocError>
+    ensures { IfOk result (λ copy. vars_tree copy ≡ vars_tree of.now) }
+{
+    let names = copied_names(alloc, of.names.as_slice())?;
+    let ty = copied_type(alloc, &of.ty)?;
+    Ok(Vars {
+        names,
+        section: of.section,
         ty,
-        start: var.start,
-        place: var.place,
+        start: of.start,
     })
 }
 
 /// Copies of variables.
 #[cycle(copying)]
-fn copied_vars(alloc: Global, vars: &[Var]) -> Result<Vec<Var>, AllocError>
+fn copied_vars(alloc: Global, vars: &[Vars]) -> Result<Vec<Vars>, AllocError>
     ensures { IfOk result (λ copies. var_trees copies.items ≡ var_trees vars.now) }
 {
     let mut copies = Vec::new(alloc);
-    for var in vars {
-        copies.push(copied_var(alloc, var)?)?;
+    for of in vars {
+        copies.push(copied_declared(alloc, of)?)?;
     }
     Ok(copies)
 }
@@ -82,18 +93,18 @@ fn held_type(alloc: Global, block: &Block) -> Result<Option<DeclType>, AllocErro
 }
 
 /// The variable that a data block is.
-pub(crate) fn data_variable(alloc: Global, block: &Block) -> Result<Option<Var>, AllocError>
-    ensures { IfOk result (λ o. option_map var_tree o ≡ (if is_db (block_tree block.now).kind
-        then Some (data_var (block_tree block.now)) else None)) }
+pub(crate) fn data_variable(alloc: Global, block: &Block) -> Result<Option<Vars>, AllocError>
+    ensures { IfOk result (λ o. option_map vars_tree o ≡ (if is_db (block_tree block.now).kind
+        then Some (data_var (block_tree block.now) ∷ []) else None)) }
 {
     let Some(ty) = held_type(alloc, block)? else {
         return Ok(None);
     };
-    Ok(Some(Var {
-        name: block.name.clone()?,
+    let names = vec![in alloc; (block.name.clone()?, block.place)]?;
+    Ok(Some(Vars {
+        names,
         section: Section::Static,
         ty,
         start: None,
-        place: block.place,
     }))
 }

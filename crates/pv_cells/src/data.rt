@@ -1,5 +1,5 @@
 //! The cells of data blocks, with the values that the blocks give to them.
-ghost use Rattle.std.specs.Prelude.{◌≡◌, ◌++◌, ◌≤◌, pos, neg_ℤ, true, None, IfSome, IfNone, List, Option, length, map, flat_map, option_map, option_and_then, IfOk, OnOk};
+ghost use Rattle.std.specs.Prelude.{◌≡◌, ◌∷◌, [], ◌++◌, ◌≤◌, pos, neg_ℤ, true, None, IfSome, IfNone, List, Option, length, map, flat_map, option_map, option_and_then, IfOk, OnOk};
 ghost use Rattle.pv_tree.specs.Scopes.{type_named, is_of_instance};
 ghost use Rattle.pv_tree.specs.Parts.{starts_of};
 ghost use Rattle.pv_tree.specs.View.{step_tree, steps_of, operand_tree, start_tree, body_tree};
@@ -9,17 +9,17 @@ ghost use Rattle.pv_mean.specs.Cells as table;
 ghost use Rattle.pv_names.specs.Entries.{block_of};
 ghost use Rattle.pv_names.specs.Sorts.{number_value};
 ghost use Rattle.pv_cells.specs.Planned.{planned, IsPlan};
-ghost use Rattle.pv_types.specs.View.{var_tree};
+ghost use Rattle.pv_types.specs.View.{vars_tree};
 ghost use Rattle.pv_tree.specs.Scopes.{ProjectTree};
 ghost use Rattle.pv_cells.specs.Starts.{same_laid, data_var};
 
 use crate::copies::data_variable;
 use crate::plan::Plan;
-use crate::variables::{Form, push_variable};
+use crate::variables::{Form, push_declared};
 use pv_mean::{Cell, Laid, Part};
 use pv_names::{Entry, Number, Scope, literal_of};
 use pv_tree::{BlockKind, Body, Operand, Root, Step};
-use pv_types::{DeclType, Literal, MAX_LEAVES, Name, Var};
+use pv_types::{DeclType, Literal, MAX_LEAVES, Name, Vars};
 use std::alloc::{AllocError, Global};
 
 /// Gives the cell of this number, if there is one, another start value.
@@ -222,17 +222,17 @@ impl<'p> Plan<'p> {
         &self,
         alloc: Global,
         entry: &'p Entry<'p>,
-        held: &Var,
+        held: &Vars,
     ) -> Result<Vec<Cell>, AllocError>
         requires plan { IsPlan self.now }
         requires kind { layout.is_db (block_of entry.now).kind ≡ true }
-        requires held { var_tree held.now ≡ data_var (block_of entry.now) }
+        requires held { vars_tree held.now ≡ data_var (block_of entry.now) ∷ [] }
         requires few { length (table.data_cells (planned self.now) (block_of entry.now)) ≤ MAX_LEAVES }
         ensures { IfOk result (λ v. v.items
             ≡ table.data_cells (planned self.now) (block_of entry.now)) }
     {
         let mut cells = Vec::new(alloc);
-        push_variable(alloc, &mut cells, &self.types, held, Form::Visible)?;
+        push_declared(alloc, &mut cells, &self.types, held, Form::Visible)?;
         self.set_starts_of(entry, cells.as_mut_slice(), &entry.block().body);
         Ok(cells)
     }

@@ -1,21 +1,21 @@
 //! What the cells of a project are made by: its named types, and the sizes of all that has cells.
 ghost use Rattle.std.specs.Prelude.{◌≡◌, ◌++◌, ◌≤◌, length, map, IfOk, OnOk};
-ghost use Rattle.pv_types.specs.View.{var_tree, var_trees};
+ghost use Rattle.pv_types.specs.View.{vars_tree, var_trees};
 ghost use Rattle.pv_types.specs.declared.layout.TheConstants.{MAX_LEAVES};
 ghost use Rattle.pv_tree.specs.View.{block_tree};
 ghost use Rattle.pv_mean.specs.ProjectSizes.{project_tree};
 ghost use Rattle.pv_mean.specs.Cells as table;
 ghost use Rattle.pv_mean.specs.LaidOut.{test_of};
 ghost use Rattle.pv_names.specs.Tables.{project_of};
-ghost use Rattle.pv_cells.specs.Forms.{formed, leaves_if, leaves_among};
+ghost use Rattle.pv_cells.specs.Forms.{formed, leaves_among};
 ghost use Rattle.pv_cells.specs.Planned.{planned, IsPlan};
 
 use crate::types::named_types;
-use crate::variables::{Form, push_variable};
+use crate::variables::{Form, push_declared};
 use pv_mean::{Cell, Part, Sizes};
 use pv_names::Tables;
 use pv_tree::{Block, BlockKind, Project};
-use pv_types::{Types, Var};
+use pv_types::{Types, Vars};
 use std::alloc::{AllocError, Global};
 
 /// A project with its named types and its sizes.
@@ -48,24 +48,25 @@ impl<'p> Plan<'p> {
         })
     }
 
-    /// Puts the cells of a variable behind others, if it is of the part.
+    /// Puts the cells of variables that are declared at once behind others, if they are of the part.
     fn push_part(
         &self,
         alloc: Global,
         cells: &mut Vec<Cell>,
-        var: &Var,
+        of: &Vars,
         part: Part,
         form: Form,
     ) -> Result<(), AllocError>
         requires plan { IsPlan self.now }
-        requires few { length (leaves_if (planned self.now) (test_of part) (var_tree var.now)) ≤ MAX_LEAVES }
+        requires few { length (leaves_among (planned self.now) (test_of part) (vars_tree of.now))
+            ≤ MAX_LEAVES }
         ensures { OnOk result (cells.new.items ≡ cells.old.items
-            ++ map (formed form) (leaves_if (planned self.now) (test_of part) (var_tree var.now))) }
+            ++ map (formed form) (leaves_among (planned self.now) (test_of part) (vars_tree of.now))) }
     {
-        if !part.has(var.section) {
+        if !part.has(of.section) {
             return Ok(());
         }
-        push_variable(alloc, cells, &self.types, var, form)
+        push_declared(alloc, cells, &self.types, of, form)
     }
 
     /// Puts the cells of a part of some variables behind others.
@@ -73,7 +74,7 @@ impl<'p> Plan<'p> {
         &self,
         alloc: Global,
         cells: &mut Vec<Cell>,
-        vars: &[Var],
+        vars: &[Vars],
         part: Part,
         form: Form,
     ) -> Result<(), AllocError>
@@ -83,8 +84,8 @@ impl<'p> Plan<'p> {
         ensures { OnOk result (cells.new.items ≡ cells.old.items
             ++ map (formed form) (leaves_among (planned self.now) (test_of part) (var_trees vars.now))) }
     {
-        for var in vars {
-            self.push_part(alloc, cells, var, part, form)?;
+        for of in vars {
+            self.push_part(alloc, cells, of, part, form)?;
         }
         Ok(())
     }

@@ -8,6 +8,7 @@ ghost use Rattle.pv_mean.specs.Cells as table;
 ghost use Rattle.pv_mean.specs.Counts.{capped};
 ghost use Rattle.pv_mean.specs.ProjectSizes.{project_tree};
 ghost use Rattle.pv_cells.specs.Graphs.{node_tree, IsNode};
+ghost use Rattle.pv_names.specs.Entries.{block_of};
 ghost use Rattle.pv_names.specs.Tables.{project_of};
 ghost use Rattle.pv_cells.specs.Answered.{Tabled};
 ghost use Rattle.pv_cells.specs.Drawn.{drawn, IsGraph};
@@ -22,7 +23,7 @@ use crate::own::sum;
 use crate::plan::Plan;
 use pv_bytes::Bytes;
 use pv_mean::{BEYOND, Cell, laws};
-use pv_names::{Tables, entries};
+use pv_names::{Entry, Tables, entries};
 use pv_place::Role;
 use pv_tree::{Operand, Project};
 use pv_types::MAX_LEAVES;
@@ -185,6 +186,23 @@ fn planned_cells(
     drawn_cells(alloc, &plan, entry, named)
 }
 
+/// The table of a project whose blocks have these tables of variables.
+fn named_cells(
+    alloc: Global,
+    project: &Project,
+    blocks: &[Entry],
+    entry: u32,
+    named: &[Operand],
+) -> Result<Vec<Cell>, CellFault>
+    requires blocks { map block_of blocks.now ≡ (project_tree project.now).blocks }
+    requires inside { entry < length (project_tree project.now).blocks }
+    ensures { Tabled (project_tree project.now) entry
+        (bytes_of (project_tree project.now) (map operand_tree named.now)) result }
+{
+    let tables = Tables::of(alloc, blocks, project.symbols())?;
+    planned_cells(alloc, project, &tables, entry, named)
+}
+
 /// The cell table of a project that is entered at the block of this number, a function block or an OB, before a case says which
 /// cells are parameters. The bytes of areas that `named` names have cells, besides those that the sources and the symbols name.
 ///
@@ -211,6 +229,5 @@ pub fn cells(
         (bytes_of (project_tree project.now) (map operand_tree named.now))) }
 {
     let blocks = entries(alloc, project.blocks().list.as_slice())?;
-    let tables = Tables::of(alloc, blocks.as_slice(), project.symbols())?;
-    planned_cells(alloc, project, &tables, entry, named)
+    named_cells(alloc, project, blocks.as_slice(), entry, named)
 }

@@ -1,15 +1,15 @@
 //! The cells that the leaves of variables give.
-ghost use Rattle.std.specs.Prelude.{◌≡◌, ◌++◌, ◌≤◌, ◌∷◌, [], length, map, IfOk, OnOk};
+ghost use Rattle.std.specs.Prelude.{◌≡◌, ◌++◌, ◌<◌, ◌≤◌, length, map, IfOk, IsErrOf, OnOk};
 ghost use Rattle.pv_types.specs.Leaves.{leaves_of};
 ghost use Rattle.pv_types.specs.Named.{types_of};
-ghost use Rattle.pv_types.specs.View.{var_tree};
+ghost use Rattle.pv_types.specs.View.{vars_tree};
 ghost use Rattle.pv_mean.specs.Cells as table;
 ghost use Rattle.pv_cells.specs.Forms.{formed};
 
 use pv_edge::Text;
 use pv_mean::Cell;
 use pv_place::Role;
-use pv_types::{FlattenFault, Leaf, MAX_LEAVES, Section, Types, Var, flatten};
+use pv_types::{FlattenFault, Leaf, Leaves, MAX_LEAVES, Section, Types, Vars, flatten};
 use std::alloc::{AllocError, Global};
 use std::slice::from_ref;
 
@@ -87,19 +87,29 @@ fn push_leaves(
     Ok(())
 }
 
-/// Puts the cells of a variable behind others.
-pub(crate) fn push_variable(
+/// The leaves of variables that are declared at once.
+fn leaves_in(alloc: Global, of: &Vars, types: &Types) -> Result<Leaves, FlattenFault>
+    ensures leaves { IfOk result (λ leaves. leaves
+        ≡ leaves_of (types_of types.now) (vars_tree of.now)) }
+    ensures too_large { IsErrOf result FlattenFault.TooLarge
+        → MAX_LEAVES < length (leaves_of (types_of types.now) (vars_tree of.now)) }
+{
+    flatten(alloc, from_ref(of), types)
+}
+
+/// Puts the cells of variables that are declared at once behind others.
+pub(crate) fn push_declared(
     alloc: Global,
     cells: &mut Vec<Cell>,
     types: &Types,
-    var: &Var,
+    of: &Vars,
     form: Form,
 ) -> Result<(), AllocError>
-    requires { length (leaves_of (types_of types.now) (var_tree var.now ∷ [])) ≤ MAX_LEAVES }
+    requires { length (leaves_of (types_of types.now) (vars_tree of.now)) ≤ MAX_LEAVES }
     ensures { OnOk result (cells.new.items ≡ cells.old.items
-        ++ map (formed form) (leaves_of (types_of types.now) (var_tree var.now ∷ []))) }
+        ++ map (formed form) (leaves_of (types_of types.now) (vars_tree of.now))) }
 {
-    match flatten(alloc, from_ref(var), types) {
+    match leaves_in(alloc, of, types) {
         Ok(leaves) => push_leaves(alloc, cells, leaves.as_slice(), form),
         Err(FlattenFault::TooLarge) => unreachable!(),
         Err(FlattenFault::NoMemory) => Err(AllocError),

@@ -19,4 +19,5 @@ pub mod OneSource
 pub mod OneSubject
 pub mod OneReading
 pub mod Sourced
+pub mod Texts
 pub mod ForCallers

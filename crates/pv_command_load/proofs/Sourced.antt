@@ -33,6 +33,7 @@ use Rattle.pv_cells.specs.declared.project_table.Table.{Table}
 use Rattle.pv_cells.specs.Named.{wide_bytes}
 use Rattle.pv_resolve.specs.Rooms.{IsShort, FitsSymbol}
 use Rattle.pv_laws_types.specs.Typed.{SuitsAddress, SymbolsSuit, ValuesAreFunctions}
+use Rattle.pv_laws_room.specs.Reached.{IsRun}
 use Rattle.pv_laws_spelled.proofs.ForCallers.{IsSo, blocks-so}
 use Rattle.pv_pattern_read.specs.Readable.{HasSource}
 use Rattle.pv_command_load.specs.Sources.{ReadSource, HoldSources}
@@ -188,36 +189,44 @@ contained (y ∷ ys) (suc k) x g = let c = contained ys k x g in (suc c.0, omega
 no_view : View
 no_view = record { params = []; bound = [] }
 
+-- the table of what is read, with what a case says of its cells
+pub source_runs : ((view : View) (cells : List Cell) → map (λ c. c.ty) (with_view view cells) ≡ map (λ c. c.ty) cells)
+    → (told : Option FileMap) (file : List ℕ) (given : Given) (entered : Entered) (view : View) → ReadsTable told file given entered
+    → IsRun (source_with given entered view)
+source_runs types told file given entered view reads =
+    let source : Source = source_with given entered view in
+    let held = reads.project.sources in
+    let symbols = held.case_held.are.says.symbols in
+    let at = reads.table.is_entered in
+    let counted : length source.cells ≡ length (cells_of given entered) =
+    sym (length-map source.cells (λ (c : Cell). c.ty)) ∙ ap length (types view (cells_of given entered))
+    ∙ length-map (cells_of given entered) (λ (c : Cell). c.ty) in
+    record {
+      rules = reads.project.keeps;
+      suits = symbols_suit _ given.case.symbols symbols;
+      symbols = symbols_fit _ given.case.symbols symbols;
+      functions = values_so told 0 given.case.sources given.sources held.sources_held;
+      table = (view, refl);
+      few = (let few = reads.table.few in omega (arith, few, counted));
+      entry = contained (blocks_of given) at.number entered.block at.is;
+    }
+
 pub has_source : ((view : View) (cells : List Cell) → map (λ c. c.ty) (with_view view cells) ≡ map (λ c. c.ty) cells)
     → (told : Option FileMap) (file : List ℕ) (given : Given) (entered : Entered) (entry : ℕ) (table : Table) (project : Project)
     → ReadsTable told file given entered → IsProjectOf given project → IsTableOf given entered entry table
     → HasSource (project_tree project) entry (wide_bytes table.bytes)
 has_source types told file given entered entry table project reads is t =
-    let source : Source = source_with given entered no_view in
-    let held = reads.project.sources in
-    let symbols = held.case_held.are.says.symbols in
-    let so = values_so told 0 given.case.sources given.sources held.sources_held in
+    let so = values_so told 0 given.case.sources given.sources reads.project.sources.sources_held in
     let at = t.has.is_entered in
     let value = at_number IsSo (blocks_of given) entry entered.block so t.is in
     let may = passes (may_enter at.entry.name.key) 0 at.number (blocks_of given) at.number entered.block (omega arith) at.entry.is at.is in
-    let counted : length source.cells ≡ length (cells_of given entered) =
-    sym (length-map source.cells (λ (c : Cell). c.ty)) ∙ ap length (types no_view (cells_of given entered))
-    ∙ length-map (cells_of given entered) (λ (c : Cell). c.ty) in
     record {
-      source = source;
+      source = source_with given entered no_view;
       same = is.same;
       at = t.is;
       bytes_are = t.bytes;
       is = record {
-        run = record {
-          rules = reads.project.keeps;
-          suits = symbols_suit _ given.case.symbols symbols;
-          symbols = symbols_fit _ given.case.symbols symbols;
-          functions = so;
-          table = (no_view, refl);
-          few = (let few = t.has.few in omega (arith, few, counted));
-          entry = contained (blocks_of given) entry entered.block t.is;
-        };
+        run = source_runs types told file given entered no_view reads;
         valueless = is_none entered.block.value entered.block.kind value
             (no_function (has_key at.entry.name.key entered.block.name) entered.block.kind may);
       };

@@ -4,6 +4,7 @@ pub mod Ending
 pub mod Places
 pub mod Located
 pub mod Starts
+pub mod Runs
 pub mod TraceLaws
 pub mod Saying
 pub mod Exactly

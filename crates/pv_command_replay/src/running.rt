@@ -10,6 +10,7 @@ use crate::scans::end_of;
 use crate::trace::trace_in;
 use pv_command_load::subject_in;
 use pv_edge::Files;
+use pv_mean::laws::views_keep_paths_types_and_starts;
 use std::alloc::Global;
 
 /// Runs the trace on the case's project, scan by scan, up to the first scan that fails or reaches what is asked for. What the case is about
@@ -30,6 +31,7 @@ pub fn run_in<F: Files>(
     ensures writes { F.write_faults files.new ≡ F.write_faults files.old }
 {
     ends_lie_in_sources();
+    views_keep_paths_types_and_starts();
     let subject = subject_in(alloc, files, case_file)?;
     let trace = trace_in(alloc, files, trace_file, subject.table.cells())?;
     let end = end_of(alloc, &subject, &trace)?;

@@ -4,6 +4,7 @@ ghost use Rattle.pv_mean.specs.Sources.{Source};
 ghost use Rattle.pv_mean.specs.Runs.{run};
 ghost use Rattle.pv_pattern.specs.Patterns.{Pattern as A_pattern};
 ghost use Rattle.pv_pattern.specs.Found.{IsPatternOf};
+ghost use Rattle.pv_program.specs.Spelled.{IsRunWith};
 ghost use Rattle.pv_stretch.specs.Stretches.{HasStarts};
 ghost use Rattle.pv_command_load.specs.Subjects.{SubjectData, source_in};
 ghost use Rattle.pv_command_load.specs.Made.{IsSubject};
@@ -16,7 +17,7 @@ use pv_claims::{Ending, Trace};
 use pv_command_load::Subject;
 use pv_mean::CaseView;
 use pv_pattern::Pattern;
-use pv_program::make;
+use pv_program::replay_of;
 use pv_stretch::{Stretch, StretchEnd, StretchStart, asks_for_goal, run_stretch};
 use pv_tree::Project;
 use std::alloc::{AllocError, Global};
@@ -84,12 +85,13 @@ fn replayed(
     pattern: &Pattern,
     trace: &Trace,
 ) -> Result<End, AllocError>
+    requires { IsRunWith project.now view.now table.now }
     ensures { IfOk result (λ end. (source : Source) (p : A_pattern)
         → IsSourceOf source project.now view.now table.now → HasStarts source
         → IsPatternOf source pattern.now p → HasValuesOf source trace.now
         → IsEnd source p (run source trace.now.params trace.now.inputs) end) }
 {
-    let mut replay = make(alloc, project, view, table)?;
+    let mut replay = replay_of(alloc, project, view, table)?;
     let start = StretchStart::Params(trace.params.as_slice());
     let stretch = run_stretch(&mut replay, pattern, start, trace.inputs.as_slice());
     Ok(ended(asks_for_goal(pattern), stretch))
@@ -97,6 +99,7 @@ fn replayed(
 
 /// How the replay of the trace on the subject ends.
 pub(crate) fn end_of(alloc: Global, subject: &Subject, trace: &Trace) -> Result<End, AllocError>
+    requires { IsRunWith subject.now.project subject.now.view subject.now.table }
     ensures { IfOk result (λ end. (s : SubjectData) → IsSubject subject.now s
         → HasStarts (source_in s) → HasValuesOf (source_in s) trace.now
         → IsEnd (source_in s) s.pattern (run (source_in s) trace.now.params trace.now.inputs) end) }

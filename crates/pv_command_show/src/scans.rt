@@ -10,6 +10,7 @@ ghost use Rattle.pv_mean.specs.Runs.{run_from};
 ghost use Rattle.pv_pattern.specs.Patterns.{Pattern as A_pattern};
 ghost use Rattle.pv_pattern.specs.Found.{IsPatternOf};
 ghost use Rattle.pv_pattern.specs.Terms.{IsStored};
+ghost use Rattle.pv_program.specs.Spelled.{IsRunWith};
 ghost use Rattle.pv_replay.specs.Replays.{HasStarts, IsReplayOf, image_of, begin_of, end_of, is_ready, cells_of};
 ghost use Rattle.pv_command_replay.specs.Handed.{SubjectData, source_in, IsSubject};
 ghost use Rattle.pv_command_replay.specs.Judged.{IsSourceOf, HasValuesOf};
@@ -23,7 +24,7 @@ use pv_claims::{CellValues, Trace};
 use pv_command_replay::{End, Subject};
 use pv_mean::{CaseView, Cell};
 use pv_pattern::Pattern;
-use pv_program::make;
+use pv_program::replay_of;
 use pv_replay::{Replay, ScanEnd};
 use pv_tree::Project;
 use std::alloc::{AllocError, Global};
@@ -248,12 +249,13 @@ fn shown(
     trace: &Trace,
     end: End,
 ) -> Result<Vec<u8>, AllocError>
+    requires { IsRunWith project.now view.now table.now }
     ensures { IfOk result (λ text. (source : Source) (p : A_pattern)
         → IsSourceOf source project.now view.now table.now → HasStarts source
         → IsPatternOf source pattern.now p → HasValuesOf source trace.now
         → text.items ≡ shown_scans source p trace.now end) }
 {
-    let mut replay = make(alloc, project, view, table)?;
+    let mut replay = replay_of(alloc, project, view, table)?;
     replay.start(trace.params.as_slice());
     let mut text = Vec::new(alloc);
     push_scans(
@@ -273,6 +275,7 @@ pub(crate) fn scans_of(
     trace: &Trace,
     end: End,
 ) -> Result<Vec<u8>, AllocError>
+    requires { IsRunWith subject.now.project subject.now.view subject.now.table }
     ensures { IfOk result (λ text. (s : SubjectData) → IsSubject subject.now s
         → HasStarts (source_in s) → HasValuesOf (source_in s) trace.now
         → text.items ≡ shown_scans (source_in s) s.pattern trace.now end) }

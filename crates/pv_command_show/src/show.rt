@@ -6,6 +6,7 @@ ghost use Rattle.pv_command_show.specs.Shows.{SaysShow, show_status, show_unread
 use crate::scans::scans_of;
 use pv_command_replay::{ReplayStop, Replayed, Status, end_lines, run_in};
 use pv_edge::Files;
+use pv_mean::laws::views_keep_paths_types_and_starts;
 use std::alloc::{AllocError, Global};
 
 /// What a show prints.
@@ -53,6 +54,7 @@ pub fn show_in<F: Files>(
     ensures named { IsUnread (show_unread result) (F.unread files.new) }
     ensures writes { F.write_faults files.new ≡ F.write_faults files.old }
 {
+    views_keep_paths_types_and_starts();
     let ran = run_in(alloc, files, case_file, trace_file)?;
     let scans = scans_of(alloc, &ran.subject, &ran.trace, ran.end)?;
     Ok(Shown {

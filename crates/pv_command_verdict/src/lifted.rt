@@ -28,8 +28,9 @@ use pv_judge::judge;
 use pv_kind::OracleFault;
 use pv_kind::laws::no_run_fails_early;
 use pv_lift::{Lift, Reduce, make};
+use pv_mean::laws::views_keep_paths_types_and_starts;
 use pv_pattern::laws::no_base_is_satisfied;
-use pv_program::make as replay_of;
+use pv_program::replay_of;
 use pv_solver::{limits_that_suffice, propagation_spends_nothing};
 use pv_valid::{Fault, Verdict};
 use std::alloc::{AllocError, Global};
@@ -60,6 +61,7 @@ fn lift_of<'a, 'p>(
         (looks_back_of lift.pattern.now) (stage_of lift.chain)) }
 {
     subjects_are_their_programs();
+    views_keep_paths_types_and_starts();
     let subject = &first.subject;
     let replay = replay_of(alloc, &subject.project, &subject.view, &subject.table)?;
     let reduce = reduce_of(subject.case.reductions);

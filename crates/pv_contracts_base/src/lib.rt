@@ -14,7 +14,7 @@ ghost use Rattle.pv_word.specs.Types.{InRange};
 ghost use Rattle.std.specs.Prelude.{IfOk, IsErrOf, IsTrue, OnErr, OnOk, length, ◌<ℤ◌, ◌<◌, ◌↔◌, ◌≡◌, ◌≤◌};
 
 use pv_graph::{Graph, Targets};
-use pv_types::{FlattenFault, Leaves, MAX_LEAVES, Name, Types, Var};
+use pv_types::{FlattenFault, Leaves, MAX_LEAVES, Name, Types, Vars};
 use pv_word::Ty;
 use std::alloc::{AllocError, Global};
 use std::cmp::Ordering;
@@ -60,7 +60,7 @@ pub fn is_on_cycle(graph: &Graph, alloc: Global, node: usize) -> Result<bool, Al
 }
 
 /// [`pv_types::flatten`].
-pub fn flatten(alloc: Global, vars: &[Var], named: &Types) -> Result<Leaves, FlattenFault>
+pub fn flatten(alloc: Global, vars: &[Vars], named: &Types) -> Result<Leaves, FlattenFault>
     ensures leaves { IfOk result (λ leaves. leaves
         ≡ leaves_of (types_of named.now) (var_trees vars.now)) }
     ensures within { OnOk result (length (leaves_of (types_of named.now) (var_trees vars.now)) ≤
@@ -75,7 +75,7 @@ pub fn flatten(alloc: Global, vars: &[Var], named: &Types) -> Result<Leaves, Fla
 pub fn flatten_beneath(
     alloc: Global,
     path: &[u8],
-    vars: &[Var],
+    vars: &[Vars],
     named: &Types,
 ) -> Result<Leaves, FlattenFault>
     ensures leaves { IfOk result (λ leaves. leaves
@@ -96,7 +96,7 @@ pub fn same(name: &Name, other: &Name) -> bool
 }
 
 /// [`Types::push`].
-pub fn push<'p>(into: &mut Types<'p>, name: &Name, vars: &'p [Var]) -> Result<(), AllocError>
+pub fn push<'p>(into: &mut Types<'p>, name: &Name, vars: &'p [Vars]) -> Result<(), AllocError>
     ensures pushed { IfOk result (λ _. types_of into.new ≡ with_type (types_of into.old)
         (record { key = name.now.key; vars = var_trees vars.now })) }
     ensures unchanged { OnErr result (types_of into.new ≡ types_of into.old) }

@@ -26,15 +26,15 @@ use pv_mean::Sizes;
 use pv_names::Scope;
 use pv_resolve::{Begin, Context, FirstCells, ResolveFault};
 use pv_tree::{Block, Expr, Operand, Root};
-use pv_types::{Name, Var};
+use pv_types::{Name, Vars};
 use std::alloc::{AllocError, Global};
 
 /// [`pv_resolve::start_of`].
-pub fn start_of(var: &Var) -> Result<i64, ResolveFault>
-    ensures value { IfOk result (λ v. v ≡ start_value var.now.start) }
-    ensures fits { FitsSigned w64 (start_value var.now.start) → IsOk result }
+pub fn start_of(of: &Vars) -> Result<i64, ResolveFault>
+    ensures value { IfOk result (λ v. v ≡ start_value of.now.start) }
+    ensures fits { FitsSigned w64 (start_value of.now.start) → IsOk result }
 {
-    pv_resolve::start_of(var)
+    pv_resolve::start_of(of)
 }
 
 /// [`pv_resolve::number_of`].

@@ -1,6 +1,7 @@
 //! Contract tests of `pv_run`, `pv_replay` and `pv_program`.
 ghost use Rattle.pv_bytes.specs.Lent.{bytes_tree};
 ghost use Rattle.pv_cells.specs.Named.{wide_bytes};
+ghost use Rattle.pv_laws_room.specs.Reached.{IsRun};
 ghost use Rattle.pv_mean.specs.Cells.{most_calls};
 ghost use Rattle.pv_mean.specs.Frames.{image_ranges, input_ranges, param_ranges, visible_ranges};
 ghost use Rattle.pv_mean.specs.ProjectSizes.{project_tree};
@@ -8,11 +9,13 @@ ghost use Rattle.pv_mean.specs.Runs.{start};
 ghost use Rattle.pv_mean.specs.Scans.{scan_from};
 ghost use Rattle.pv_mean.specs.Sources.{Source};
 ghost use Rattle.pv_place.specs.Ranges.{AreWithin};
+ghost use Rattle.pv_program.specs.Spelled.{AreSpelled, IsRunWith};
+ghost use Rattle.pv_program.specs.declared.fault.ProgramFault.TheVariants.{NoMemory};
 ghost use Rattle.pv_replay.specs.Ends.{is_done};
 ghost use Rattle.pv_replay.specs.Replays.{HasStarts, IsReplayOf, IsScanned, begin_of, cells_of, end_of, image_of, is_ready, view_of};
 ghost use Rattle.pv_run.specs.Code.{IsProgram};
 ghost use Rattle.pv_run.specs.Ends.{end_in};
-ghost use Rattle.std.specs.Prelude.{IfOk, Some, false, length, slice_get, true, ◌&&◌, ◌*◌, ◌+◌, ◌≡◌, ◌≤◌};
+ghost use Rattle.std.specs.Prelude.{IfErr, IfOk, Some, false, length, slice_get, true, ◌&&◌, ◌*◌, ◌+◌, ◌≡◌, ◌≤◌};
 
 use pv_bytes::AreaBytes;
 use pv_cells::Table;
@@ -116,6 +119,10 @@ pub fn program_of(
         → slice_get source.project.blocks entry ≡ Some source.entry
         → bytes_tree bytes.entry ≡ source.bytes → cells.now ≡ source.cells → bound ≡ source.bound
         → IfOk result (IsProgram source) }
+    ensures room { (source : Source) → project_tree project.now ≡ source.project
+        → slice_get source.project.blocks entry ≡ Some source.entry
+        → bytes_tree bytes.entry ≡ source.bytes → IsRun source → AreSpelled source.project
+        → IfErr result (λ e. e ≡ NoMemory) }
 {
     pv_program::program_of(alloc, project, entry, bytes, cells, bound)
 }
@@ -126,7 +133,29 @@ pub fn make<'a>(
     project: &Project,
     view: &'a CaseView,
     table: &'a Table,
+) -> Result<Replay<'a>, ProgramFault>
+    ensures of { IfOk result (λ r. (source : Source) → project_tree project.now ≡ source.project
+        → slice_get source.project.blocks view.now.entry ≡ Some source.entry
+        → wide_bytes table.now.bytes ≡ source.bytes → table.now.cells.items ≡ source.cells
+        → source.bound ≡ view.now.loop_bound → HasStarts source → IsReplayOf source r) }
+    ensures lent { IfOk result (λ r. (cells_of r ≡ table.now.cells.items) × (view_of r ≡ view.now)) }
+    ensures ready { IfOk result (λ r. is_ready r ≡ false) }
+    ensures room { (source : Source) → project_tree project.now ≡ source.project
+        → slice_get source.project.blocks view.now.entry ≡ Some source.entry
+        → wide_bytes table.now.bytes ≡ source.bytes → IsRun source → AreSpelled source.project
+        → IfErr result (λ e. e ≡ NoMemory) }
+{
+    pv_program::make(alloc, project, view, table)
+}
+
+/// [`pv_program::replay_of`].
+pub fn replay_of_run<'a>(
+    alloc: Global,
+    project: &Project,
+    view: &'a CaseView,
+    table: &'a Table,
 ) -> Result<Replay<'a>, AllocError>
+    requires { IsRunWith project.now view.now table.now }
     ensures of { IfOk result (λ r. (source : Source) → project_tree project.now ≡ source.project
         → slice_get source.project.blocks view.now.entry ≡ Some source.entry
         → wide_bytes table.now.bytes ≡ source.bytes → table.now.cells.items ≡ source.cells
@@ -134,5 +163,5 @@ pub fn make<'a>(
     ensures lent { IfOk result (λ r. (cells_of r ≡ table.now.cells.items) × (view_of r ≡ view.now)) }
     ensures ready { IfOk result (λ r. is_ready r ≡ false) }
 {
-    pv_program::make(alloc, project, view, table)
+    pv_program::replay_of(alloc, project, view, table)
 }

@@ -1,3 +1,4 @@
 mod Widths
 mod Functions
+mod Instructions
 pub mod ForCallers

@@ -2,13 +2,14 @@
 ghost use Rattle.std.specs.Prelude.{List, Contains};
 ghost use Rattle.std.specs.List.{AllByRecursion};
 ghost use Rattle.pv_lex.specs.declared.token.Language.{Language};
-ghost use Rattle.pv_tree.specs.Tree.{ExprTree, OperandTree, BlockTree};
+ghost use Rattle.pv_tree.specs.Tree.{ExprTree, OperandTree, InstrTree, BlockTree};
 ghost use Rattle.pv_tree.specs.Scopes.{SymbolTree, ProjectTree, Scope};
 ghost use Rattle.pv_tree.specs.Lexemes.{Lexeme};
 ghost use Rattle.pv_tree.specs.Expressions.{SpellsExpr};
 ghost use Rattle.pv_tree.specs.Blocks.{SpellsBlock};
 ghost use Rattle.pv_tree.specs.LiteralTypes.{nothing};
-ghost use Rattle.pv_tree.specs.Parts.{parts_of, reads_of_parts};
+ghost use Rattle.pv_tree.specs.Instructions.{SpellsInstr};
+ghost use Rattle.pv_tree.specs.Parts.{parts_of, reads_of_parts, instructions_of};
 ghost use Rattle.pv_laws_types.specs.Typed.{ValuesAreFunctions};
 ghost use Rattle.pv_laws_places.specs.Sources.{SourceRead, AreOfTexts, project_of};
 ghost use Rattle.pv_laws_room.specs.Reached.{IsShortOperand, AreShort};
@@ -30,4 +31,15 @@ pub fn spelled_addresses_are_short()
 pub fn only_functions_have_values()
     ensures { (sources : List SourceRead) (symbols : List SymbolTree) → AreOfTexts 0 sources
         → ValuesAreFunctions (project_of sources symbols) }
+{}
+
+/// Tokens spell each instruction of a block that tokens spell, and of each block of sources.
+pub fn instructions_are_spelled()
+    ensures block { (language : Language) (block : BlockTree) (tokens : List Lexeme)
+        → SpellsBlock language block tokens → (i : InstrTree)
+        → Contains (instructions_of block.body) i → (ts : List Lexeme) × SpellsInstr i ts }
+    ensures sources { (sources : List SourceRead) (symbols : List SymbolTree) (block : BlockTree)
+        → AreOfTexts 0 sources → Contains (project_of sources symbols).blocks block
+        → (i : InstrTree) → Contains (instructions_of block.body) i
+        → (ts : List Lexeme) × SpellsInstr i ts }
 {}

@@ -1,5 +1,5 @@
 -- What the code answers of the front of a text, in the words of the definitions.
-use Rattle.std.proofs.Common.{◌≡◌, ◌⊎◌, ℕ, ℤ, pos, ◌-◌, ◌<◌, ◌≤◌, ◌^◌, length, take, nat_lt, Bool, true, cond, not, inl, inr, List, [], ◌∷◌, ◌++◌, Option, Some, None, Result, Ok, Err, refl, ap, sym, ◌∙◌, subst, arith, length-append}
+use Rattle.std.proofs.Common.{◌≡◌, ◌⊎◌, ℕ, ◌-◌, ◌<◌, ◌≤◌, ◌^◌, length, take, nat_lt, Bool, true, cond, not, inl, inr, List, [], ◌∷◌, ◌++◌, Option, Some, None, Result, Ok, Err, refl, ap, sym, ◌∙◌, subst, arith, length-append}
 use Rattle.std.proofs.Math.Seq.{take-append_seam}
 use Rattle.std.proofs.lemmas.Bool.{cases_Bool}
 use Rattle.pv_lex.specs.declared.class.Class.TheVariants as c
@@ -12,7 +12,7 @@ use Rattle.pv_lex.specs.declared.token.Language.{Language}
 use Rattle.pv_lex.specs.declared.token.Kind.{Kind}
 use Rattle.pv_lex.specs.declared.token.Kind.TheVariants as k
 use Rattle.pv_lex.specs.Shapes.{begins}
-use Rattle.pv_lex.specs.Values.{magnitude, number_value, runs_fit}
+use Rattle.pv_lex.specs.Values.{magnitude, runs_fit}
 use Rattle.pv_lex.specs.Tokens.{
   IsStretch,
   IsLongest,
@@ -23,16 +23,10 @@ use Rattle.pv_lex.specs.Tokens.{
   IsOfFault,
   is_fit,
   opens_comment,
-  token_value,
 }
 use Rattle.pv_lex.specs.Scans.{stretch_of, next_of, fitting, fault_of}
 use Rattle.pv_lex.proofs.Scanning.{or_left, or_right, not_of}
 use Rattle.pv_lex.proofs.Least.{stretch-found, found-longest, none-begins, unfit-none, stretch-some}
-
--- the value of a stretch: that of its token, or 0
-abbrev pub value_of : Option Kind → List ℕ → ℤ
-value_of None bytes = pos 0
-value_of (Some kind) bytes = token_value kind bytes
 
 -- the stretch that is next, as the code has it
 pub record IsFound (language : Language) (context : Context) (text : List ℕ) (next : Next) : Type 0 where
@@ -41,7 +35,6 @@ pub record IsFound (language : Language) (context : Context) (text : List ℕ) (
   pub whole : text ≡ bytes ++ rest
   pub len_is : next.len ≡ length bytes
   pub some : 0 < next.len
-  pub value_is : next.value ≡ value_of next.kind bytes
   pub is_next : IsNext language context next.kind bytes rest
 
 abbrev pub IsAnswer : Language → Context → List ℕ → Result Next FaultKind → Type 0
@@ -54,17 +47,16 @@ some-len language context kind [] x = absurd (stretch-some language context kind
 some-len language context kind (b ∷ bytes) x = omega arith
 
 -- the longest stretch that is fit
-fit : (language : Language) (context : Context) (text : List ℕ) (kind : Option Kind) (bytes rest : List ℕ) (value : ℤ)
+fit : (language : Language) (context : Context) (text : List ℕ) (kind : Option Kind) (bytes rest : List ℕ)
     → text ≡ bytes ++ rest
-    → IsLongest language context kind bytes rest → value ≡ value_of kind bytes → is_fit kind bytes rest ≡ true
-    → IsFound language context text (record { kind = kind; len = length bytes; value = value })
-fit language context text kind bytes rest value whole longest e on = record {
+    → IsLongest language context kind bytes rest → is_fit kind bytes rest ≡ true
+    → IsFound language context text (record { kind = kind; len = length bytes })
+fit language context text kind bytes rest whole longest on = record {
   bytes = bytes;
   rest = rest;
   whole = whole;
   len_is = refl;
   some = some-len language context kind bytes longest.stretch;
-  value_is = e;
   is_next = record { longest = longest; fit = on };
 }
 
@@ -83,28 +75,24 @@ numeric language context text kind bytes rest whole longest h = record {
 
 fitted : (language : Language) (context : Context) (text : List ℕ) (kind : Option Kind) (bytes rest : List ℕ) → text ≡ bytes ++ rest
     → IsLongest language context kind bytes rest → IsAnswer language context text (fitting kind bytes text)
-fitted language context text None bytes rest whole longest = fit language context text None bytes rest (pos 0) whole longest refl refl
-fitted language context text (Some k.Word) bytes rest whole longest = fit language context text (Some k.Word) bytes rest (pos 0) whole
-    longest refl refl
-fitted language context text (Some k.Quoted) bytes rest whole longest = fit language context text (Some k.Quoted) bytes rest (pos 0) whole
-    longest refl refl
-fitted language context text (Some k.Real) bytes rest whole longest = fit language context text (Some k.Real) bytes rest (pos 0) whole
-    longest refl refl
+fitted language context text None bytes rest whole longest = fit language context text None bytes rest whole longest refl
+fitted language context text (Some k.Word) bytes rest whole longest = fit language context text (Some k.Word) bytes rest whole
+    longest refl
+fitted language context text (Some k.Quoted) bytes rest whole longest = fit language context text (Some k.Quoted) bytes rest whole
+    longest refl
+fitted language context text (Some k.Real) bytes rest whole longest = fit language context text (Some k.Real) bytes rest whole
+    longest refl
 fitted language context text (Some k.End) bytes rest whole longest = absurd longest.stretch
 fitted language context text (Some k.Number) bytes rest whole longest =
     elim (cases_Bool (nat_lt (magnitude bytes) (2 ^ 64))) [
       | inl on ↦ subst (λ (v : Bool). IsAnswer language context text (cond v (Ok (record {
         kind = Some k.Number;
         len = length bytes;
-        value
-            = number_value bytes;
       })) (Err f.NumberTooWide))) (sym on)
-          (fit language context text (Some k.Number) bytes rest (number_value bytes) whole longest refl on)
+          (fit language context text (Some k.Number) bytes rest whole longest on)
       | inr off ↦ subst (λ (v : Bool). IsAnswer language context text (cond v (Ok (record {
         kind = Some k.Number;
         len = length bytes;
-        value
-            = number_value bytes;
       })) (Err f.NumberTooWide))) (sym off) (
         unfit-none language context text (Some k.Number) bytes rest whole longest off,
         numeric language context text k.Number bytes rest
@@ -116,14 +104,11 @@ fitted language context text (Some k.Address) bytes rest whole longest =
       | inl on ↦ subst (λ (v : Bool). IsAnswer language context text (cond v (Ok (record {
         kind = Some k.Address;
         len = length bytes;
-        value
-            = pos 0;
       })) (Err f.NumberTooWide))) (sym on)
-          (fit language context text (Some k.Address) bytes rest (pos 0) whole longest refl on)
+          (fit language context text (Some k.Address) bytes rest whole longest on)
       | inr off ↦ subst (λ (v : Bool). IsAnswer language context text (cond v (Ok (record {
         kind = Some k.Address;
         len = length bytes;
-        value = pos 0;
       })) (Err f.NumberTooWide))) (sym off) (
         unfit-none language context text (Some k.Address) bytes rest whole longest off,
         numeric language context text k.Address bytes
@@ -134,9 +119,7 @@ fitted language context text (Some k.Sign) bytes rest whole longest =
     elim (cases_Bool (opens_comment text)) [
       | inl on ↦ subst (λ (v : Bool). IsAnswer language context text (cond v (Err f.OpenComment) (Ok (record {
         kind = Some k.Sign;
-        len =
-            length bytes;
-        value = pos 0;
+        len = length bytes;
       })))) (sym on) (
         unfit-none language context text (Some k.Sign) bytes rest whole longest (ap not (sym (ap opens_comment whole)
             ∙ on)),
@@ -144,11 +127,9 @@ fitted language context text (Some k.Sign) bytes rest whole longest =
       )
       | inr off ↦ subst (λ (v : Bool). IsAnswer language context text (cond v (Err f.OpenComment) (Ok (record {
         kind = Some k.Sign;
-        len =
-            length bytes;
-        value = pos 0;
+        len = length bytes;
       })))) (sym off)
-          (fit language context text (Some k.Sign) bytes rest (pos 0) whole longest refl (ap not (sym (ap opens_comment whole) ∙ off)))
+          (fit language context text (Some k.Sign) bytes rest whole longest (ap not (sym (ap opens_comment whole) ∙ off)))
     ]
 
 -- where nothing begins nothing is next

@@ -1,5 +1,5 @@
 -- The cut of a text, piece by piece.
-use Rattle.std.proofs.Common.{◌≡◌, ℕ, ℤ, ◌+◌, ◌<◌, ◌≤◌, length, drop, take, List, [], ◌∷◌, ◌++◌, Option, Some, None, Result, Err, refl, ap, sym, ◌∙◌, subst, arith, append_assoc, append-nil, length-append, length-drop, add-zero, zero-add}
+use Rattle.std.proofs.Common.{◌≡◌, ℕ, ◌+◌, ◌<◌, ◌≤◌, length, drop, take, List, [], ◌∷◌, ◌++◌, Option, Some, None, Result, Err, refl, ap, sym, ◌∙◌, subst, arith, append_assoc, append-nil, length-append, length-drop, add-zero, zero-add}
 use Rattle.std.proofs.Math.Seq.{take-append_seam, drop-append_seam}
 use Rattle.pv_place.specs.declared.place.Place.{Place}
 use Rattle.pv_lex.specs.declared.context.Context.{Context}
@@ -12,7 +12,7 @@ use Rattle.pv_lex.specs.declared.token.Kind.{Kind}
 use Rattle.pv_lex.specs.declared.token.Kind.TheVariants as k
 use Rattle.pv_lex.specs.Tokens.{IsNext, NoneIsNext, IsOfFault, behind, at_start, Piece, behind_all, IsCut, token_at, tokens_of, tokens_from, CutTo, AreTokens, IsFault}
 use Rattle.pv_lex.specs.Scans.{next_tokens, next_of}
-use Rattle.pv_lex.proofs.Answered.{IsFound, IsAnswer, value_of, answered}
+use Rattle.pv_lex.proofs.Answered.{IsFound, IsAnswer, answered}
 
 -- ---- one piece more
 
@@ -83,12 +83,10 @@ rest-is language file text at context tokens cut =
     let n : at ≡ length f.front = omega (arith, cut.place, ap length f.whole, length-append f.front cut.rest) in
     (sym (ap (λ (m : ℕ). drop m text) n ∙ ap (drop (length f.front)) f.whole ∙ drop-append_seam f.front cut.rest), n ∙ f.size_is)
 
-tokens_same : (file at : ℕ) (kind : Option Kind) (len : ℕ) (value : ℤ) (bytes : List ℕ) → len ≡ length bytes → value ≡ value_of kind bytes
-    → next_tokens file at (record { kind = kind; len = len; value = value }) ≡ tokens_of file at kind bytes
-tokens_same file at None len value bytes e g = refl
-tokens_same file at (Some kind) len value bytes e g =
-    ap (λ (n : ℕ). record { kind = kind; place = record { file = file; offset = at }; len = n; value = value } ∷ []) e
-    ∙ ap (λ (v : ℤ). record { kind = kind; place = record { file = file; offset = at }; len = length bytes; value = v } ∷ []) g
+tokens_same : (file at : ℕ) (kind : Option Kind) (len : ℕ) (bytes : List ℕ) → len ≡ length bytes
+    → next_tokens file at (record { kind = kind; len = len }) ≡ tokens_of file at kind bytes
+tokens_same file at None len bytes e = refl
+tokens_same file at (Some kind) len bytes e = ap (λ (n : ℕ). record { kind = kind; place = record { file = file; offset = at }; len = n } ∷ []) e
 
 pub step : (language : Language) (file : ℕ) (text : List ℕ) (at : ℕ) (context : Context) (tokens : List Token) (next : Next)
     → CutTo language file text at context tokens
@@ -109,8 +107,7 @@ step language file text at context tokens next cut x =
       cut = cut-more language at_start cut.pieces text cut.rest piece x.rest cut.cut (r.0 ∙ x.whole) there;
       place = omega (arith, cut.place, sizes, x.len_is);
       tokens_are = ap (λ (t : List Token). t ++ next_tokens file at next) cut.tokens_are
-          ∙ ap (λ (t : List Token). tokens_from file 0 cut.pieces ++ t) (tokens_same file at next.kind next.len next.value x.bytes x.len_is
-          x.value_is)
+          ∙ ap (λ (t : List Token). tokens_from file 0 cut.pieces ++ t) (tokens_same file at next.kind next.len x.bytes x.len_is)
           ∙ ap (λ (n : ℕ). tokens_from file 0 cut.pieces ++ tokens_of file n next.kind x.bytes) (r.1 ∙ sym (zero-add (size cut.pieces)))
           ∙ sym (tokens-more file 0 cut.pieces piece);
       context_is = ap (λ (d : Context). behind d next.kind (take next.len (drop at text))) cut.context_is

@@ -1,5 +1,5 @@
 -- What a shape takes from the front of a text, read forward. No public clause cites this.
-use Rattle.std.specs.Prelude.{ℕ, pos, ◌-◌, ◌^◌, Bool, false, ◌&&◌, ◌||◌, nat_lt, nat_le, ◌==◌, if◌then◌else◌, List, [], ◌∷◌, length, take, drop, Option, Some, None, Result, Ok, Err}
+use Rattle.std.specs.Prelude.{ℕ, ◌-◌, ◌^◌, Bool, false, ◌&&◌, ◌||◌, nat_lt, nat_le, ◌==◌, if◌then◌else◌, List, [], ◌∷◌, length, take, drop, Option, Some, None, Result, Ok, Err}
 use Rattle.std.specs.List.{prefix_len}
 use Rattle.std.specs.Option.{option_and_then}
 use Rattle.pv_lex.specs.declared.class.Class.{Class}
@@ -34,7 +34,7 @@ use Rattle.pv_lex.specs.Shapes.{
   signs,
 }
 use Rattle.pv_lex.specs.Shapes.Shape.{done, one, many, number, led, either, closing}
-use Rattle.pv_lex.specs.Values.{magnitude, number_value, runs_fit}
+use Rattle.pv_lex.specs.Values.{magnitude, runs_fit}
 use Rattle.pv_lex.specs.Tokens.{skip, is_header, opens_comment}
 
 -- what is left behind a byte of the class
@@ -142,25 +142,20 @@ abbrev pub fitting : Option Kind → List ℕ → List ℕ → Result Next Fault
 fitting (Some k.Number) bytes text =
     if nat_lt (magnitude bytes) (2 ^ 64) then Ok (record {
       kind = Some k.Number;
-      len = length
-          bytes;
-      value = number_value bytes;
+      len = length bytes;
     })
     else Err f.NumberTooWide
 fitting (Some k.Address) bytes text =
     if runs_fit 0 bytes then Ok (record {
       kind = Some k.Address;
       len = length bytes;
-      value = pos 0;
     }) else Err f.NumberTooWide
 fitting (Some k.Sign) bytes text =
     if opens_comment text then Err f.OpenComment else Ok (record {
       kind = Some k.Sign;
-      len = length
-          bytes;
-      value = pos 0;
+      len = length bytes;
     })
-fitting kind bytes text = Ok (record { kind = kind; len = length bytes; value = pos 0 })
+fitting kind bytes text = Ok (record { kind = kind; len = length bytes })
 
 -- the stretch that is next in a text
 unfoldable pub next_of : Language → Context → List ℕ → Result Next FaultKind
@@ -178,6 +173,5 @@ next_tokens file at next = elim (next.kind) [
     kind = kind;
     place = record { file = file; offset = at };
     len = next.len;
-    value = next.value;
   } ∷ []
 ]

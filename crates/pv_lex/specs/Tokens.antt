@@ -1,5 +1,5 @@
 -- Tokens: how a text is cut into tokens and dropped text.
-use Rattle.std.specs.Prelude.{◌≡◌, ℕ, ℤ, pos, ◌+◌, ◌<◌, ◌≤◌, Bool, true, false, ◌&&◌, ◌||◌, not, nat_lt, ◌^◌, ◌⊎◌, ◌==◌, IsTrue, if◌then◌else◌, List, [], ◌∷◌, ◌++◌, length, drop, codes, Option, Some, None}
+use Rattle.std.specs.Prelude.{◌≡◌, ℕ, ◌+◌, ◌<◌, ◌≤◌, Bool, true, false, ◌&&◌, ◌||◌, not, nat_lt, ◌^◌, ◌⊎◌, ◌==◌, IsTrue, if◌then◌else◌, List, [], ◌∷◌, ◌++◌, length, drop, codes, Option, Some, None}
 use Rattle.std.specs.List.{list_all, prefix_len}
 use Rattle.pv_place.specs.declared.place.Place.{Place}
 use Rattle.pv_lex.specs.declared.class.Class.{Class}
@@ -26,7 +26,7 @@ use Rattle.pv_lex.specs.Shapes.{
   real,
   signs,
 }
-use Rattle.pv_lex.specs.Values.{magnitude, number_value, runs_fit}
+use Rattle.pv_lex.specs.Values.{magnitude, runs_fit}
 
 -- ---- header lines
 
@@ -177,11 +177,6 @@ IsCut language context (piece ∷ others) text rest =
     × IsNext language context piece.kind piece.bytes left
     × IsCut language (behind context piece.kind piece.bytes) others left rest
 
--- the value that a token has: that of a number, else 0
-abbrev pub token_value : Kind → List ℕ → ℤ
-token_value k.Number bytes = number_value bytes
-token_value _ bytes = pos 0
-
 -- the token of this kind and of these bytes at this place of the file
 abbrev pub token_at : ℕ → ℕ → Kind → List ℕ → Token
 token_at file at kind bytes =
@@ -189,7 +184,6 @@ token_at file at kind bytes =
       kind = kind;
       place = record { file = file; offset = at };
       len = length bytes;
-      value = token_value kind bytes;
     }
 
 -- the tokens of a piece at this place, and of pieces from it on

@@ -3,6 +3,8 @@ use Rattle.std.specs.Prelude.{ℕ, ℤ, pos, ◌-ℤ◌, ◌+◌, ◌-◌, ◌*�
 use Rattle.std.specs.List.{list_any, prefix_len}
 use Rattle.std.specs.Char.{is_ascii_digit}
 use Rattle.pv_lex.specs.declared.class.Class.TheVariants as c
+use Rattle.pv_lex.specs.declared.token.Kind.{Kind}
+use Rattle.pv_lex.specs.declared.token.Kind.TheVariants as k
 use Rattle.pv_lex.specs.Classes.{is_word_byte}
 use Rattle.pv_lex.specs.Shapes.{begins, is_one_of, time_prefixes, decimal_prefixes, hex_prefixes}
 
@@ -69,6 +71,11 @@ is_negative bytes = list_any (λ b. b == 45) bytes
 unfoldable pub number_value : List ℕ → ℤ
 number_value bytes =
     if is_negative bytes then pos 0 -ℤ pos (magnitude bytes) else pos (magnitude bytes)
+
+-- the value that a token has: that of a number of at most 64 bits, else 0
+abbrev pub token_value : Kind → List ℕ → ℤ
+token_value k.Number bytes = if nat_lt (magnitude bytes) (2 ^ 64) then number_value bytes else pos 0
+token_value _ bytes = pos 0
 
 -- the number of the digits since the last byte that is none
 abbrev pub with_run_byte : ℕ → ℕ → ℕ

@@ -79,7 +79,6 @@ fn push_token(tokens: &mut Vec<Token>, file: u32, at: usize, next: Next) -> Resu
             kind,
             place: place_at(file, at),
             len: next.len as u32,
-            value: next.value,
         })?;
     }
     Ok(())
@@ -94,6 +93,5 @@ fn end_at(file: u32, at: usize) -> Token
         kind: Kind::End,
         place: place_at(file, at),
         len: 0,
-        value: 0,
     }
 }

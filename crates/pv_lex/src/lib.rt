@@ -26,3 +26,4 @@ pub use laws::{
 pub use lex::{MAX_SOURCE, tokens};
 pub use pv_place::Place;
 pub use token::{Kind, Language, Token};
+pub use value::token_value;

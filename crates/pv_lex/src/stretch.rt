@@ -22,13 +22,11 @@ pub struct Stretch {
     pub left: usize,
 }
 
-/// A stretch that is read: a token's kind, none where it is dropped, its number of bytes and its
-/// value.
+/// A stretch that is read: a token's kind, none where it is dropped, and its number of bytes.
 #[derive(Clone, Copy)]
 pub struct Next {
     pub kind: Option<Kind>,
     pub len: usize,
-    pub value: i128,
 }
 
 /// The stretch that is next in the text.
@@ -49,29 +47,27 @@ pub fn next_in(language: Language, context: Context, text: &[u8]) -> Result<Next
 fn fitting(kind: Option<Kind>, bytes: &[u8], text: &[u8]) -> Result<Next, FaultKind>
     ensures { result ≡ fitting kind bytes.now text.now }
 {
-    let value = match kind {
-        Some(Kind::Number) => match value_of(bytes) {
-            Some(value) => value,
-            None => return Err(FaultKind::NumberTooWide),
-        },
+    match kind {
+        Some(Kind::Number) => {
+            if value_of(bytes).is_none() {
+                return Err(FaultKind::NumberTooWide);
+            }
+        }
         Some(Kind::Address) => {
             if !do_runs_fit(bytes) {
                 return Err(FaultKind::NumberTooWide);
             }
-            0
         }
         Some(Kind::Sign) => {
             if opens_comment(text) {
                 return Err(FaultKind::OpenComment);
             }
-            0
         }
-        _ => 0,
-    };
+        _ => {}
+    }
     Ok(Next {
         kind,
         len: bytes.len(),
-        value,
     })
 }
 

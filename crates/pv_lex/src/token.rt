@@ -27,7 +27,8 @@ pub enum Kind {
     End,
 }
 
-/// A token. Its text is the slice of its source.
+/// A token. Its text is the slice of its source, and a number's value is told by
+/// [`token_value`](crate::token_value).
 #[derive(Clone, Copy, PartialEq, Eq, Debug)]
 pub struct Token {
     pub kind: Kind,
@@ -35,6 +36,7 @@ pub struct Token {
     pub place: Place,
     /// Its number of bytes.
     pub len: u32,
-    /// The value of a number, of a duration in milliseconds; 0 for every other kind.
-    pub value: i128,
 }
+
+// A token's bytes.
+const _: () = prove!(size_of::<Token>() == 16);

@@ -2,10 +2,12 @@
 ghost use Rattle.std.specs.Prelude.{◌≡◌, ◌≤◌, ◌+◌, ◌*◌, ◌^◌, ◌<◌, length, drop, ◌∷◌, MatchOption};
 ghost use Rattle.std.specs.List.{list_any};
 ghost use Rattle.pv_lex.specs.Shapes.{is_one_of, decimal_prefixes, hex_prefixes, time_prefixes};
-ghost use Rattle.pv_lex.specs.Values.{digit_value, is_silent, value_behind, unit_value, time_behind, base_of, body_magnitude, magnitude, is_negative, number_value, runs_fit, with_byte, with_run_byte};
+ghost use Rattle.pv_lex.specs.declared.token.Kind.TheVariants as k;
+ghost use Rattle.pv_lex.specs.Values.{token_value, digit_value, is_silent, value_behind, unit_value, time_behind, base_of, body_magnitude, magnitude, is_negative, number_value, runs_fit, with_byte, with_run_byte};
 
 use crate::class::Class;
 use crate::scan::{begins, word_len};
+use crate::token::Kind;
 use crate::words::{is_decimal_prefix, is_hex_prefix, is_time_prefix};
 
 /// The value of a number, or none where it has more than 64 bits.
@@ -19,6 +21,27 @@ pub fn value_of(bytes: &[u8]) -> Option<i128>
         Some(-size)
     } else {
         Some(size)
+    }
+}
+
+/// The value of a token of this kind and of these bytes: that of a number, of a duration in
+/// milliseconds; 0 for every other kind, and for a number of more than 64 bits, which is no token.
+pub fn token_value(kind: Kind, bytes: &[u8]) -> i128
+    ensures { result ≡ token_value kind bytes.now }
+{
+    match kind {
+        Kind::Number => value_or_none(bytes),
+        Kind::Word | Kind::Quoted | Kind::Real | Kind::Address | Kind::Sign | Kind::End => 0,
+    }
+}
+
+/// The value of a number, or 0 where it has more than 64 bits.
+fn value_or_none(bytes: &[u8]) -> i128
+    ensures { result ≡ token_value k.Number bytes.now }
+{
+    match value_of(bytes) {
+        Some(value) => value,
+        None => 0,
     }
 }
 

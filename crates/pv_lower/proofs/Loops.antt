@@ -192,12 +192,12 @@ reached_next l old mid new before between after code next root items i x inside 
 }
 
 pub reached_all : (l : Lowering) (old new : List Node) (before after : List CodeCheck) (code : CodeAccess) (named : Operand) (items : List Step) (i : ℕ)
-    → items ≡ named.steps.items → length items ≤ i → HasReached l old new before after code named.root (map step_tree (take i items))
+    → items ≡ named.steps.items → length items ≤ i → HasReached l old new before after code named.root.value (map step_tree (take i items))
     → (source : Source) → IsLowering l source → IsTable old
     → Accesses old new before after code (accessed source (block_in l.context) (operand_tree named))
 reached_all l old new before after code named items i same past h source is table =
     let block = block_in l.context in
     subst (λ (o : OperandTree). Accesses old new before after code (accessed source block o)) (sym (operand_seen named))
     (subst (λ (ss : List Step). Accesses old new before after code
-    (reached source block (begun source block named.root) (steps_of (map step_tree ss)))) (take_all i items past ∙ same)
+    (reached source block (begun source block named.root.value) (steps_of (map step_tree ss)))) (take_all i items past ∙ same)
     (h.reaches source is table))

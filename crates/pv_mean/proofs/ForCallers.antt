@@ -7,6 +7,10 @@ pub use Rattle.pv_mean.proofs.TypeTables.{table_has_all}
 pub use Rattle.pv_mean.proofs.Tables.{AreOf, of-append, of-type, of-named}
 -- bytes and values that are written elsewhere
 pub use Rattle.pv_mean.proofs.Steps.{bytes-miss, write-misses}
+-- how many cells variables that are declared at once have
+pub use Rattle.pv_mean.proofs.LaidVariables.{among_from}
+-- counted up to the bound, twice as once
+pub use Rattle.pv_mean.proofs.Capping.{capped_twice}
 -- what holds of a frame where each write and each call keeps it holds where statements and instructions end
 pub use Rattle.pv_mean.proofs.Holding.{Writes, CallKeeps, then-holds, any-holds, end-holds, also-holds, holds-stmts}
 pub use Rattle.pv_mean.proofs.Instructing.{any-instructions, holds-stl}

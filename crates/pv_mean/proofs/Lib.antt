@@ -13,6 +13,7 @@ pub mod Runs
 pub mod Passing
 pub mod Capping
 pub mod Visits
+mod SharedVisits
 pub mod Searches
 pub mod Countings
 pub mod TypeTables

@@ -12,7 +12,7 @@ use Rattle.pv_types.specs.Named.{NamedType, look_up, AllNamed, AllNamedIn, Nests
 use Rattle.pv_types.specs.Leaves.{Around, instance, section_within, count_between}
 use Rattle.pv_types.specs.Sizes.{number_where, size_of_type, size_of_fields, size_of_vars, size_of_named}
 use Rattle.pv_mean.specs.Counts.{capped}
-use Rattle.pv_mean.specs.Visits.{Visit, enter, leave, key_of, enters_in, enters_in_vars, Awaits, Covered, AreThere, AllNest, IsOpen, steps_left, steps_to_enter, all_steps}
+use Rattle.pv_mean.specs.Visits.{Visit, enter, leave, key_of, enters_in, enters_in_vars, Awaits, Covered, AreThere, EnterThose, AllNest, IsOpen, steps_left, steps_to_enter, all_steps}
 use Rattle.pv_mean.proofs.Capping.{capped_twice, capped_vars}
 
 -- ---- what holds of each type that is named
@@ -72,7 +72,7 @@ module _ (f g : List ℕ → ℕ) where
       ap (λ n. number_where (section_within around section) n + size_of_vars f around xs) (same_size ty same.0)
       ∙ ap (λ n. number_where (section_within around section) (size_of_type g ty) + n) (same_vars around xs same.1)
 
-left-append : (f : List ℕ → ℕ) (xs ys : List Visit) → steps_left f (xs ++ ys) ≡ steps_left f xs + steps_left f ys
+pub left-append : (f : List ℕ → ℕ) (xs ys : List Visit) → steps_left f (xs ++ ys) ≡ steps_left f xs + steps_left f ys
 left-append f [] ys = omega arith
 left-append f (enter key ∷ xs) ys = let rest = left-append f xs ys in omega (arith, rest)
 left-append f (leave key vars ∷ xs) ys = let rest = left-append f xs ys in omega (arith, rest)
@@ -144,12 +144,12 @@ step_at_least types (suc n) key = omega arith
 
 -- ---- what is awaited
 
-awaits_left : (key : List ℕ) (xs ys : List Visit) → Awaits key xs → Awaits key (xs ++ ys)
+pub awaits_left : (key : List ℕ) (xs ys : List Visit) → Awaits key xs → Awaits key (xs ++ ys)
 awaits_left key [] ys a = absurd a
 awaits_left key (x ∷ xs) ys (inl e) = inl e
 awaits_left key (x ∷ xs) ys (inr a) = inr (awaits_left key xs ys a)
 
-awaits_right : (key : List ℕ) (xs ys : List Visit) → Awaits key ys → Awaits key (xs ++ ys)
+pub awaits_right : (key : List ℕ) (xs ys : List Visit) → Awaits key ys → Awaits key (xs ++ ys)
 awaits_right key [] ys a = a
 awaits_right key (x ∷ xs) ys a = inr (awaits_right key xs ys a)
 
@@ -163,14 +163,14 @@ awaits_one key v (inl e) = e
 awaits_one key v (inr a) = absurd a
 
 mutual
-  all_awaited : (t : TypeTree) → AllNamed (λ k. Awaits k (enters_in t)) t
+  pub all_awaited : (t : TypeTree) → AllNamed (λ k. Awaits k (enters_in t)) t
   all_awaited (plain ty) = tt
   all_awaited (array low high of place) = all_awaited of
   all_awaited (structure vars) = all_awaited_in vars
   all_awaited (named name place) = inl refl
   all_awaited unread = tt
 
-  all_awaited_in : (vars : VarTrees) → AllNamedIn (λ k. Awaits k (enters_in_vars vars)) vars
+  pub all_awaited_in : (vars : VarTrees) → AllNamedIn (λ k. Awaits k (enters_in_vars vars)) vars
   all_awaited_in no_vars = tt
   all_awaited_in (_then_ (var name section ty start place) xs) = (
     named_to (λ k. Awaits k (enters_in ty)) (λ k. Awaits k (enters_in ty ++ enters_in_vars xs))
@@ -231,7 +231,7 @@ module _ (known : List ℕ → Option ℕ) where
   )
 
   mutual
-    enters_covered : (t : TypeTree) (ys : List Visit) → Covered known ys → Covered known (enters_in t ++ ys)
+    pub enters_covered : (t : TypeTree) (ys : List Visit) → Covered known ys → Covered known (enters_in t ++ ys)
     enters_covered (plain ty) ys c = c
     enters_covered (array low high of place) ys c = enters_covered of ys c
     enters_covered (structure vars) ys c = enters_covered_in vars ys c
@@ -267,14 +267,14 @@ there_back types [] ys t = t
 there_back types (enter key ∷ xs) ys t = there_back types xs ys t.1
 there_back types (leave key vars ∷ xs) ys t = there_back types xs ys t.1
 
-there-append : (types : List NamedType) (xs ys : List Visit) → AreThere types xs → AreThere types ys → AreThere types (xs ++ ys)
+pub there-append : (types : List NamedType) (xs ys : List Visit) → AreThere types xs → AreThere types ys → AreThere types (xs ++ ys)
 there-append types [] ys s t = t
 there-append types (enter key ∷ xs) ys s t = (s.0, there-append types xs ys s.1 t)
 there-append types (leave key vars ∷ xs) ys s t = (s.0, there-append types xs ys s.1 t)
 
 module _ (types : List NamedType) where
   mutual
-    enters_there : (t : TypeTree) → AllNamed (λ k. IsSome (look_up types k)) t → AreThere types (enters_in t)
+    pub enters_there : (t : TypeTree) → AllNamed (λ k. IsSome (look_up types k)) t → AreThere types (enters_in t)
     enters_there (plain ty) a = tt
     enters_there (array low high of place) a = enters_there of a
     enters_there (structure vars) a = enters_there_in vars a
@@ -302,17 +302,17 @@ module _ (types : List NamedType) (known : List ℕ → Option ℕ) (xs : List V
   pub enter_there : IsSome (look_up types key)
   enter_there = (there_back types xs (enter key ∷ []) open_so.there).0
 
-  pub type_entered : AllNest types → (vars : List VarTree) → look_up types key ≡ Some vars
-      → IsOpen types known (xs ++ leave key vars ∷ enters_in_vars (listed vars))
-  type_entered nest vars found =
-      let es = enters_in_vars (listed vars) in
+  pub type_entered : AllNest types → (vars : List VarTree) → look_up types key ≡ Some vars → (es : List Visit)
+      → EnterThose (λ P. AllNamedIn P (listed vars)) (enters_in_vars (listed vars)) es
+      → IsOpen types known (xs ++ leave key vars ∷ es)
+  type_entered nest vars found es are =
       record {
         right = open_so.right;
         covered = covered_entered known xs key vars es
-            (named_in_to (λ k. Awaits k es) (λ k. IsSome (known k) ⊎ Awaits k es) (λ k a. inr a) (listed vars) (all_awaited_in (listed vars)))
-            (subst (Covered known) (append-nil es) (enters_covered_in known (listed vars) [] tt)) open_so.covered;
+            (named_in_to (λ k. Awaits k es) (λ k. IsSome (known k) ⊎ Awaits k es) (λ k a. inr a) (listed vars) are.awaits)
+            (subst (Covered known) (append-nil es) (are.covered known [] tt)) open_so.covered;
         there = there-append types xs (leave key vars ∷ es) (there_front types xs (enter key ∷ []) open_so.there)
-            (found, enters_there_in types (listed vars) (nest_within types (length types) key vars (nest key enter_there) found));
+            (found, are.there types (nest_within types (length types) key vars (nest key enter_there) found));
         reached = λ k t. moved known k xs key vars es (open_so.reached k t);
       }
 
@@ -322,13 +322,15 @@ known_falls types xs key =
     let a = left-append f xs (enter key ∷ []) in let b = step_at_least types (length types) key in omega (arith, a, b)
 
 pub entered_falls : (types : List NamedType) (xs : List Visit) (key : List ℕ) (vars : List VarTree) → AllNest types
-    → look_up types key ≡ Some vars
-    → all_steps types (xs ++ leave key vars ∷ enters_in_vars (listed vars)) < all_steps types (xs ++ enter key ∷ [])
-entered_falls types xs key vars nest found =
+    → look_up types key ≡ Some vars → (es : List Visit)
+    → EnterThose (λ P. AllNamedIn P (listed vars)) (enters_in_vars (listed vars)) es
+    → all_steps types (xs ++ leave key vars ∷ es) < all_steps types (xs ++ enter key ∷ [])
+entered_falls types xs key vars nest found es are =
     let f = steps_to_enter types (length types) in
     let a = left-append f xs (enter key ∷ []) in
-    let b = left-append f xs (leave key vars ∷ enters_in_vars (listed vars)) in
-    let c = steps_laid_out types (length types) key vars (nest key (ap is_some found)) found in omega (arith, a, b, c)
+    let b = left-append f xs (leave key vars ∷ es) in
+    let c = steps_laid_out types (length types) key vars (nest key (ap is_some found)) found in
+    let d = are.few f in omega (arith, a, b, c, d)
 
 pub left_falls : (types : List NamedType) (xs : List Visit) (key : List ℕ) (vars : List VarTree)
     → all_steps types xs < all_steps types (xs ++ leave key vars ∷ [])

@@ -1,6 +1,6 @@
 -- A search for the sizes of named types: the types that are still to be visited, the next of them last. A type is entered, and so
 -- are those that it names; when these are done with, it is left, and its size is found.
-use Rattle.std.specs.Prelude.{◌≡◌, ◌⊎◌, ◌<◌, ℕ, zero, suc, ◌+◌, List, [], ◌∷◌, ◌++◌, map, length, Option, Some, unwrap_or, IsSome, Bool, true, false, if◌then◌else◌, ⊤}
+use Rattle.std.specs.Prelude.{◌≡◌, ◌⊎◌, ◌<◌, ◌≤◌, ℕ, zero, suc, ◌+◌, List, [], ◌∷◌, ◌++◌, map, length, Option, Some, unwrap_or, IsSome, Bool, true, false, if◌then◌else◌, ⊤}
 use Rattle.pv_types.specs.Tree.{TypeTree, plain, array, structure, named, unread, VarTree, var, VarTrees, no_vars, _then_}
 use Rattle.pv_types.specs.View.{var_trees, listed}
 use Rattle.pv_types.specs.Named.{NamedType, look_up, types_of, AllNamedIn, NestsWithin}
@@ -66,6 +66,28 @@ AreThere types [] = ⊤
 AreThere types (enter key ∷ vs) = IsSome (look_up types key) × AreThere types vs
 AreThere types (leave key vars ∷ vs) = (look_up types key ≡ Some vars) × AreThere types vs
 
+-- how many steps visits take, by those that it takes to enter a type
+abbrev pub steps_left : (List ℕ → ℕ) → List Visit → ℕ
+steps_left steps [] = 0
+steps_left steps (enter key ∷ vs) = steps key + steps_left steps vs
+steps_left steps (leave key vars ∷ vs) = 1 + steps_left steps vs
+
+-- visits that enter each type which something names, no more often than it does
+pub record EnterThose (named : (List ℕ → Type 0) → Type 0) (whole : List Visit) (es : List Visit)
+    : Type 0 where
+  pub awaits : named (λ k. Awaits k es)
+  pub there : (types : List NamedType) → named (λ k. IsSome (look_up types k)) → AreThere types es
+  pub covered : (known : List ℕ → Option ℕ) (ys : List Visit) → Covered known ys
+      → Covered known (es ++ ys)
+  pub few : (steps : List ℕ → ℕ) → steps_left steps es ≤ steps_left steps whole
+
+-- such visits are put behind others
+pub record AddsEnters (old new : List Visit) (named : (List ℕ → Type 0) → Type 0) (whole : List Visit)
+    : Type 0 where
+  pub more : List Visit
+  pub are : EnterThose named whole more
+  pub behind : new ≡ old ++ more
+
 -- no more types stand inside one another than there are
 abbrev pub AllNest : List NamedType → Type 0
 AllNest types =
@@ -79,12 +101,6 @@ pub record IsOpen (types : List NamedType) (known : List ℕ → Option ℕ) (vi
     pub covered : Covered known visits
     pub there : AreThere types visits
     pub reached : (key : List ℕ) → IsSome (look_up types key) → IsSome (known key) ⊎ Awaits key visits
-
--- how many steps visits take, by those that it takes to enter a type
-abbrev pub steps_left : (List ℕ → ℕ) → List Visit → ℕ
-steps_left steps [] = 0
-steps_left steps (enter key ∷ vs) = steps key + steps_left steps vs
-steps_left steps (leave key vars ∷ vs) = 1 + steps_left steps vs
 
 abbrev pub steps_to_enter : List NamedType → ℕ → List ℕ → ℕ
 steps_to_enter types zero key = 1

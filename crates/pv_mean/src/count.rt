@@ -1,10 +1,10 @@
 //! Numbers of cells, which never overflow: exact up to the greatest number of cells that a table may have, and one more for any
 //! greater number.
-ghost use Rattle.std.specs.Prelude.{◌≡◌, ◌+◌, ◌*◌};
+ghost use Rattle.std.specs.Prelude.{◌≡◌, ◌+◌, ◌*◌, length};
 ghost use Rattle.pv_types.specs.Leaves as leaves;
 ghost use Rattle.pv_mean.specs.Counts.{capped};
 
-use pv_types::MAX_LEAVES;
+use pv_types::{MAX_LEAVES, Vars};
 
 /// What stands for any number of cells above [`MAX_LEAVES`], which is the greatest that a table may have.
 pub const BEYOND: u32 = 20_001;
@@ -39,4 +39,15 @@ pub fn count_between(low: &i128, high: &i128) -> u32
         return BEYOND;
     }
     span as u32 + 1
+}
+
+/// How many variables are declared at once.
+pub fn count_of(of: &Vars) -> u32
+    ensures { result ≡ capped (length of.now.names.items) }
+{
+    let count = of.names.len();
+    if count > 20_000 {
+        return BEYOND;
+    }
+    count as u32
 }

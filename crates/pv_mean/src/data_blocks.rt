@@ -50,10 +50,11 @@ impl DataBlocks {
             ≡ begin_after true (bytes_eq key name.now.key) (begin_in self.old key) self.old.total) }
         ensures total { OnOk result (self.new.total ≡ self.old.total) }
     {
-        if self.firsts.contains_key(&name.key) {
+        let own = name.key();
+        if self.firsts.contains_key(own) {
             return Ok(());
         }
-        let key = name.key.clone()?;
+        let key = own.clone()?;
         self.firsts.insert(key, self.total)?;
         Ok(())
     }
@@ -105,7 +106,7 @@ impl DataBlocks {
     pub(crate) fn find(&self, name: &Name) -> u32
         ensures { result ≡ begin_or_end self.now name.now.key }
     {
-        match self.firsts.get(&name.key) {
+        match self.firsts.get(name.key()) {
             Some(first) => *first,
             None => self.total,
         }

@@ -1,16 +1,16 @@
 //! The sizes of named types that are known, and what has a size by them.
-ghost use Rattle.std.specs.Prelude.{◌≡◌, is_some, Some, None, ℕ, List, OnOk, bytes_eq, if◌then◌else◌};
+ghost use Rattle.std.specs.Prelude.{◌≡◌, ◌*◌, length, is_some, Some, None, ℕ, List, OnOk, bytes_eq, if◌then◌else◌};
 ghost use Rattle.pv_tree.specs.Scopes as scopes;
 ghost use Rattle.pv_types.specs.declared.declaration.Section.TheVariants.{Static};
-ghost use Rattle.pv_types.specs.View.{type_tree, var_trees, listed};
+ghost use Rattle.pv_types.specs.View.{type_tree, vars_tree, var_trees, listed};
 ghost use Rattle.pv_types.specs.Leaves.{instance, section_within};
 ghost use Rattle.pv_types.specs.Sizes.{number_where, size_of_type, size_of_fields, size_of_vars};
 ghost use Rattle.pv_mean.specs.Counts.{capped, known_in, size_known};
 
-use crate::count::{BEYOND, count_between, product, sum};
+use crate::count::{BEYOND, count_between, count_of, product, sum};
 use indexmap::IndexMap;
 use pv_edge::Text;
-use pv_types::{DeclType, Name, Section, Var};
+use pv_types::{DeclType, Name, Section, Vars};
 use std::alloc::{AllocError, Global};
 
 /// Sizes of named types, by the types' names.
@@ -43,14 +43,14 @@ impl Known {
     pub(crate) fn has(&self, name: &Name) -> bool
         ensures { result ≡ is_some (known_in self.now name.now.key) }
     {
-        self.sizes.contains_key(&name.key)
+        self.sizes.contains_key(name.key())
     }
 
     /// The size of the type of this name, or 0 where it isn't known.
     pub(crate) fn find(&self, name: &Name) -> u32
         ensures { result ≡ capped (size_known self.now name.now.key) }
     {
-        match self.sizes.get(&name.key) {
+        match self.sizes.get(name.key()) {
             Some(size) => (*size).min(BEYOND),
             None => 0,
         }
@@ -61,7 +61,7 @@ impl Known {
         ensures { OnOk result ((key : List ℕ) → known_in self.new key
             ≡ (if bytes_eq key name.now.key then Some size else known_in self.old key)) }
     {
-        let key = name.key.clone()?;
+        let key = name.key().clone()?;
         self.sizes.insert(key, size)?;
         Ok(())
     }
@@ -77,8 +77,8 @@ impl Known {
             }
             DeclType::Struct(vars) => {
                 let mut total = 0;
-                for var in vars {
-                    total = sum(total, self.of_type(&var.ty));
+                for of in vars {
+                    total = sum(total, product(count_of(of), self.of_type(&of.ty)));
                 }
                 total
             }
@@ -88,37 +88,38 @@ impl Known {
     }
 
     /// The size of the fields of a structure.
-    pub(crate) fn of_fields(&self, vars: &[Var]) -> u32
+    pub(crate) fn of_fields(&self, vars: &[Vars]) -> u32
         ensures { result ≡ capped (size_of_fields (size_known self.now)
             (listed (var_trees vars.now))) }
     {
         let mut total = 0;
-        for var in vars {
-            total = sum(total, self.of_type(&var.ty));
+        for of in vars {
+            total = sum(total, product(count_of(of), self.of_type(&of.ty)));
         }
         total
     }
 
-    /// The size that a variable has in an instance.
-    fn of_part(&self, var: &Var) -> u32
-        ensures { result ≡ capped (number_where (section_within (instance Static) var.now.section)
-            (size_of_type (size_known self.now) (type_tree var.now.ty))) }
+    /// The size that variables which are declared at once have in an instance.
+    fn of_part(&self, of: &Vars) -> u32
+        ensures { result ≡ capped (length (vars_tree of.now)
+            * number_where (section_within (instance Static) of.now.section)
+            (size_of_type (size_known self.now) (type_tree of.now.ty))) }
     {
-        if is_of_instance(var.section) {
-            self.of_type(&var.ty)
+        if is_of_instance(of.section) {
+            product(count_of(of), self.of_type(&of.ty))
         } else {
             0
         }
     }
 
     /// The size of an instance with these variables.
-    pub(crate) fn of_instance(&self, vars: &[Var]) -> u32
+    pub(crate) fn of_instance(&self, vars: &[Vars]) -> u32
         ensures { result ≡ capped (size_of_vars (size_known self.now) (instance Static)
             (listed (var_trees vars.now))) }
     {
         let mut total = 0;
-        for var in vars {
-            total = sum(total, self.of_part(var));
+        for of in vars {
+            total = sum(total, self.of_part(of));
         }
         total
     }

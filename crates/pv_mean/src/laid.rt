@@ -1,18 +1,19 @@
 //! Where variables, fields and elements are laid out.
-ghost use Rattle.std.specs.Prelude.{◌≡◌, ◌-ℤ◌, ◌&&◌, int_le, unsigned_abs, ℕ, Option, option_map};
-ghost use Rattle.pv_types.specs.View.{type_tree, var_tree, var_trees};
+ghost use Rattle.std.specs.Prelude.{◌≡◌, ◌*◌, ◌++◌, ◌-ℤ◌, ◌&&◌, int_le, unsigned_abs, List, length, option_map, Bool, true};
+ghost use Rattle.pv_types.specs.Tree.{VarTree};
+ghost use Rattle.pv_types.specs.View.{type_tree, vars_tree, var_trees};
 ghost use Rattle.pv_mean.specs.Layout as layout;
 ghost use Rattle.pv_mean.specs.Sized.{sized_project};
 ghost use Rattle.pv_tree.specs.Tree.{BlockTree};
 ghost use Rattle.pv_tree.specs.View.{block_tree};
 ghost use Rattle.pv_types.specs.declared.declaration.Section.{Section};
 ghost use Rattle.pv_mean.specs.Counts.{capped};
-ghost use Rattle.pv_mean.specs.LaidOut.{laid_tree, capped_laid, test_of, goes_on, seen_first, size_where};
+ghost use Rattle.pv_mean.specs.LaidOut.{laid_tree, capped_laid, laid_counted, test_of, goes_on, size_where};
 
-use crate::count::{BEYOND, product, sum};
+use crate::count::{BEYOND, count_of, product, sum};
 use crate::sizes::Sizes;
 use pv_tree::{Block, BlockKind};
-use pv_types::{DeclType, Name, Section, Var};
+use pv_types::{DeclType, Name, Section, Vars, is_named};
 
 /// A type, and the number of the first of its cells.
 #[derive(Clone, Copy)]
@@ -102,32 +103,55 @@ pub fn activation_part(kind: &BlockKind) -> Part
 }
 
 impl<'p> Sizes<'p> {
-    /// Looks at one of the variables, which begins at this cell if it has any there.
-    fn look(&self, var: &'p Var, part: Part, name: &Name, at: u32) -> Seen<'p>
-        ensures { (rest : ℕ → Option layout.Laid) → goes_on result rest
-            ≡ seen_first (sized_project self.now) (test_of part) (var_tree var.now) name.now.key at rest }
+    /// Looks at variables that are declared at once, of which the first begins at this cell.
+    fn look_at_each(&self, of: &'p Vars, name: &Name, at: u32) -> Seen<'p>
+        ensures { (test : Section → Bool) (rest : List VarTree) → test of.now.section ≡ true
+            → goes_on result (laid_counted (sized_project self.now) test rest name.now.key)
+            ≡ laid_counted (sized_project self.now) test (vars_tree of.now ++ rest) name.now.key at }
     {
-        if !part.has(var.section) {
+        let size = self.of_type(&of.ty);
+        let mut at = at;
+        for word in &of.names {
+            if is_named(word, name) {
+                return Seen::Found(Laid {
+                    ty: &of.ty,
+                    first: at,
+                });
+            }
+            at = sum(at, size);
+        }
+        Seen::Behind(at)
+    }
+
+    /// Looks at variables that are declared at once, of which the first begins at this cell if they
+    /// have any there.
+    fn look(&self, of: &'p Vars, part: Part, name: &Name, at: u32) -> Seen<'p>
+        ensures { (rest : List VarTree)
+            → goes_on result (laid_counted (sized_project self.now) (test_of part) rest name.now.key)
+            ≡ laid_counted (sized_project self.now) (test_of part) (vars_tree of.now ++ rest)
+            name.now.key at }
+    {
+        if !part.has(of.section) {
             return Seen::Behind(at);
         }
-        if *name == var.name {
-            return Seen::Found(Laid {
-                ty: &var.ty,
-                first: at,
-            });
-        }
-        Seen::Behind(sum(at, self.of_type(&var.ty)))
+        self.look_at_each(of, name, at)
     }
 
     /// The variable of this name among a part of these, of which the first begins at this cell.
-    pub fn variable(&self, vars: &'p [Var], part: Part, name: &Name, first: u32) -> Option<Laid<'p>>
+    pub fn variable(
+        &self,
+        vars: &'p [Vars],
+        part: Part,
+        name: &Name,
+        first: u32,
+    ) -> Option<Laid<'p>>
         ensures { option_map laid_tree result
             ≡ option_map capped_laid (layout.laid_among (sized_project self.now) (test_of part)
             (var_trees vars.now) name.now.key first) }
     {
         let mut at = first.min(BEYOND);
-        for var in vars {
-            match self.look(var, part, name, at) {
+        for of in vars {
+            match self.look(of, part, name, at) {
                 Seen::Found(laid) => return Some(laid),
                 Seen::Behind(next) => at = next,
             }
@@ -135,26 +159,26 @@ impl<'p> Sizes<'p> {
         None
     }
 
-    /// How many cells a variable has in a part.
-    fn of_variable(&self, var: &Var, part: Part) -> u32
-        ensures { result ≡ capped (size_where (test_of part var.now.section)
-            (layout.size_in (sized_project self.now) (type_tree var.now.ty))) }
+    /// How many cells variables that are declared at once have in a part.
+    fn of_declared(&self, of: &Vars, part: Part) -> u32
+        ensures { result ≡ capped (length (vars_tree of.now) * size_where (test_of part of.now.section)
+            (layout.size_in (sized_project self.now) (type_tree of.now.ty))) }
     {
-        if part.has(var.section) {
-            self.of_type(&var.ty)
+        if part.has(of.section) {
+            product(count_of(of), self.of_type(&of.ty))
         } else {
             0
         }
     }
 
     /// How many cells a part of these variables has.
-    pub fn of_variables(&self, vars: &[Var], part: Part) -> u32
+    pub fn of_variables(&self, vars: &[Vars], part: Part) -> u32
         ensures { result ≡ capped (layout.size_among (sized_project self.now) (test_of part)
             (var_trees vars.now)) }
     {
         let mut total = 0;
-        for var in vars {
-            total = sum(total, self.of_variable(var, part));
+        for of in vars {
+            total = sum(total, self.of_declared(of, part));
         }
         total
     }

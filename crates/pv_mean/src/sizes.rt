@@ -17,7 +17,7 @@ use crate::known::Known;
 use crate::sizing::Sizing;
 use crate::types::{is_type, named_types};
 use pv_tree::{Block, BlockKind, Project};
-use pv_types::{DeclType, Name, Var};
+use pv_types::{DeclType, Name, Vars};
 use std::alloc::{AllocError, Global};
 
 /// The sizes of a project.
@@ -90,7 +90,7 @@ impl<'p> Sizes<'p> {
     }
 
     /// How many cells an instance with these variables has: all but its temporary ones.
-    pub fn of_instance(&self, vars: &[Var]) -> u32
+    pub fn of_instance(&self, vars: &[Vars]) -> u32
         ensures { result ≡ capped (layout.size_among (sized_project self.now) scopes.is_of_instance
             (var_trees vars.now)) }
     {

@@ -4,17 +4,17 @@
 //! long: a type is entered, those that it names are put before it, and when these are known it is left with the sum of its variables.
 //! What is to be left is never left too early: each type that it names is known, or stands before it in the list.
 ghost use Rattle.std.specs.Prelude.{◌≡◌, ◌++◌, ℕ, List, [], ◌∷◌, OnOk, IfOk, IfSome, IfNone, None, map, length};
-ghost use Rattle.pv_types.specs.View.{type_tree, var_trees, listed};
-ghost use Rattle.pv_types.specs.Named.{types_of};
+ghost use Rattle.pv_types.specs.View.{type_tree, vars_tree, var_trees, listed};
+ghost use Rattle.pv_types.specs.Named.{types_of, AllNamed, AllNamedIn};
 ghost use Rattle.pv_types.specs.Sizes.{size_of_named};
 ghost use Rattle.pv_tree.specs.View.{block_tree};
 ghost use Rattle.pv_mean.specs.Counts.{capped, known_in, size_known};
-ghost use Rattle.pv_mean.specs.Visits.{visit_of, visits_of, enter, leave, enters_in, enters_in_vars, seed_of, seeds_of, AllNest, IsOpen, Goes, Steps};
+ghost use Rattle.pv_mean.specs.Visits.{visit_of, visits_of, enter, leave, enters_in, enters_in_vars, seed_of, seeds_of, AddsEnters, AllNest, IsOpen, Goes, Steps};
 
 use crate::known::Known;
 use crate::types::is_type;
 use pv_tree::Block;
-use pv_types::{DeclType, Name, Types, Var};
+use pv_types::{DeclType, Name, Types, Vars};
 use std::alloc::{AllocError, Global};
 
 /// What is to be done.
@@ -23,7 +23,7 @@ pub(crate) enum Task<'p> {
     /// The type of this name is entered.
     Enter(&'p Name),
     /// The type of this name, which has these variables, is left.
-    Leave { name: &'p Name, vars: &'p [Var] },
+    Leave { name: &'p Name, vars: &'p [Vars] },
 }
 
 /// A search: the types, the sizes that are known, and what is to be done, the next of it last.
@@ -34,34 +34,47 @@ pub(crate) struct Sizing<'p> {
     tasks: Vec<Task<'p>>,
 }
 
-/// Puts the types that a type names behind the others.
+/// Puts the types that a type names behind the others, once where fields share it.
+#[cycle(naming)]
 fn add_names<'p>(tasks: &mut Vec<Task<'p>>, ty: &'p DeclType) -> Result<(), AllocError>
-    ensures { OnOk result (visits_of tasks.new.items
-        ≡ visits_of tasks.old.items ++ enters_in (type_tree ty.now)) }
+    ensures { OnOk result (AddsEnters (visits_of tasks.old.items) (visits_of tasks.new.items)
+        (λ P. AllNamed P (type_tree ty.now)) (enters_in (type_tree ty.now))) }
 {
     match ty {
         DeclType::Array { of, .. } => add_names(tasks, of),
-        DeclType::Struct(vars) => {
-            for var in vars {
-                add_names(tasks, &var.ty)?;
-            }
-            Ok(())
-        }
+        DeclType::Struct(vars) => add_names_of(tasks, vars.as_slice()),
         DeclType::Named(name, _) => {
             tasks.push(Task::Enter(name))?;
             Ok(())
         }
-        DeclType::Plain(_) | DeclType::Unread => Ok(()),
+        DeclType::Plain(_) => Ok(()),
+        DeclType::Unread => Ok(()),
     }
 }
 
-/// Puts the types that variables name behind the others.
-fn add_names_of<'p>(tasks: &mut Vec<Task<'p>>, vars: &'p [Var]) -> Result<(), AllocError>
-    ensures { OnOk result (visits_of tasks.new.items
-        ≡ visits_of tasks.old.items ++ enters_in_vars (listed (var_trees vars.now))) }
+/// Puts the types that variables which are declared at once name behind the others: once for all of
+/// them.
+#[cycle(naming)]
+fn add_shared<'p>(tasks: &mut Vec<Task<'p>>, of: &'p Vars) -> Result<(), AllocError>
+    ensures { OnOk result (AddsEnters (visits_of tasks.old.items) (visits_of tasks.new.items)
+        (λ P. AllNamedIn P (listed (vars_tree of.now)))
+        (enters_in_vars (listed (vars_tree of.now)))) }
 {
-    for var in vars {
-        add_names(tasks, &var.ty)?;
+    if of.names.is_empty() {
+        return Ok(());
+    }
+    add_names(tasks, &of.ty)
+}
+
+/// Puts the types that variables name behind the others.
+#[cycle(naming)]
+fn add_names_of<'p>(tasks: &mut Vec<Task<'p>>, vars: &'p [Vars]) -> Result<(), AllocError>
+    ensures { OnOk result (AddsEnters (visits_of tasks.old.items) (visits_of tasks.new.items)
+        (λ P. AllNamedIn P (listed (var_trees vars.now)))
+        (enters_in_vars (listed (var_trees vars.now)))) }
+{
+    for of in vars {
+        add_shared(tasks, of)?;
     }
     Ok(())
 }
@@ -120,7 +133,7 @@ impl<'p> Sizing<'p> {
     }
 
     /// Leaves a type, whose size is known by those that it names.
-    fn leave(&mut self, name: &'p Name, vars: &'p [Var]) -> Result<(), AllocError>
+    fn leave(&mut self, name: &'p Name, vars: &'p [Vars]) -> Result<(), AllocError>
         requires nest { AllNest (types_of self.old.types) }
         requires open { IsOpen (types_of self.old.types) (known_in self.old.known)
             (visits_of self.old.tasks.items ++ leave name.now.key (var_trees vars.now) ∷ []) }

@@ -3,8 +3,7 @@ use Rattle.std.proofs.Common.{◌≡◌, ℕ, refl, sym, ap, ◌∙◌, List, []
 use Rattle.std.specs.Prelude.{find, unwrap_or, option_map, bytes_eq}
 use Rattle.pv_types.specs.Tree.{VarTree, var}
 use Rattle.pv_types.specs.View.{name_of, section_of, var_tree, type_tree}
-use Rattle.pv_types.specs.declared.declaration.Var.{Var}
-use Rattle.pv_types.proofs.ForCallers.{var_seen}
+use Rattle.pv_types.specs.declared.var.Var.{Var}
 use Rattle.pv_tree.specs.Tree.{PlacedName, ArgTree, BlockTree}
 use Rattle.pv_tree.specs.Scopes.{has_key, is_fc}
 use Rattle.pv_tree.specs.Callees.{How, is_param, is_input, Param, params_of_vars, params_of, first_param, only, only_input, param_for}
@@ -100,11 +99,12 @@ mapped f g None = refl
 mapped f g (Some x) = refl
 
 -- a variable of the code that is a parameter
-pub may_seen : (v : Var) → may_be (var_tree v) ≡ is_param v.section
-may_seen v = ap may_be (var_seen v)
+pub may_seen : (v : Var) → may_be (var_tree v) ≡ is_param v.of.now.section
+may_seen v = refl
 
-pub param_seen : (v : Var) → Some (record { key = v.name.key; section = v.section; ty = type_tree v.ty }) ≡ Some (param_of (var_tree v))
-param_seen v = ap (λ t. Some (param_of t)) (sym (var_seen v))
+pub param_seen : (v : Var)
+    → Some (record { key = v.name.now.key; section = v.of.now.section; ty = type_tree v.of.now.ty }) ≡ Some (param_of (var_tree v))
+param_seen v = refl
 
 -- an argument with a word and without
 pub for_none : (how : How) (b : BlockTree) (a : ArgTree) → a.name ≡ None → only_input b ≡ param_for how b a

@@ -1,5 +1,4 @@
 -- Calls, what they come to, and parameters, of the code as plain data.
-use Rattle.std.specs.Prelude.{List, map}
 use Rattle.pv_types.specs.Tree.{plain}
 use Rattle.pv_types.specs.View.{var_tree, type_tree}
 use Rattle.pv_types.specs.declared.declaration.Section.TheVariants.{Output}
@@ -22,7 +21,7 @@ how_tree how.Call = tree.by_call
 how_tree how.Uc = tree.by_uc
 
 abbrev pub called_tree : Called → tree.Called
-called_tree (called.Variable v) = tree.a_variable (var_tree v.now)
+called_tree (called.Variable v) = tree.a_variable (var_tree v)
 called_tree (called.Block e) = tree.block_called (block_of e.now)
 called_tree called.NoCallee = tree.no_callee
 called_tree called.Undeclared = tree.undeclared
@@ -34,5 +33,5 @@ callee_tree (callee.NotCallable place) = tree.not_callable place
 callee_tree callee.Unknown = tree.unknown
 
 abbrev pub param_tree : Param → tree.Param
-param_tree (param.Var v) = record { key = v.now.name.key; section = v.now.section; ty = type_tree v.now.ty }
+param_tree (param.Var v) = record { key = v.name.now.key; section = v.of.now.section; ty = type_tree v.of.now.ty }
 param_tree (param.Value ty) = record { key = value_key; section = Output; ty = plain ty }

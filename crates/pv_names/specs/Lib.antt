@@ -1,3 +1,4 @@
+pub mod DeclarationSets
 pub mod Callees
 pub mod Entries
 pub mod Firsts

@@ -2,7 +2,7 @@
 use Rattle.std.specs.Prelude.{ℕ, List, [], ◌∷◌, map, find, Bool as Truth, ◌&&◌, if◌then◌else◌, Option, Some, None}
 use Rattle.pv_types.specs.Tree.{VarTree}
 use Rattle.pv_types.specs.View.{var_tree, name_of, section_of, declared_type_of}
-use Rattle.pv_types.specs.declared.declaration.Var.{Var}
+use Rattle.pv_types.specs.declared.var.Var.{Var}
 use Rattle.pv_tree.specs.Scopes.{has_key}
 use Rattle.pv_tree.specs.Callees.{is_param, is_input, Param}
 

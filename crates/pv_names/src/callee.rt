@@ -40,7 +40,7 @@ pub fn how_of(op: Op) -> How
 #[derive(Clone, Copy)]
 pub enum Called<'p> {
     /// A declaration of the block.
-    Variable(&'p Var),
+    Variable(Var<'p>),
     Block(&'p Entry<'p>),
     /// A name that is declared, and can't be called.
     NoCallee,
@@ -75,7 +75,7 @@ pub(crate) fn is_by_stl(how: How) -> bool
 fn is_quoted(name: &Name) -> bool
     ensures { result ≡ callees.is_quoted name.now }
 {
-    name.spelled.bytes().starts_with(b"\"".as_slice())
+    name.spelled().starts_with(b"\"".as_slice())
 }
 
 /// Whether a text is decimal digits.
@@ -117,7 +117,7 @@ fn is_numbered(key: &[u8]) -> bool
 pub fn is_word(name: &Name) -> bool
     ensures { result ≡ callees.is_word name.now }
 {
-    !is_quoted(name) && !(name.paired || is_numbered(name.key.bytes()))
+    !is_quoted(name) && !(name.paired() || is_numbered(name.key().bytes()))
 }
 
 /// Whether a block is a function block.
@@ -128,10 +128,10 @@ pub(crate) fn is_fb(kind: &BlockKind) -> bool
 }
 
 /// Whether a variable may be called as an instance in a block.
-fn may_be_instance(block: &Block, var: &Var) -> bool
-    ensures { result ≡ callees.may_be_instance (block_tree block.now) (var_tree var.now) }
+fn may_be_instance(block: &Block, var: Var) -> bool
+    ensures { result ≡ callees.may_be_instance (block_tree block.now) (var_tree var.entry) }
 {
-    match var.section {
+    match var.of.section {
         Section::Input => is_fb(&block.kind),
         Section::Output => is_fb(&block.kind),
         Section::InOut => is_fb(&block.kind),
@@ -285,11 +285,11 @@ impl<'p> Scope<'p> {
     }
 
     /// What a variable comes to.
-    fn var_runs(&self, how: How, var: &Var, place: Place) -> Callee<'p>
+    fn var_runs(&self, how: How, var: Var<'p>, place: Place) -> Callee<'p>
         ensures { callee_tree result ≡ callees.one_name_runs (scope_of self.now) (how_tree how)
-            (a_variable (var_tree var.now)) place }
+            (a_variable (var_tree var.entry)) place }
     {
-        let callee = self.variable_runs(how, &var.ty, place);
+        let callee = self.variable_runs(how, &var.of.ty, place);
         if may_be_instance(self.entry.block, var) {
             return callee;
         }
@@ -351,7 +351,7 @@ impl<'p> Scope<'p> {
     {
         match self.find_type(&type_name.0) {
             Some(entry) => {
-                if entry.block.name.key == fb.block.name.key {
+                if entry.block.name.key() == fb.block.name.key() {
                     instance_runs(how, fb, first)
                 } else {
                     Callee::NotCallable(place)

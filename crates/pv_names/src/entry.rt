@@ -1,22 +1,27 @@
 //! A block with the table of its variables.
-ghost use Rattle.std.specs.Prelude.{map};
+ghost use Rattle.std.specs.Prelude.{◌≡◌, map};
+ghost use Rattle.std.proofs.Props.{props};
+ghost use Rattle.pv_names.specs.DeclarationSets.{declarations-are-a-set};
+ghost use Rattle.pv_types.specs.View.{var_tree, var_trees};
 ghost use Rattle.pv_names.specs.Firsts.{FindsFirsts};
 
 use crate::firsts::Firsts;
 use pv_tree::Block;
-use pv_types::{Name, Var};
+use pv_types::{Name, Var, one_by_one};
 use std::alloc::{AllocError, Global};
 
 /// A block with the table of its variables.
 #[derive(Drop)]
 pub struct Entry<'p> {
     pub block: &'p Block,
-    vars: Firsts,
-    ghost by_name: { FindsFirsts vars (map (λ v. v.name.key) block.now.interface.vars.items) },
+    vars: Vec<Var<'p>>,
+    numbers: Firsts,
+    ghost all: { map var_tree vars.items ≡ var_trees block.now.interface.vars.items } by { Prim.hlevel (props, declarations-are-a-set) },
+    ghost by_name: { FindsFirsts numbers (map (λ v. v.name.now.key) vars.items) },
 }
 
 impl<'p> Entry<'p> {
-    ghost use Rattle.std.specs.Prelude.{◌≡◌, IfOk, option_map};
+    ghost use Rattle.std.specs.Prelude.{IfOk, option_map, slice_get};
     ghost use Rattle.pv_types.specs.View.{var_tree};
     ghost use Rattle.pv_tree.specs.View.{block_tree};
     ghost use Rattle.pv_tree.specs.Scopes.{first_var};
@@ -26,8 +31,13 @@ impl<'p> Entry<'p> {
     pub fn of(alloc: Global, block: &'p Block) -> Result<Entry<'p>, AllocError>
         ensures { IfOk result (λ e. block_of e ≡ block_tree block.now) }
     {
-        let vars = Firsts::of_vars(alloc, block.interface.vars.as_slice())?;
-        Ok(Entry { block, vars })
+        let vars = one_by_one(alloc, block.interface.vars.as_slice())?;
+        let numbers = Firsts::of_vars(alloc, vars.as_slice())?;
+        Ok(Entry {
+            block,
+            vars,
+            numbers,
+        })
     }
 
     /// The block.
@@ -37,13 +47,30 @@ impl<'p> Entry<'p> {
         self.block
     }
 
+    /// The variables of the block, one by one.
+    pub fn vars(&self) -> &[Var<'p>]
+        ensures { map var_tree result.now ≡ (block_of self.now).vars }
+    {
+        self.vars.as_slice()
+    }
+
+    /// The variable of this number.
+    fn at(&self, number: usize) -> Option<Var<'p>>
+        ensures { result ≡ slice_get self.now.vars.items number }
+    {
+        match self.vars.as_slice().get(number) {
+            Some(var) => Some(*var),
+            None => None,
+        }
+    }
+
     /// The first variable of this name that the block declares.
-    pub fn find(&self, name: &Name) -> Option<&'p Var>
-        ensures { option_map (λ v. var_tree v.now) result
+    pub fn find(&self, name: &Name) -> Option<Var<'p>>
+        ensures { option_map var_tree result
             ≡ first_var (block_of self.now).vars name.now.key }
     {
-        match self.vars.find(name) {
-            Some(number) => self.block.interface.vars.as_slice().get(number),
+        match self.numbers.find(name) {
+            Some(number) => self.at(number),
             None => None,
         }
     }

@@ -31,10 +31,11 @@ impl Firsts {
         ensures { OnOk result ((key : List ℕ) → number_in self.new key
             ≡ or_number (number_in self.old key) (bytes_eq key name.now.key) number) }
     {
-        if self.numbers.contains_key(&name.key) {
+        let own = name.key();
+        if self.numbers.contains_key(own) {
             return Ok(());
         }
-        let key = name.key.clone()?;
+        let key = own.clone()?;
         self.numbers.insert(key, number)?;
         Ok(())
     }
@@ -43,7 +44,7 @@ impl Firsts {
     pub fn find(&self, name: &Name) -> Option<usize>
         ensures { result ≡ number_in self.now name.now.key }
     {
-        match self.numbers.get(&name.key) {
+        match self.numbers.get(name.key()) {
             Some(number) => Some(*number),
             None => None,
         }
@@ -51,11 +52,11 @@ impl Firsts {
 
     /// The names of variables.
     pub(crate) fn of_vars(alloc: Global, vars: &[Var]) -> Result<Firsts, AllocError>
-        ensures { IfOk result (λ f. FindsFirsts f (map (λ v. v.name.key) vars.now)) }
+        ensures { IfOk result (λ f. FindsFirsts f (map (λ v. v.name.now.key) vars.now)) }
     {
         let mut firsts = Firsts::new(alloc);
         for (i, var) in vars.iter().enumerate() {
-            firsts.push(&var.name, i)?;
+            firsts.push(var.name, i)?;
         }
         Ok(firsts)
     }

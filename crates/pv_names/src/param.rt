@@ -19,7 +19,7 @@ use pv_word::Ty;
 /// A parameter: a variable of an interface, or a function's value, which is the output RET_VAL where STL calls it.
 #[derive(Clone, Copy)]
 pub enum Param<'p> {
-    Var(&'p Var),
+    Var(Var<'p>),
     Value(Ty),
 }
 
@@ -48,27 +48,27 @@ pub fn is_fc(kind: &BlockKind) -> bool
 }
 
 /// The first parameter of this name among variables.
-fn first_among<'p>(vars: &'p [Var], name: &Name) -> Option<&'p Var>
-    ensures { option_map (λ v. var_tree v.now) result ≡ first_in name.now.key vars.now }
+fn first_among<'p>(vars: &[Var<'p>], name: &Name) -> Option<Var<'p>>
+    ensures { option_map var_tree result ≡ first_in name.now.key vars.now }
 {
     for var in vars {
-        if is_param(var.section) && name.key == var.name.key {
-            return Some(var);
+        if is_param(var.of.section) && name.key() == var.name.key() {
+            return Some(*var);
         }
     }
     None
 }
 
 /// The only input among variables.
-fn sole_input<'p>(vars: &'p [Var]) -> Option<&'p Var>
-    ensures { option_map (λ v. var_tree v.now) result ≡ sole_input None (map var_tree vars.now) }
+fn sole_input<'p>(vars: &[Var<'p>]) -> Option<Var<'p>>
+    ensures { option_map var_tree result ≡ sole_input None (map var_tree vars.now) }
 {
-    let mut found: Option<&'p Var> = None;
+    let mut found: Option<Var<'p>> = None;
     for var in vars {
-        if is_input(var.section) {
+        if is_input(var.of.section) {
             match found {
                 Some(_) => return None,
-                None => found = Some(var),
+                None => found = Some(*var),
             }
         }
     }
@@ -76,12 +76,12 @@ fn sole_input<'p>(vars: &'p [Var]) -> Option<&'p Var>
 }
 
 /// The only input of a function.
-pub fn only_var<'p>(entry: &'p Entry<'p>) -> Option<&'p Var>
-    ensures { option_map (λ v. param_of (var_tree v.now)) result
+pub fn only_var<'p>(entry: &'p Entry<'p>) -> Option<Var<'p>>
+    ensures { option_map (λ v. param_of (var_tree v)) result
         ≡ callees.only_input (block_of entry.now) }
 {
     if is_fc(&entry.block.kind) {
-        sole_input(entry.block.interface.vars.as_slice())
+        sole_input(entry.vars())
     } else {
         None
     }
@@ -98,16 +98,16 @@ fn only_input<'p>(entry: &'p Entry<'p>) -> Option<Param<'p>>
 }
 
 /// The parameter of this name that a block declares.
-fn declared_param<'p>(entry: &'p Entry<'p>, name: &Name) -> Option<&'p Var>
-    ensures { option_map (λ v. var_tree v.now) result
+fn declared_param<'p>(entry: &'p Entry<'p>, name: &Name) -> Option<Var<'p>>
+    ensures { option_map var_tree result
         ≡ find (is_sought name.now.key) (block_of entry.now).vars }
 {
     match entry.find(name) {
         Some(var) => {
-            if is_param(var.section) {
+            if is_param(var.of.section) {
                 return Some(var);
             }
-            first_among(entry.block.interface.vars.as_slice(), name)
+            first_among(entry.vars(), name)
         }
         None => None,
     }
@@ -118,7 +118,7 @@ fn value_param<'p>(how: How, entry: &'p Entry<'p>, name: &Name) -> Option<Param<
     ensures { option_map param_tree result ≡ callees.first_param
         (callees.value_param (how_tree how) (block_of entry.now)) name.now.key }
 {
-    if !is_by_stl(how) || name.key.bytes() != b"ret_val".as_slice() {
+    if !is_by_stl(how) || name.key().bytes() != b"ret_val".as_slice() {
         return None;
     }
     if entry.find(name).is_some() {
@@ -157,7 +157,7 @@ pub fn section_of_param(param: Param) -> Section
     ensures { result ≡ (param_tree param.entry).section }
 {
     match param {
-        Param::Var(var) => var.section,
+        Param::Var(var) => var.of.section,
         Param::Value(_) => Section::Output,
     }
 }
@@ -167,7 +167,7 @@ pub fn type_of_param<'p>(param: Param<'p>) -> Held<'p>
     ensures { held_tree result ≡ (param_tree param.entry).ty }
 {
     match param {
-        Param::Var(var) => level_of(&var.ty),
+        Param::Var(var) => level_of(&var.of.ty),
         Param::Value(ty) => Held::Plain(ty),
     }
 }

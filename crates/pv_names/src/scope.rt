@@ -1,13 +1,13 @@
 //! A block of a project, in which names are looked up.
-ghost use Rattle.std.specs.Prelude.{◌≡◌, option_map};
-ghost use Rattle.pv_types.specs.View.{var_tree};
+ghost use Rattle.std.specs.Prelude.{◌≡◌, ◌||◌, find, option_map};
+ghost use Rattle.pv_types.specs.View.{var_tree, vars_tree};
 ghost use Rattle.pv_tree.specs.View.{block_tree, body_tree, step_tree, operand_tree, expr_tree};
 ghost use Rattle.pv_tree.specs.Scopes as scopes;
 ghost use Rattle.pv_tree.specs.Things as things;
 ghost use Rattle.pv_names.specs.Entries.{block_of};
 ghost use Rattle.pv_names.specs.Tables.{project_of};
 ghost use Rattle.pv_names.specs.Views.{held_tree, thing_tree};
-ghost use Rattle.pv_names.specs.InScope.{scope_of, first_where};
+ghost use Rattle.pv_names.specs.InScope.{scope_of, is_sought, first_where};
 
 use crate::entry::Entry;
 use crate::tables::Tables;
@@ -16,7 +16,7 @@ use crate::thing::{
 };
 use pv_place::Place;
 use pv_tree::{Block, BlockKind, Body, Root};
-use pv_types::{Name, Var};
+use pv_types::{Name, Section, Var, Vars, named_among};
 use pv_word::Ty;
 
 /// A block of a project, in which names are looked up.
@@ -51,7 +51,7 @@ pub fn own_value(block: &Block, name: &Name, hash: bool) -> Option<Ty>
     ensures { result ≡ scopes.own_value (block_tree block.now) name.now.key hash }
 {
     if is_stl(&block.body) {
-        if name.key.bytes() == b"ret_val".as_slice() {
+        if name.key().bytes() == b"ret_val".as_slice() {
             return block.interface.value;
         }
         return None;
@@ -59,7 +59,7 @@ pub fn own_value(block: &Block, name: &Name, hash: bool) -> Option<Ty>
     if hash {
         return None;
     }
-    if name.key == block.name.key {
+    if name.key() == block.name.key() {
         return block.interface.value;
     }
     None
@@ -75,12 +75,30 @@ pub fn quoted_value(block: &Block, name: &Name) -> Option<Ty>
     own_value(block, name, false)
 }
 
-/// The first of the variables of this name; those that an instance lacks count only where all do.
-fn first_among<'p>(vars: &'p [Var], name: &Name, all: bool) -> Option<&'p Var>
-    ensures { option_map (λ v. var_tree v.now) result ≡ first_where all name.now.key vars.now }
+/// Whether variables of a section count: all do, or an instance has them.
+fn counts(all: bool, section: Section) -> bool
+    ensures { result ≡ (all || scopes.is_of_instance section) }
 {
-    for var in vars {
-        if (all || is_of_instance(var.section)) && name.key == var.name.key {
+    all || is_of_instance(section)
+}
+
+/// The first of the variables of this name that are declared at once; those that an instance lacks count only where all do.
+fn first_of<'p>(of: &'p Vars, name: &Name, all: bool) -> Option<Var<'p>>
+    ensures { option_map var_tree result ≡ find (is_sought all name.now.key) (vars_tree of.now) }
+{
+    if counts(all, of.section) {
+        named_among(of, name)
+    } else {
+        None
+    }
+}
+
+/// The first of the variables of this name; those that an instance lacks count only where all do.
+fn first_among<'p>(vars: &'p [Vars], name: &Name, all: bool) -> Option<Var<'p>>
+    ensures { option_map var_tree result ≡ first_where all name.now.key vars.now }
+{
+    for of in vars {
+        if let Some(var) = first_of(of, name, all) {
             return Some(var);
         }
     }
@@ -179,7 +197,7 @@ impl<'p> Scope<'p> {
     {
         match self.find_type(type_name) {
             Some(entry) => match field_of_instance(entry, name) {
-                Some(var) => Thing::Part(level_of(&var.ty)),
+                Some(var) => Thing::Part(level_of(&var.of.ty)),
                 None => Thing::NoName(place),
             },
             None => Thing::Untold,
@@ -193,7 +211,7 @@ impl<'p> Scope<'p> {
     {
         match ty {
             Held::Struct(vars) => match first_among(vars, name, true) {
-                Some(var) => Thing::Part(level_of(&var.ty)),
+                Some(var) => Thing::Part(level_of(&var.of.ty)),
                 None => Thing::NoName(place),
             },
             Held::Named(type_name, _) => self.field_of_named(type_name, name, place),
@@ -208,7 +226,7 @@ impl<'p> Scope<'p> {
     {
         match &entry.block.kind {
             BlockKind::Db { of: None } => match entry.find(name) {
-                Some(var) => Thing::Part(level_of(&var.ty)),
+                Some(var) => Thing::Part(level_of(&var.of.ty)),
                 None => Thing::NoName(place),
             },
             BlockKind::Db {
@@ -266,13 +284,13 @@ impl<'p> Scope<'p> {
 }
 
 /// The first variable of this name that an instance of the block has.
-fn field_of_instance<'p>(entry: &Entry<'p>, name: &Name) -> Option<&'p Var>
-    ensures { option_map (λ v. var_tree v.now) result
+fn field_of_instance<'p>(entry: &Entry<'p>, name: &Name) -> Option<Var<'p>>
+    ensures { option_map var_tree result
         ≡ scopes.first_var (things.fields_of_type (block_of entry.now)) name.now.key }
 {
     match entry.find(name) {
         Some(var) => {
-            if is_of_instance(var.section) {
+            if is_of_instance(var.of.section) {
                 return Some(var);
             }
             first_among(entry.block.interface.vars.as_slice(), name, false)

@@ -7,7 +7,7 @@ ghost use Rattle.pv_names.specs.Views.{held_tree, thing_tree};
 
 use crate::entry::Entry;
 use pv_place::Place;
-use pv_types::{DeclType, Name, Section, Var};
+use pv_types::{DeclType, Name, Section, Var, Vars};
 use pv_word::Ty;
 
 /// One level of a type.
@@ -20,7 +20,7 @@ pub enum Held<'p> {
         of: &'p DeclType,
         place: Place,
     },
-    Struct(&'p [Var]),
+    Struct(&'p [Vars]),
     Named(&'p Name, Place),
     Unread,
 }
@@ -87,13 +87,13 @@ pub(crate) fn is_of_instance(section: Section) -> bool
 }
 
 /// A variable or a constant.
-pub(crate) fn thing_of_var(var: &Var) -> Thing
-    ensures { thing_tree result ≡ things.thing_of_var (var_tree var.now) }
+pub(crate) fn thing_of_var<'p>(var: Var<'p>) -> Thing<'p>
+    ensures { thing_tree result ≡ things.thing_of_var (var_tree var.entry) }
 {
-    if is_const(var.section) {
-        Thing::Constant(level_of(&var.ty))
+    if is_const(var.of.section) {
+        Thing::Constant(level_of(&var.of.ty))
     } else {
-        Thing::Part(level_of(&var.ty))
+        Thing::Part(level_of(&var.of.ty))
     }
 }
 

@@ -1,5 +1,5 @@
 -- Parts of statements and calls that lie on the stack, as plain data.
-use Rattle.std.specs.Prelude.{List, map, Option, option_map, Vec}
+use Rattle.std.specs.Prelude.{List, map, Option, option_map, Vec, Box}
 use Rattle.std.specs.declared.alloc.Global.{Global}
 use Rattle.pv_types.specs.declared.declaration.Literal.{Literal}
 use Rattle.pv_tree.specs.declared.expr.Expr.{Expr}
@@ -43,8 +43,8 @@ pub data CodeTree : Type 0 where
 -- ---- the code's
 
 abbrev pub value_tree : Value → ValueTree
-value_tree (v.Expr e) = of_expr (expr_tree e)
-value_tree (v.Call c) = of_call (call_tree c)
+value_tree (v.Expr e) = of_expr (expr_tree e.value)
+value_tree (v.Call c) = of_call (call_tree c.value)
 
 abbrev pub arg_list : Vec Arg Global → List ArgTree
 arg_list args = map arg_tree args.items
@@ -58,8 +58,8 @@ arm_tree arm = (expr_tree arm.0, stmt_trees arm.1.items)
 abbrev pub arm_list : Vec (Expr × Vec Stmt Global) Global → List ArmTree
 arm_list all = map arm_tree all.items
 
-abbrev pub else_list : Option (Vec Stmt Global) → Option StmtTrees
-else_list other = option_map (λ body. stmt_trees body.items) other
+abbrev pub else_list : Option (Box (Vec Stmt Global) Global) → Option StmtTrees
+else_list other = option_map (λ body. stmt_trees body.value.items) other
 
 -- the values of a label, each alone or as the lower end of a range
 abbrev pub ChoiceVec : Type 0

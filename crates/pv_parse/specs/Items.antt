@@ -80,7 +80,7 @@ abbrev pub lexeme_of_slice : Sliced → Lexeme
 lexeme_of_slice s = record { kind = s.kind; bytes = s.bytes.now; value = s.value; place = s.place }
 
 abbrev pub path_tree : Operand → PathTree
-path_tree o = record { root = o.root; steps = map step_tree o.steps.items; place = o.place }
+path_tree o = record { root = o.root.value; steps = map step_tree o.steps.items; place = o.place }
 
 abbrev pub item_of : Item → ItemTree
 item_of (i.Token t) = token (lexeme_of_slice t)

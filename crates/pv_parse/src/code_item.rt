@@ -6,9 +6,9 @@ use pv_types::Literal;
 /// The right side of an assignment.
 #[derive(Drop)]
 pub enum Value {
-    Expr(Expr),
+    Expr(Box<Expr>),
     /// A call of a function that has a value.
-    Call(CallTree),
+    Call(Box<CallTree>),
 }
 
 /// A part of a statement or of a call.
@@ -24,7 +24,7 @@ pub enum CodeItem {
     /// The conditions of an IF so far, each with its statements.
     Arms(Vec<(Expr, Vec<Stmt>)>),
     /// What stands behind ELSE.
-    Else(Option<Vec<Stmt>>),
+    Else(Option<Box<Vec<Stmt>>>),
     /// What stands behind BY.
     By(Option<Literal>),
     /// A value of a label.

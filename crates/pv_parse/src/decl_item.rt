@@ -2,14 +2,14 @@
 
 use pv_place::Place;
 use pv_tree::{Block, Body, Operand};
-use pv_types::{DeclType, Literal, Name, Section, Var};
+use pv_types::{DeclType, Literal, Name, Section, Vars};
 use pv_word::Ty;
 
 /// Variables of one section.
 #[derive(Drop)]
 pub struct Fields {
     pub section: Section,
-    pub vars: Vec<Var>,
+    pub vars: Vec<Vars>,
 }
 
 /// The bounds of an array, and the place of the word ARRAY.
@@ -26,7 +26,7 @@ pub struct Bounds {
 pub struct Heading {
     pub name: Name,
     pub place: Place,
-    pub vars: Vec<Var>,
+    pub vars: Vec<Vars>,
     pub value: Option<Ty>,
     pub of: Option<(Name, Place)>,
 }

@@ -1,5 +1,5 @@
 //! What alternatives of expressions and operands make of what lies on the stack.
-ghost use Rattle.std.specs.Prelude.{◌≡◌, ◌∷◌, ◌++◌, Some, None, IfOk, map, option_and_then};
+ghost use Rattle.std.specs.Prelude.{◌≡◌, ◌∷◌, ◌++◌, [], Some, None, IfOk, map, option_and_then};
 ghost use Rattle.pv_tree.specs.declared.expr.Root.TheVariants.{Named};
 ghost use Rattle.pv_tree.specs.View.{expr_tree, exprs_of, step_tree};
 ghost use Rattle.pv_tree.specs.Words.{pair_name};
@@ -20,6 +20,22 @@ use pv_types::Name;
 use pv_word::Ty;
 use std::alloc::{AllocError, Global};
 
+/// Puts an operand without steps on the stack.
+pub fn push_root(alloc: Global, root: Root, place: Place, stack: &mut Vec<Item>) -> Result<(), Stop>
+    ensures { Leaves result (stack_of stack.new) (Some (path (rooted root place) ∷ stack_of stack.old)) }
+{
+    let root = Box::new(alloc, root)?;
+    push(
+        stack,
+        Item::Path(Operand {
+            root,
+            steps: Vec::new(alloc),
+            place,
+        }),
+    )?;
+    Ok(())
+}
+
 /// A word is an operand without steps.
 pub fn word(alloc: Global, stack: &mut Vec<Item>) -> Result<(), Stop>
     ensures { Leaves result (stack_of stack.new) (word_deed (stack_of stack.old)) }
@@ -31,15 +47,7 @@ pub fn word(alloc: Global, stack: &mut Vec<Item>) -> Result<(), Stop>
         hash: false,
         place: token.place,
     };
-    push(
-        stack,
-        Item::Path(Operand {
-            root,
-            steps: Vec::new(alloc),
-            place: token.place,
-        }),
-    )?;
-    Ok(())
+    push_root(alloc, root, token.place, stack)
 }
 
 /// A quoted name is one.
@@ -84,16 +92,7 @@ fn push_named(alloc: Global, name: Name, place: Place, stack: &mut Vec<Item>) ->
     ensures { Leaves result (stack_of stack.new) (Some
         (path (rooted (Named name) place) ∷ stack_of stack.old)) }
 {
-    let root = Root::Named(name);
-    push(
-        stack,
-        Item::Path(Operand {
-            root,
-            steps: Vec::new(alloc),
-            place,
-        }),
-    )?;
-    Ok(())
+    push_root(alloc, Root::Named(name), place, stack)
 }
 
 /// An address is one.
@@ -102,15 +101,7 @@ pub fn area(alloc: Global, stack: &mut Vec<Item>) -> Result<(), Stop>
 {
     let token = pop_token(stack)?;
     let root = area_of(token.bytes)?;
-    push(
-        stack,
-        Item::Path(Operand {
-            root,
-            steps: Vec::new(alloc),
-            place: token.place,
-        }),
-    )?;
-    Ok(())
+    push_root(alloc, root, token.place, stack)
 }
 
 /// The name and the place of the word that a path is.
@@ -118,7 +109,7 @@ fn word_of(path: Operand) -> Result<(Name, Place), Stop>
     ensures { Finds (λ word. word) result (word_of (path_tree path).root) }
 {
     drop(path.steps);
-    word_in(path.root)
+    word_in(Box::into_inner(path.root))
 }
 
 /// Takes a word that was read as an operand without steps.
@@ -130,12 +121,23 @@ pub fn pop_word(stack: &mut Vec<Item>) -> Result<(Name, Place), Stop>
     Ok(word)
 }
 
+/// The steps with one more behind them. A single one takes no room beyond itself, since most operands have no more.
+fn with_step(steps: Vec<Step>, step: Step) -> Result<Vec<Step>, AllocError>
+    ensures { IfOk result (λ longer. longer.items ≡ steps.items ++ step ∷ []) }
+{
+    let mut longer = steps;
+    if longer.is_empty() {
+        let _ = longer.reserve_exact(1);
+    }
+    added(longer, step)
+}
+
 /// Puts a path with one more step on the stack.
 pub fn push_step(from: Operand, step: Step, stack: &mut Vec<Item>) -> Result<(), Stop>
     ensures { Leaves result (stack_of stack.new) (Some
         (path (stepped (path_tree from) (step_tree step)) ∷ stack_of stack.old)) }
 {
-    let steps = added(from.steps, step);
+    let steps = with_step(from.steps, step);
     let (root, steps) = with(from.root, steps)?;
     push(
         stack,
@@ -160,7 +162,7 @@ pub fn field(stack: &mut Vec<Item>) -> Result<(), Stop>
 }
 
 /// Takes an expression into a box.
-fn pop_boxed(alloc: Global, stack: &mut Vec<Item>) -> Result<Box<Expr>, Stop>
+pub fn pop_boxed(alloc: Global, stack: &mut Vec<Item>) -> Result<Box<Expr>, Stop>
     ensures { Pops (λ inner. expr_tree inner.value) result (stack_of stack.new) (expr_on (stack_of stack.old)) }
 {
     let inner = pop_expr(stack)?;
@@ -189,25 +191,26 @@ pub fn read(stack: &mut Vec<Item>) -> Result<(), Stop>
 }
 
 /// The path that is the word's behind `#`, which stands at this place.
-fn hashed(path: Operand, place: Place) -> Result<Operand, Stop>
+fn hashed(alloc: Global, path: Operand, place: Place) -> Result<Operand, Stop>
     ensures { Finds path_tree result (hashed (path_tree path) place) }
 {
-    let (steps, (name, at)) = with(path.steps, word_in(path.root))?;
+    let (steps, (name, at)) = with(path.steps, word_in(Box::into_inner(path.root)))?;
     let root = Root::Local {
         name,
         hash: true,
         place: at,
     };
+    let (steps, root) = with(steps, Box::new(alloc, root))?;
     Ok(Operand { root, steps, place })
 }
 
 /// What a path behind `#` leads to is read.
-pub fn hash_read(stack: &mut Vec<Item>) -> Result<(), Stop>
+pub fn hash_read(alloc: Global, stack: &mut Vec<Item>) -> Result<(), Stop>
     ensures { Leaves result (stack_of stack.new) (hash_read_deed (stack_of stack.old)) }
 {
     let path = pop_path(stack)?;
     let (path, hash) = with(path, pop_token(stack))?;
-    let path = hashed(path, hash.place)?;
+    let path = hashed(alloc, path, hash.place)?;
     push(stack, Item::Expr(Expr::Read(path)))?;
     Ok(())
 }
@@ -427,7 +430,7 @@ pub fn act_on_expr(alloc: Global, action: ExprAction, stack: &mut Vec<Item>) -> 
         ExprAction::Field => field(stack),
         ExprAction::Index => index(alloc, stack),
         ExprAction::Read => read(stack),
-        ExprAction::HashRead => hash_read(stack),
+        ExprAction::HashRead => hash_read(alloc, stack),
         ExprAction::Number => number(stack),
         ExprAction::Truth => truth(stack),
         ExprAction::Paren => paren(alloc, stack),

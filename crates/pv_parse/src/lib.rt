@@ -32,7 +32,7 @@ pub use action::{
 pub use code_item::{CodeItem, Value};
 pub use decl_item::{Bounds, DeclItem, Fields, Heading};
 pub use depth::find_too_deep;
-pub use expressions::{act_on_expr, joined_name, pop_word, push_step};
+pub use expressions::{act_on_expr, joined_name, pop_boxed, pop_word, push_root, push_step};
 pub use fault::{ParseFault, ReadFault};
 pub use held::{added, with};
 pub use item::{Item, Sliced};

@@ -9,10 +9,10 @@ ghost use Rattle.pv_parse.specs.Items.{stack_of, path, path_tree, token_on, path
 ghost use Rattle.pv_parse.specs.ExprDeeds.{rooted, stepped};
 ghost use Rattle.pv_parse.specs.CallDeeds.{name_of_root, named_of, is_hashed, field_of, base_of, plain_on, quoted_on, pair_on, hashed_name, second_name, named_on, first_argument_deed, next_argument_deed, no_argument_deed, alone_deed, call_of, call_deed, call_value_deed, expr_value_deed, call_action_deed};
 
-use crate::parts::{pop_args, pop_call};
+use crate::parts::{pop_args, pop_boxed_call};
 use pv_parse::{
-    CallAction, CodeItem, Item, Stop, Value, added, joined_name, pop_expr, pop_path, pop_token,
-    push, push_step, with,
+    CallAction, CodeItem, Item, Stop, Value, added, joined_name, pop_boxed, pop_expr, pop_path,
+    pop_token, push, push_root, push_step, with,
 };
 use pv_place::Place;
 use pv_tree::{Arg, CallTree, Expr, Operand, Root, Step};
@@ -58,15 +58,7 @@ fn push_hashed(alloc: Global, name: Name, at: Place, stack: &mut Vec<Item>) -> R
         hash: true,
         place: at,
     };
-    push(
-        stack,
-        Item::Path(Operand {
-            root,
-            steps: Vec::new(alloc),
-            place: hash.place,
-        }),
-    )?;
-    Ok(())
+    push_root(alloc, root, hash.place, stack)
 }
 
 /// A name behind `.`, which lies on the stack, is a step to a field.
@@ -150,7 +142,7 @@ pub fn path_name(alloc: Global, path: Operand) -> Result<(Name, Place), AllocErr
     ensures { IfOk result (λ name. name ≡ named_of (path_tree path)) }
 {
     drop(path.steps);
-    root_name(alloc, path.root, path.place)
+    root_name(alloc, Box::into_inner(path.root), path.place)
 }
 
 /// Whether `#` stands before it.
@@ -266,7 +258,7 @@ fn called(alloc: Global, path: Operand, args: Vec<Arg>) -> Result<CallTree, Allo
 {
     let place = path.place;
     let hash = hash_of(&path.root);
-    let name = root_name(alloc, path.root, place);
+    let name = root_name(alloc, Box::into_inner(path.root), place);
     let base = last_name(path.steps);
     let (rest, (name, name_place)) = with((base, args), name)?;
     let (base, args) = rest;
@@ -294,19 +286,19 @@ fn call(alloc: Global, stack: &mut Vec<Item>) -> Result<(), Stop>
 }
 
 /// The right side of an assignment is a call.
-fn call_value(stack: &mut Vec<Item>) -> Result<(), Stop>
+fn call_value(alloc: Global, stack: &mut Vec<Item>) -> Result<(), Stop>
     ensures { Leaves result (stack_of stack.new) (call_value_deed (stack_of stack.old)) }
 {
-    let call = pop_call(stack)?;
+    let call = pop_boxed_call(alloc, stack)?;
     push(stack, Item::Code(CodeItem::Value(Value::Call(call))))?;
     Ok(())
 }
 
 /// The right side of an assignment is an expression.
-fn expr_value(stack: &mut Vec<Item>) -> Result<(), Stop>
+fn expr_value(alloc: Global, stack: &mut Vec<Item>) -> Result<(), Stop>
     ensures { Leaves result (stack_of stack.new) (expr_value_deed (stack_of stack.old)) }
 {
-    let expr = pop_expr(stack)?;
+    let expr = pop_boxed(alloc, stack)?;
     push(stack, Item::Code(CodeItem::Value(Value::Expr(expr))))?;
     Ok(())
 }
@@ -327,7 +319,7 @@ pub fn act_on_call(alloc: Global, action: CallAction, stack: &mut Vec<Item>) -> 
         CallAction::NoArgument => no_argument(alloc, stack),
         CallAction::Alone => alone(alloc, stack),
         CallAction::Call => call(alloc, stack),
-        CallAction::CallValue => call_value(stack),
-        CallAction::ExprValue => expr_value(stack),
+        CallAction::CallValue => call_value(alloc, stack),
+        CallAction::ExprValue => expr_value(alloc, stack),
     }
 }

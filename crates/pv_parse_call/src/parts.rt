@@ -11,6 +11,7 @@ use pv_parse::{CodeItem, DeclItem, Item, Stop, mistyped, pop_item};
 use pv_place::Place;
 use pv_tree::{Arg, Body, CallTree};
 use pv_types::{Literal, Name};
+use std::alloc::Global;
 
 fn literal_in(item: Item) -> Result<Literal, Stop>
     ensures { Finds (λ literal. literal) result (literal_in (item_of item.entry)) }
@@ -91,6 +92,15 @@ pub fn pop_call<'a>(stack: &mut Vec<Item<'a>>) -> Result<CallTree, Stop>
     let item = pop_code(stack)?;
     let found = call_in(item)?;
     Ok(found)
+}
+
+/// Takes a call into a box.
+pub fn pop_boxed_call(alloc: Global, stack: &mut Vec<Item>) -> Result<Box<CallTree>, Stop>
+    ensures { Pops (λ call. call_tree call.value) result (stack_of stack.new) (call_on (stack_of stack.old)) }
+{
+    let call = pop_call(stack)?;
+    let call = Box::new(alloc, call)?;
+    Ok(call)
 }
 
 /// A part of a declaration or of a block is another than what was asked for. It is dropped here, as above.

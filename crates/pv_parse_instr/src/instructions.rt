@@ -1,6 +1,6 @@
 //! What alternatives of instructions make of what lies on the stack.
-ghost use Rattle.std.specs.Prelude.{◌≡◌, OnOk, option_map};
-ghost use Rattle.pv_tree.specs.View.{operand_tree, call_tree};
+ghost use Rattle.std.specs.Prelude.{◌≡◌, OnOk};
+ghost use Rattle.pv_tree.specs.View.{operand_behind, literal_behind, call_behind};
 ghost use Rattle.pv_parse.specs.Items.{stack_of, item_of, token, Leaves};
 ghost use Rattle.pv_parse_instr.specs.Fronts.{front_tree};
 ghost use Rattle.pv_parse.specs.InstrDeeds.{no_token, instr_of, added, new_code_deed, begun_deed, no_label_deed, label_deed, opening_deed, operand_deed, literal_deed, alone_deed, base_deed, bare_deed, call_deed, instr_deed};
@@ -15,8 +15,8 @@ use pv_parse::{
 };
 use pv_parse_call::{act_on_call, path_name, pop_call, pop_literal, pop_words};
 use pv_place::Place;
-use pv_tree::{CallTree, Instr, Op, Operand, Step};
-use pv_types::{Literal, Name};
+use pv_tree::{Behind, Instr, Op, Step};
+use pv_types::Name;
 use std::alloc::{AllocError, Global};
 
 /// A body without instructions begins.
@@ -60,24 +60,15 @@ fn label(alloc: Global, stack: &mut Vec<Item>) -> Result<(), Stop>
 }
 
 /// Puts an instruction behind the others.
-fn add(
-    stack: &mut Vec<Item>,
-    front: Front,
-    op: Op,
-    operand: Option<Operand>,
-    literal: Option<Literal>,
-    call: Option<CallTree>,
-) -> Result<(), AllocError>
+fn add(stack: &mut Vec<Item>, front: Front, op: Op, behind: Behind) -> Result<(), AllocError>
     ensures { OnOk result (stack_of stack.new ≡ added (front_tree front.entry) (instr_of (front_tree front.entry) op
-        (option_map operand_tree operand) literal (option_map call_tree call)) (stack_of stack.old)) }
+        (operand_behind behind) (literal_behind behind) (call_behind behind)) (stack_of stack.old)) }
 {
     let instr = Instr {
         label: front.label,
-        op,
-        operand,
-        literal,
-        call,
+        behind,
         place: front.token.place,
+        op,
     };
     let list = added(front.list, instr)?;
     put_instrs(stack, list)
@@ -90,7 +81,7 @@ fn opening(alloc: Global, stack: &mut Vec<Item>) -> Result<(), Stop>
     let _begin = pop_token(stack)?;
     let front = pop_front(alloc, stack)?;
     let op = opening_of(front.token.bytes);
-    add(stack, front, op, None, None, None)?;
+    add(stack, front, op, Behind::Nothing)?;
     Ok(())
 }
 
@@ -99,9 +90,10 @@ fn operand(alloc: Global, stack: &mut Vec<Item>) -> Result<(), Stop>
     ensures { Leaves result (stack_of stack.new) (operand_deed (stack_of stack.old)) }
 {
     let path = pop_path(stack)?;
+    let path = Box::new(alloc, path)?;
     let (path, front) = with(path, pop_front(alloc, stack))?;
     let op = op_of(front.token.bytes);
-    add(stack, front, op, Some(path), None, None)?;
+    add(stack, front, op, Behind::Operand(path))?;
     Ok(())
 }
 
@@ -110,9 +102,10 @@ fn literal(alloc: Global, stack: &mut Vec<Item>) -> Result<(), Stop>
     ensures { Leaves result (stack_of stack.new) (literal_deed (stack_of stack.old)) }
 {
     let literal = pop_literal(stack)?;
-    let front = pop_front(alloc, stack)?;
+    let literal = Box::new(alloc, literal)?;
+    let (literal, front) = with(literal, pop_front(alloc, stack))?;
     let op = op_of(front.token.bytes);
-    add(stack, front, op, None, Some(literal), None)?;
+    add(stack, front, op, Behind::Literal(literal))?;
     Ok(())
 }
 
@@ -122,7 +115,7 @@ fn alone(alloc: Global, stack: &mut Vec<Item>) -> Result<(), Stop>
 {
     let front = pop_front(alloc, stack)?;
     let op = op_of(front.token.bytes);
-    add(stack, front, op, None, None, None)?;
+    add(stack, front, op, Behind::Nothing)?;
     Ok(())
 }
 
@@ -167,7 +160,8 @@ fn call(alloc: Global, stack: &mut Vec<Item>) -> Result<(), Stop>
     let (mut call, front) = with(call, pop_front(alloc, stack))?;
     let op = op_of(front.token.bytes);
     call.place = front.token.place;
-    add(stack, front, op, None, None, Some(call))?;
+    let (front, call) = with(front, Box::new(alloc, call))?;
+    add(stack, front, op, Behind::Call(call))?;
     Ok(())
 }
 

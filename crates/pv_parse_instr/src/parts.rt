@@ -1,6 +1,6 @@
 //! Parts of instructions, taken off the stack: the instructions so far are the body of a block, and a label is a list of at most
 //! one word.
-ghost use Rattle.std.specs.Prelude.{◌≡◌, OnOk, ◌∷◌, [], map};
+ghost use Rattle.std.specs.Prelude.{◌≡◌, IfOk, OnOk, ◌∷◌, [], map, option_map};
 ghost use Rattle.pv_tree.specs.Tree.{stl};
 ghost use Rattle.pv_tree.specs.View.{body_tree, instr_tree};
 ghost use Rattle.pv_parse.specs.Items.{stack_of, body, Pops};
@@ -18,7 +18,7 @@ use std::alloc::{AllocError, Global};
 #[derive(Drop)]
 pub struct Front<'a> {
     pub token: Sliced<'a>,
-    pub label: Option<(Name, Place)>,
+    pub label: Option<Box<(Name, Place)>>,
     pub list: Vec<Instr>,
 }
 
@@ -56,6 +56,19 @@ fn last_word(words: Vec<(Name, Place)>) -> Option<(Name, Place)>
     words.pop()
 }
 
+/// A label in a box, where there is one.
+fn boxed(
+    alloc: Global,
+    label: Option<(Name, Place)>,
+) -> Result<Option<Box<(Name, Place)>>, AllocError>
+    ensures { IfOk result (λ held. option_map (λ l. l.value) held ≡ label) }
+{
+    match label {
+        Some(label) => Ok(Some(Box::new(alloc, label)?)),
+        None => Ok(None),
+    }
+}
+
 /// Takes what stands before an instruction's operand.
 pub fn pop_front<'a>(alloc: Global, stack: &mut Vec<Item<'a>>) -> Result<Front<'a>, Stop>
     ensures { Pops front_tree result (stack_of stack.new) (front_on (stack_of stack.old)) }
@@ -63,11 +76,8 @@ pub fn pop_front<'a>(alloc: Global, stack: &mut Vec<Item<'a>>) -> Result<Front<'
     let token = pop_token(stack)?;
     let words = pop_words(stack)?;
     let (words, list) = with(words, pop_instrs(alloc, stack))?;
-    Ok(Front {
-        token,
-        label: last_word(words),
-        list,
-    })
+    let (list, label) = with(list, boxed(alloc, last_word(words)))?;
+    Ok(Front { token, label, list })
 }
 
 /// Puts the instructions so far on the stack.

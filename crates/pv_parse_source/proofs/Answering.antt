@@ -20,6 +20,10 @@ use Rattle.std.specs.Prelude.{None}
 use Rattle.pv_place.specs.declared.place.Place.{Place}
 use Rattle.pv_tree.specs.Nesting.{parts, most_levels}
 use Rattle.pv_tree.proofs.ForCallers.{along-expr}
+use Rattle.std.proofs.lemmas.Option.{none-some}
+use Rattle.pv_parse.specs.declared.stack.Stop.{Stop}
+use Rattle.pv_parse.specs.declared.stack.Stop.TheVariants.{Mistyped}
+use Rattle.pv_parse.specs.Building.{Built}
 use Rattle.pv_parse.specs.InOrder.{LieInOrder}
 use Rattle.pv_parse.specs.Shades.{Shade, place_at}
 use Rattle.pv_parse.specs.ExprShades.{places_of}
@@ -156,3 +160,47 @@ too_deep l actions ls ks answer trace again found place h kinds order p f u x so
     let walked = traced l ls ks answer trace again p f u x in
     deep_reading l actions ls again place h kinds order walked.sentence walked.leftmost
     (subst (λ (z : Option Place). Finds l actions ls again z) some finds)
+
+-- ---- what can't come: the walk along the trace of tokens that read is never mistyped
+
+module _ (l : Language) (actions : List Action) (ls : List Lexeme) (ks : List ℕ) (answer : Result (List ℕ) ℕ) (trace handed : List ℕ) where
+  found_reading : HaveKinds ls (kinds_of false ls) → IsSentence (grammar_of l) l.start (kinds_of false ls)
+      → (h : ReadsExpressions l actions) → Found ls
+  found_reading kinds s h =
+      sound h.rest ls h.others kinds
+      (sentence_in (grammar_of l) (expression_productions ++ h.rest) l.start name.expression (kinds_of false ls) h.grammar h.start s)
+
+  pub never_deep : (r : Result (Option Place) Stop) → ReadsExpressions l actions → HaveKinds ls (kinds_of false ls)
+      → ks ≡ kinds_of false ls → answer ≡ Ok trace → handed ≡ trace → IsExact (grammar_of l) l.start ks answer
+      → r ≡ Err Mistyped
+      → ((behind : List Shade) → Leftmost (grammar_of l) handed (Name l.start ∷ []) (kinds_of false ls)
+      → Runs (grammar_of l) (shade_making actions) (Name l.start ∷ []) (kinded false ls) [] behind
+      → Built (λ (o : Option Place). o) r (place_at most_levels behind))
+      → ⊥
+  never_deep r h kinds p f t x is found =
+      let there = traced l ls ks answer trace handed p f t x in
+      let b : Found ls = found_reading kinds there.sentence h in
+      subst (λ (z : Result (Option Place) Stop). Built (λ (o : Option Place). o) z (place_at most_levels (shade_of (expr b.tree) ∷ []))) is
+      (found (shade_of (expr b.tree) ∷ []) there.leftmost (shades_made l actions b.tree ls h b.read))
+
+  pub never_built : {X : Type 0} (view : X → Stack) (r : Result X Stop) → ReadsExpressions l actions → HaveKinds ls (kinds_of false ls)
+      → ks ≡ kinds_of false ls → answer ≡ Ok trace → handed ≡ trace → IsExact (grammar_of l) l.start ks answer
+      → r ≡ Err Mistyped
+      → ((behind : Stack) → Leftmost (grammar_of l) handed (Name l.start ∷ []) (kinds_of false ls)
+      → Runs (grammar_of l) (making actions) (Name l.start ∷ []) (kinded false ls) [] behind → Built view r behind)
+      → ⊥
+  never_built {X} view r h kinds p f t x is found =
+      let there = traced l ls ks answer trace handed p f t x in
+      let b : Found ls = found_reading kinds there.sentence h in
+      subst (λ (z : Result X Stop). Built view z (expr b.tree ∷ [])) is (found (expr b.tree ∷ []) there.leftmost (made l actions b.tree ls h b.read))
+
+  pub never_without : (stack : Stack) → ReadsExpressions l actions → HaveKinds ls (kinds_of false ls)
+      → ks ≡ kinds_of false ls → answer ≡ Ok trace → handed ≡ trace → IsExact (grammar_of l) l.start ks answer
+      → ((behind : Stack) → Leftmost (grammar_of l) handed (Name l.start ∷ []) (kinds_of false ls)
+      → Runs (grammar_of l) (making actions) (Name l.start ∷ []) (kinded false ls) [] behind → stack ≡ behind)
+      → expr_on stack ≡ None → ⊥
+  never_without stack h kinds p f t x built none =
+      let there = traced l ls ks answer trace handed p f t x in
+      let b : Found ls = found_reading kinds there.sentence h in
+      let whole : stack ≡ expr b.tree ∷ [] = built (expr b.tree ∷ []) there.leftmost (made l actions b.tree ls h b.read) in
+      none-some (b.tree, []) (sym none ∙ ap (λ (z : Stack). expr_on z) whole)

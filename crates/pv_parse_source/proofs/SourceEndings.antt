@@ -1,5 +1,5 @@
 -- Sources before the end of their text.
-use Rattle.std.proofs.Common.{◌≡◌, inl, inr, ℕ, ◌<◌, ◌≤◌, List, ◌∷◌, [], length, get_or, refl, ap, arith}
+use Rattle.std.proofs.Common.{inl, inr, ℕ, ◌<◌, ◌≤◌, List, ◌∷◌, [], length, get_or, refl, ap, arith}
 use Rattle.std.proofs.lemmas.List.{length-map, length-append}
 use Rattle.std.proofs.lemmas.Bool.{cases_lt}
 use Rattle.pv_place.specs.declared.place.Place.{Place}

@@ -24,6 +24,12 @@ use Rattle.pv_parse.specs.DeclStack.{blocks_on}
 use Rattle.pv_parse.specs.Deeds.{making, kinded}
 use Rattle.pv_parse_source.specs.SourceAnswers.{ReadBlocks, IsShaded, ReadsSources, IsOnlySource, IsDeepSource}
 use Rattle.pv_parse.proofs.ForCallers.{kinds-append, witness-of, kinds_kinded, kinds_length, kinds_take, all_behind}
+use Rattle.std.proofs.lemmas.Option.{none-some}
+use Rattle.pv_parse.specs.declared.stack.Stop.{Stop}
+use Rattle.pv_parse.specs.declared.stack.Stop.TheVariants.{Mistyped}
+use Rattle.pv_parse.specs.Building.{Built}
+use Rattle.pv_parse.specs.Shades.{Shade, place_at}
+use Rattle.pv_parse.specs.ItemShades.{shade_making}
 use Rattle.pv_parse_source.proofs.Answering.{Finds, exact_in, traced}
 
 sentence_of : (its : Of) (l : Language) (actions : List Action) → ReadsSources its l actions → (all : List BlockTree) (ls : List Lexeme)
@@ -151,3 +157,45 @@ too_deep its l actions ls ks answer trace again found place h kinds order p f u 
     let walked = traced l ls ks answer trace again p f u x in
     deep_source its l actions ls again place h kinds order walked.sentence walked.leftmost
     (subst (λ (z : Option Place). Finds l actions ls again z) some finds)
+
+-- ---- what can't come: the walk along the trace of tokens that read is never mistyped
+
+module _ (its : Of) (l : Language) (actions : List Action) (ls : List Lexeme) (ks : List ℕ) (answer : Result (List ℕ) ℕ) (trace handed : List ℕ) where
+  -- the shade of what they read as is there behind the walk
+  pub never_deep : (r : Result (Option Place) Stop) → ReadsSources its l actions → HaveKinds ls (kinds_of false ls)
+      → ks ≡ kinds_of false ls → answer ≡ Ok trace → handed ≡ trace → IsExact (grammar_of l) l.start ks answer
+      → r ≡ Err Mistyped
+      → ((behind : List Shade) → Leftmost (grammar_of l) handed (Name l.start ∷ []) (kinds_of false ls)
+      → Runs (grammar_of l) (shade_making actions) (Name l.start ∷ []) (kinded false ls) [] behind
+      → Built (λ (o : Option Place). o) r (place_at most_levels behind))
+      → ⊥
+  never_deep r h kinds p f t x is found =
+      let there = traced l ls ks answer trace handed p f t x in
+      let b : ReadBlocks its ls = h.sound ls (kinds_of false ls) kinds there.sentence in
+      let s : IsShaded its l actions b.all ls b.read = h.shaded b.all ls b.read in
+      subst (λ (z : Result (Option Place) Stop). Built (λ (o : Option Place). o) z (place_at most_levels (s.shade ∷ []))) is
+      (found (s.shade ∷ []) there.leftmost s.runs)
+
+  -- so are their blocks
+  pub never_built : {X : Type 0} (view : X → Stack) (r : Result X Stop) → ReadsSources its l actions → HaveKinds ls (kinds_of false ls)
+      → ks ≡ kinds_of false ls → answer ≡ Ok trace → handed ≡ trace → IsExact (grammar_of l) l.start ks answer
+      → r ≡ Err Mistyped
+      → ((behind : Stack) → Leftmost (grammar_of l) handed (Name l.start ∷ []) (kinds_of false ls)
+      → Runs (grammar_of l) (making actions) (Name l.start ∷ []) (kinded false ls) [] behind → Built view r behind)
+      → ⊥
+  never_built {X} view r h kinds p f t x is found =
+      let there = traced l ls ks answer trace handed p f t x in
+      let b : ReadBlocks its ls = h.sound ls (kinds_of false ls) kinds there.sentence in
+      subst (λ (z : Result X Stop). Built view z (blocks b.all ∷ [])) is (found (blocks b.all ∷ []) there.leftmost (h.complete b.all ls b.read))
+
+  -- and they lie on top
+  pub never_without : (stack : Stack) → ReadsSources its l actions → HaveKinds ls (kinds_of false ls)
+      → ks ≡ kinds_of false ls → answer ≡ Ok trace → handed ≡ trace → IsExact (grammar_of l) l.start ks answer
+      → ((behind : Stack) → Leftmost (grammar_of l) handed (Name l.start ∷ []) (kinds_of false ls)
+      → Runs (grammar_of l) (making actions) (Name l.start ∷ []) (kinded false ls) [] behind → stack ≡ behind)
+      → blocks_on stack ≡ None → ⊥
+  never_without stack h kinds p f t x built none =
+      let there = traced l ls ks answer trace handed p f t x in
+      let b : ReadBlocks its ls = h.sound ls (kinds_of false ls) kinds there.sentence in
+      let whole : stack ≡ blocks b.all ∷ [] = built (blocks b.all ∷ []) there.leftmost (h.complete b.all ls b.read) in
+      none-some (b.all, []) (sym none ∙ ap (λ (z : Stack). blocks_on z) whole)

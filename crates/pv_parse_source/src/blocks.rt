@@ -13,7 +13,7 @@ use pv_parse::{
 use pv_parse_call::{pop_body, pop_literal};
 use pv_parse_stmt::pop_stmts;
 use pv_tree::{Block, BlockKind, Body, Expr, Step};
-use pv_types::{Interface, Var};
+use pv_types::{Interface, Vars};
 use std::alloc::{AllocError, Global};
 
 /// A block has this name.
@@ -57,7 +57,7 @@ fn void(stack: &mut Vec<Item>) -> Result<(), Stop>
 }
 
 /// Puts variables behind others.
-fn append(vars: &mut Vec<Var>, more: Vec<Var>) -> Result<(), AllocError>
+fn append(vars: &mut Vec<Vars>, more: Vec<Vars>) -> Result<(), AllocError>
     ensures { OnOk result (var_trees vars.new.items
         ≡ var_trees vars.old.items ++ var_trees more.items) }
 {

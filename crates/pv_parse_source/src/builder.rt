@@ -15,7 +15,7 @@ ghost use Rattle.pv_parse.specs.Building.{Taken, Built};
 
 use crate::blocks::act_on_block;
 use crate::declarations::act_on_decl;
-use pv_lex::Token;
+use pv_lex::{Token, token_value};
 use pv_ll::{Language, Step, Symbol, Walk};
 use pv_parse::{Action, Item, Sliced, Stop, act_on_expr, action_at, bytes_of, push};
 use pv_parse_call::act_on_call;
@@ -27,10 +27,11 @@ use std::alloc::Global;
 fn sliced<'a>(text: &'a [u8], token: &Token) -> Sliced<'a>
     ensures { lexeme_of_slice result ≡ lexeme_of text.now token.now }
 {
+    let bytes = bytes_of(text, token);
     Sliced {
         kind: token.kind,
-        bytes: bytes_of(text, token),
-        value: token.value,
+        bytes,
+        value: token_value(token.kind, bytes),
         place: token.place,
     }
 }

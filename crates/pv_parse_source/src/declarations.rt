@@ -1,11 +1,11 @@
 //! What alternatives of names, literals and declarations make of what lies on the stack.
 ghost use Rattle.std.specs.Prelude.{◌≡◌, ◌++◌, [], ◌∷◌, Some, OnOk, neg_ℤ};
-ghost use Rattle.pv_types.specs.View.{type_tree, var_tree, var_trees};
+ghost use Rattle.pv_types.specs.View.{type_tree, vars_tree, var_trees};
+ghost use Rattle.pv_tree.specs.Tree.{PlacedName};
 ghost use Rattle.pv_parse.specs.Items.{stack_of, path_tree, Leaves, Finds};
 ghost use Rattle.pv_parse.specs.DeclStack.{name_of};
 ghost use Rattle.pv_parse.specs.DeclDeeds.{declared, name_deed, number_deed, negative_deed, truth_deed, first_word_deed, next_word_deed, type_head_deed, simple_deed, unread_deed, named_deed, array_head_deed, array_deed, struct_head_deed, struct_deed, start_deed, no_start_deed, declared_deed, constant_of, constant_deed, own_head_deed, section_head_deed, const_head_deed, dropped_deed, decl_deed};
 
-use crate::copies::copy_type;
 use crate::decl_texts::{section_of_word, type_alone, type_of_word};
 use crate::pops::{pop_around, pop_bounds, pop_fields, pop_name, pop_start, pop_typed, put};
 use pv_parse::{
@@ -15,7 +15,7 @@ use pv_parse::{
 use pv_parse_call::{pop_literal, pop_words};
 use pv_place::Place;
 use pv_tree::{Operand, Root};
-use pv_types::{DeclType, Literal, Name, Section, Var};
+use pv_types::{DeclType, Literal, Name, Section, Vars};
 use pv_word::Ty;
 use std::alloc::{AllocError, Global};
 
@@ -35,7 +35,7 @@ fn name_of(path: Operand) -> Result<Name, Stop>
     ensures { Finds (λ name. name) result (name_of (path_tree path).root) }
 {
     drop(path.steps);
-    name_in(path.root)
+    name_in(Box::into_inner(path.root))
 }
 
 /// A name stands alone.
@@ -260,74 +260,9 @@ fn no_start(stack: &mut Vec<Item>) -> Result<(), Stop>
     Ok(())
 }
 
-/// Puts a variable of a word behind the others, with a copy of the type.
-fn add_copy(
-    alloc: Global,
-    vars: &mut Vec<Var>,
-    section: Section,
-    ty: &DeclType,
-    start: Option<Literal>,
-    word: &(Name, Place),
-) -> Result<(), AllocError>
-    ensures { OnOk result (var_trees vars.new.items
-        ≡ var_trees vars.old.items ++ declared section (type_tree ty.now) start (word.now ∷ [])) }
-{
-    let ty = copy_type(alloc, ty)?;
-    let (ty, name) = with(ty, word.0.clone())?;
-    vars.push(Var {
-        name,
-        section,
-        ty,
-        start,
-        place: word.1,
-    })?;
-    Ok(())
-}
-
-/// Puts a variable of each word behind the others, with a copy of the type.
-fn add_copies(
-    alloc: Global,
-    vars: &mut Vec<Var>,
-    section: Section,
-    ty: &DeclType,
-    start: Option<Literal>,
-    words: &[(Name, Place)],
-) -> Result<(), AllocError>
-    ensures { OnOk result (var_trees vars.new.items
-        ≡ var_trees vars.old.items ++ declared section (type_tree ty.now) start words.now) }
-{
-    for word in words {
-        add_copy(alloc, vars, section, ty, start, word)?;
-    }
-    Ok(())
-}
-
-/// Puts a variable of a word behind the others, with the type itself.
-fn add_last(
-    vars: &mut Vec<Var>,
-    section: Section,
-    ty: DeclType,
-    start: Option<Literal>,
-    word: (Name, Place),
-) -> Result<(), AllocError>
-    ensures { OnOk result (var_trees vars.new.items
-        ≡ var_trees vars.old.items ++ declared section (type_tree ty) start (word ∷ [])) }
-{
-    let (name, place) = word;
-    vars.push(Var {
-        name,
-        section,
-        ty,
-        start,
-        place,
-    })?;
-    Ok(())
-}
-
-/// Puts a variable of each word behind the others; the last one has the type itself.
+/// Puts the variables of words that are declared at once behind others.
 fn add_vars(
-    alloc: Global,
-    vars: &mut Vec<Var>,
+    vars: &mut Vec<Vars>,
     section: Section,
     ty: DeclType,
     start: Option<Literal>,
@@ -336,20 +271,17 @@ fn add_vars(
     ensures { OnOk result (var_trees vars.new.items
         ≡ var_trees vars.old.items ++ declared section (type_tree ty) start words.items) }
 {
-    let mut words = words;
-    match words.pop() {
-        Some(last) => {
-            let copied = add_copies(alloc, vars, section, &ty, start, &words);
-            drop(words);
-            let ((last, ty), ()) = with((last, ty), copied)?;
-            add_last(vars, section, ty, start, last)
-        }
-        None => Ok(()),
-    }
+    vars.push(Vars {
+        names: words,
+        section,
+        ty,
+        start,
+    })?;
+    Ok(())
 }
 
 /// All words of a declaration have its type and its start value.
-fn declaration(alloc: Global, stack: &mut Vec<Item>) -> Result<(), Stop>
+fn declaration(stack: &mut Vec<Item>) -> Result<(), Stop>
     ensures { Leaves result (stack_of stack.new) (declared_deed (stack_of stack.old)) }
 {
     let _end = pop_token(stack)?;
@@ -358,42 +290,43 @@ fn declaration(alloc: Global, stack: &mut Vec<Item>) -> Result<(), Stop>
     let (ty, words) = with(ty, pop_words(stack))?;
     let ((ty, words), mut fields) = with((ty, words), pop_fields(stack))?;
     let section = fields.section;
-    let declared = add_vars(alloc, &mut fields.vars, section, ty, start, words);
+    let declared = add_vars(&mut fields.vars, section, ty, start, words);
     let (fields, ()) = with(fields, declared)?;
     put(stack, DeclItem::Fields(fields))?;
     Ok(())
 }
 
 /// The constant of a word and a literal.
-fn constant_of(word: (Name, Place), literal: Literal) -> Var
-    ensures { var_tree result ≡ constant_of word literal }
+fn constant_of(names: Vec<(Name, Place)>, literal: Literal) -> Vars
+    ensures { (word : PlacedName) → names.items ≡ word ∷ []
+        → vars_tree result ≡ constant_of word literal ∷ [] }
 {
-    let (name, place) = word;
     let ty = type_alone(literal.ty, literal.value);
-    Var {
-        name,
+    Vars {
+        names,
         section: Section::Const,
         ty: DeclType::Plain(ty),
         start: Some(literal),
-        place,
     }
 }
 
 /// Puts the constant of a word and a literal behind variables.
 fn add_constant(
-    vars: &mut Vec<Var>,
+    alloc: Global,
+    vars: &mut Vec<Vars>,
     word: (Name, Place),
     literal: Literal,
 ) -> Result<(), AllocError>
     ensures { OnOk result (var_trees vars.new.items
         ≡ var_trees vars.old.items ++ constant_of word literal ∷ []) }
 {
-    vars.push(constant_of(word, literal))?;
+    let names = vec![in alloc; word]?;
+    vars.push(constant_of(names, literal))?;
     Ok(())
 }
 
 /// A constant is declared.
-fn constant(stack: &mut Vec<Item>) -> Result<(), Stop>
+fn constant(alloc: Global, stack: &mut Vec<Item>) -> Result<(), Stop>
     ensures { Leaves result (stack_of stack.new) (constant_deed (stack_of stack.old)) }
 {
     let _end = pop_token(stack)?;
@@ -401,7 +334,7 @@ fn constant(stack: &mut Vec<Item>) -> Result<(), Stop>
     let _sign = pop_token(stack)?;
     let word = pop_word(stack)?;
     let (word, mut fields) = with(word, pop_fields(stack))?;
-    let declared = add_constant(&mut fields.vars, word, literal);
+    let declared = add_constant(alloc, &mut fields.vars, word, literal);
     let (fields, ()) = with(fields, declared)?;
     put(stack, DeclItem::Fields(fields))?;
     Ok(())
@@ -464,8 +397,8 @@ pub fn act_on_decl(alloc: Global, action: DeclAction, stack: &mut Vec<Item>) -> 
         DeclAction::Struct => structure(stack),
         DeclAction::Start => start(stack),
         DeclAction::NoStart => no_start(stack),
-        DeclAction::Declared => declaration(alloc, stack),
-        DeclAction::Constant => constant(stack),
+        DeclAction::Declared => declaration(stack),
+        DeclAction::Constant => constant(alloc, stack),
         DeclAction::OwnHead => own_head(alloc, stack),
         DeclAction::SectionHead => section_head(alloc, stack),
         DeclAction::ConstHead => const_head(alloc, stack),

@@ -3,14 +3,12 @@
 
 mod blocks;
 mod builder;
-mod copies;
 mod decl_texts;
 mod declarations;
 mod parse;
 mod pops;
 mod reading;
 mod sources;
-mod variables;
 
 pub use builder::build;
 pub use parse::parse_source;

@@ -9,12 +9,13 @@ ghost use Rattle.pv_parse.specs.ExprAnswers.{ReadsExpressions, AnswersExpression
 use crate::builder::build;
 use pv_lex::Token;
 use pv_ll::{Language, recognize};
-use pv_parse::{Action, ReadFault, find_too_deep, kinds, pop_expr};
+use pv_parse::{Action, ReadFault, Stop, find_too_deep, kinds, pop_expr};
 use pv_tree::Expr;
 use std::alloc::{AllocError, Global};
 
 /// The one expression that the tokens of a text spell, without the end behind them; else where no expression reads, and else
-/// where it nests too deep. How deep it nests is found before the tree is built, so that no tree is deeper than 64 levels.
+/// where it nests too deep. How deep it nests is found before the tree is built, so that no tree is deeper than 64 levels. What an
+/// alternative takes lies on the stack at each step of a derivation, so the error is want of memory alone.
 pub fn read_expression(
     alloc: Global,
     language: &Language,
@@ -33,17 +34,22 @@ pub fn read_expression(
         Ok(trace) => trace,
         Err(at) => return Ok(Err(ReadFault::Syntax(at))),
     };
-    let Ok(deep) = find_too_deep(alloc, language, actions, &trace, text, tokens) else {
-        return Err(AllocError);
+    let deep = match find_too_deep(alloc, language, actions, &trace, text, tokens) {
+        Ok(deep) => deep,
+        Err(Stop::NoMemory) => return Err(AllocError),
+        Err(Stop::Mistyped) => unreachable!(),
     };
     if let Some(place) = deep {
         return Ok(Err(ReadFault::Deep(place)));
     }
-    let Ok(mut stack) = build(alloc, language, actions, &trace, text, tokens) else {
-        return Err(AllocError);
+    let mut stack = match build(alloc, language, actions, &trace, text, tokens) {
+        Ok(stack) => stack,
+        Err(Stop::NoMemory) => return Err(AllocError),
+        Err(Stop::Mistyped) => unreachable!(),
     };
     match pop_expr(&mut stack) {
         Ok(expression) => Ok(Ok(expression)),
-        Err(_) => Err(AllocError),
+        Err(Stop::NoMemory) => Err(AllocError),
+        Err(Stop::Mistyped) => unreachable!(),
     }
 }

@@ -90,7 +90,7 @@ pub fn pop_arms<'a>(stack: &mut Vec<Item<'a>>) -> Result<Vec<(Expr, Vec<Stmt>)>,
     Ok(found)
 }
 
-fn else_in(item: CodeItem) -> Result<Option<Vec<Stmt>>, Stop>
+fn else_in(item: CodeItem) -> Result<Option<Box<Vec<Stmt>>>, Stop>
     ensures { Finds else_list result (else_in (code_of item)) }
 {
     match item {
@@ -100,7 +100,7 @@ fn else_in(item: CodeItem) -> Result<Option<Vec<Stmt>>, Stop>
 }
 
 /// Takes what stands behind ELSE.
-pub fn pop_else<'a>(stack: &mut Vec<Item<'a>>) -> Result<Option<Vec<Stmt>>, Stop>
+pub fn pop_else<'a>(stack: &mut Vec<Item<'a>>) -> Result<Option<Box<Vec<Stmt>>>, Stop>
     ensures { Pops else_list result (stack_of stack.new) (else_on (stack_of stack.old)) }
 {
     let item = pop_code(stack)?;

@@ -8,7 +8,7 @@ use pv_place::Place;
 use pv_tree::{Choice, Expr, Stmt};
 
 /// An IF of its conditions, each with its statements, and of those behind ELSE.
-pub fn if_of(arms: Vec<(Expr, Vec<Stmt>)>, other: Option<Vec<Stmt>>, place: Place) -> Stmt
+pub fn if_of(arms: Vec<(Expr, Vec<Stmt>)>, other: Option<Box<Vec<Stmt>>>, place: Place) -> Stmt
     ensures { stmt_tree result ≡ if_ (arms_of (arm_list arms)) (else_of (else_list other)) place }
 {
     Stmt::If { arms, other, place }
@@ -16,12 +16,12 @@ pub fn if_of(arms: Vec<(Expr, Vec<Stmt>)>, other: Option<Vec<Stmt>>, place: Plac
 
 /// A CASE of its branches, each with the values of its label, and of the statements behind ELSE.
 pub fn case_of(
-    selector: Expr,
+    selector: Box<Expr>,
     branches: Vec<(Vec<(Choice, Option<Choice>)>, Vec<Stmt>)>,
-    other: Option<Vec<Stmt>>,
+    other: Option<Box<Vec<Stmt>>>,
     place: Place,
 ) -> Stmt
-    ensures { stmt_tree result ≡ case_ (expr_tree selector) (branches_of (branch_list branches))
+    ensures { stmt_tree result ≡ case_ (expr_tree selector.value) (branches_of (branch_list branches))
         (else_of (else_list other)) place }
 {
     Stmt::Case {

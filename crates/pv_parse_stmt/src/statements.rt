@@ -14,12 +14,12 @@ use crate::code_stack::{
 };
 use crate::making::{case_of, if_of};
 use pv_parse::{
-    CodeItem, Item, StmtAction, Stop, Value, added, is_text, pop_expr, pop_path, pop_token, push,
-    with,
+    CodeItem, Item, StmtAction, Stop, Value, added, is_text, pop_boxed, pop_expr, pop_path,
+    pop_token, push, with,
 };
-use pv_parse_call::{path_name, pop_call, pop_literal};
+use pv_parse_call::{path_name, pop_boxed_call, pop_literal};
 use pv_place::Place;
-use pv_tree::{Choice, Expr, Operand, Stmt};
+use pv_tree::{Choice, Expr, ForHead, Operand, Stmt};
 use std::alloc::Global;
 
 /// The values of a label.
@@ -67,10 +67,10 @@ fn single(stack: &mut Vec<Item>) -> Result<(), Stop>
 }
 
 /// A call is a statement.
-fn call(stack: &mut Vec<Item>) -> Result<(), Stop>
+fn call(alloc: Global, stack: &mut Vec<Item>) -> Result<(), Stop>
     ensures { Leaves result (stack_of stack.new) (call_statement_deed (stack_of stack.old)) }
 {
-    let call = pop_call(stack)?;
+    let call = pop_boxed_call(alloc, stack)?;
     push(stack, Item::Code(CodeItem::Stmt(Stmt::Call(call))))?;
     Ok(())
 }
@@ -157,11 +157,12 @@ fn next_arm(stack: &mut Vec<Item>) -> Result<(), Stop>
 }
 
 /// ELSE with its statements.
-fn otherwise(stack: &mut Vec<Item>) -> Result<(), Stop>
+fn otherwise(alloc: Global, stack: &mut Vec<Item>) -> Result<(), Stop>
     ensures { Leaves result (stack_of stack.new) (else_deed (stack_of stack.old)) }
 {
     let body = pop_whole(stack)?;
     let (body, _word) = with(body, pop_token(stack))?;
+    let body = Box::new(alloc, body)?;
     push(stack, Item::Code(CodeItem::Else(Some(body))))?;
     Ok(())
 }
@@ -330,14 +331,14 @@ fn branches(stack: &mut Vec<Item>) -> Result<(), Stop>
 }
 
 /// A CASE.
-fn case(stack: &mut Vec<Item>) -> Result<(), Stop>
+fn case(alloc: Global, stack: &mut Vec<Item>) -> Result<(), Stop>
     ensures { Leaves result (stack_of stack.new) (case_deed (stack_of stack.old)) }
 {
     let _end = pop_token(stack)?;
     let other = pop_else(stack)?;
     let (other, branches) = with(other, pop_branches(stack))?;
     let ((other, branches), _of) = with((other, branches), pop_token(stack))?;
-    let ((other, branches), selector) = with((other, branches), pop_expr(stack))?;
+    let ((other, branches), selector) = with((other, branches), pop_boxed(alloc, stack))?;
     let ((other, branches, selector), word) = with((other, branches, selector), pop_token(stack))?;
     let stmt = case_of(selector, branches, other, word.place);
     push(stack, Item::Code(CodeItem::Stmt(stmt)))?;
@@ -385,14 +386,18 @@ fn count(alloc: Global, stack: &mut Vec<Item>) -> Result<(), Stop>
     let (parts, path) = with(parts, pop_path(stack))?;
     let ((parts, path), word) = with((parts, path), pop_token(stack))?;
     let ((body, last, first), (var, var_place)) = with(parts, path_name(alloc, path))?;
+    let head = ForHead {
+        var,
+        var_place,
+        first,
+        last,
+        by,
+    };
+    let (body, head) = with(body, Box::new(alloc, head))?;
     push(
         stack,
         Item::Code(CodeItem::Stmt(Stmt::For {
-            var,
-            var_place,
-            first,
-            last,
-            by,
+            head,
             body,
             place: word.place,
         })),
@@ -401,11 +406,11 @@ fn count(alloc: Global, stack: &mut Vec<Item>) -> Result<(), Stop>
 }
 
 /// A WHILE.
-fn repeat_while(stack: &mut Vec<Item>) -> Result<(), Stop>
+fn repeat_while(alloc: Global, stack: &mut Vec<Item>) -> Result<(), Stop>
     ensures { Leaves result (stack_of stack.new) (while_deed (stack_of stack.old)) }
 {
     let body = pop_body(stack)?;
-    let (body, cond) = with(body, pop_expr(stack))?;
+    let (body, cond) = with(body, pop_boxed(alloc, stack))?;
     let ((body, cond), word) = with((body, cond), pop_token(stack))?;
     push(
         stack,
@@ -419,11 +424,11 @@ fn repeat_while(stack: &mut Vec<Item>) -> Result<(), Stop>
 }
 
 /// A REPEAT.
-fn repeat_until(stack: &mut Vec<Item>) -> Result<(), Stop>
+fn repeat_until(alloc: Global, stack: &mut Vec<Item>) -> Result<(), Stop>
     ensures { Leaves result (stack_of stack.new) (repeat_deed (stack_of stack.old)) }
 {
     let _end = pop_token(stack)?;
-    let cond = pop_expr(stack)?;
+    let cond = pop_boxed(alloc, stack)?;
     let (cond, _until) = with(cond, pop_token(stack))?;
     let (cond, body) = with(cond, pop_whole(stack))?;
     let ((cond, body), word) = with((cond, body), pop_token(stack))?;
@@ -446,13 +451,13 @@ pub fn act_on_stmt(alloc: Global, action: StmtAction, stack: &mut Vec<Item>) -> 
         StmtAction::Drop => forget(stack),
         StmtAction::Empty => empty(stack),
         StmtAction::Single => single(stack),
-        StmtAction::Call => call(stack),
+        StmtAction::Call => call(alloc, stack),
         StmtAction::Assign => assign(stack),
         StmtAction::NewList => new_list(alloc, stack),
         StmtAction::Add => add(stack),
         StmtAction::FirstArm => first_arm(alloc, stack),
         StmtAction::NextArm => next_arm(stack),
-        StmtAction::Else => otherwise(stack),
+        StmtAction::Else => otherwise(alloc, stack),
         StmtAction::NoElse => no_else(stack),
         StmtAction::If => branch_on(stack),
         StmtAction::LiteralChoice => literal_choice(stack),
@@ -465,11 +470,11 @@ pub fn act_on_stmt(alloc: Global, action: StmtAction, stack: &mut Vec<Item>) -> 
         StmtAction::Label => label(alloc, stack),
         StmtAction::NextLabel => next_label(alloc, stack),
         StmtAction::Branches => branches(stack),
-        StmtAction::Case => case(stack),
+        StmtAction::Case => case(alloc, stack),
         StmtAction::By => by(stack),
         StmtAction::NoBy => no_by(stack),
         StmtAction::For => count(alloc, stack),
-        StmtAction::While => repeat_while(stack),
-        StmtAction::Repeat => repeat_until(stack),
+        StmtAction::While => repeat_while(alloc, stack),
+        StmtAction::Repeat => repeat_until(alloc, stack),
     }
 }

@@ -1,7 +1,7 @@
 -- What is asked of a text's expression.
 use Rattle.std.proofs.Common.{◌≡◌, ℕ, List, Option, Some, None, Err, IfSome, IfNone, sym, ap, subst}
 use Rattle.pv_tree.specs.declared.expr.Expr.{Expr}
-use Rattle.pv_types.specs.declared.declaration.Var.{Var}
+use Rattle.pv_types.specs.declared.var.Var.{Var}
 use Rattle.pv_types.specs.View.{var_tree, section_of}
 use Rattle.pv_types.proofs.ForCallers.{var_seen}
 use Rattle.pv_mean.specs.Layout.{is_brief_in}
@@ -29,5 +29,5 @@ pub some_is : (t : List ℕ) (o : Option Expr) (e : Expr) → o ≡ Some e → I
 some_is t o e is h = subst (λ o. IfSome o (λ e. IsTextOf t (expr_tree e))) is h
 
 -- whether a variable is brief goes by its section
-pub brief_seen : (block : BlockTree) (v : Var) → is_brief_in block v.section ≡ is_brief_var block (Some (var_tree v))
+pub brief_seen : (block : BlockTree) (v : Var) → is_brief_in block v.of.now.section ≡ is_brief_var block (Some (var_tree v))
 brief_seen block v = ap (λ t. is_brief_in block (section_of t)) (sym (var_seen v))

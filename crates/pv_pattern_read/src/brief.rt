@@ -12,11 +12,11 @@ use pv_tree::{Block, Operand, Root};
 use pv_types::Var;
 
 /// Whether the block's variable lives for one activation.
-fn is_brief_var(block: &Block, var: Option<&Var>) -> bool
-    ensures { result ≡ texts.is_brief_var (block_tree block.now) (option_map (λ v. var_tree v.now) var.entry) }
+fn is_brief_var(block: &Block, var: Option<Var>) -> bool
+    ensures { result ≡ texts.is_brief_var (block_tree block.now) (option_map var_tree var.entry) }
 {
     match var {
-        Some(var) => activation_part(&block.kind).has(var.section),
+        Some(var) => activation_part(&block.kind).has(var.of.section),
         None => false,
     }
 }

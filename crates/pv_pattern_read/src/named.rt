@@ -51,19 +51,28 @@ fn push_addresses(alloc: Global, named: &mut Vec<Operand>, e: &Expr) -> Result<(
 }
 
 /// An address, without what stands behind it.
-fn address(alloc: Global, area: Area, bits: u32, byte: u64, bit: u64, place: Place) -> Operand
-    ensures { operand_tree result ≡ operand (InArea area bits byte bit) no_steps place }
+fn address(
+    alloc: Global,
+    area: Area,
+    bits: u32,
+    byte: u64,
+    bit: u64,
+    place: Place,
+) -> Result<Operand, AllocError>
+    ensures { IfOk result (λ o. operand_tree o ≡ operand (InArea area bits byte bit) no_steps place) }
 {
-    Operand {
-        root: Root::Area {
-            area,
-            bits,
-            byte,
-            bit,
-        },
+    let root = Root::Area {
+        area,
+        bits,
+        byte,
+        bit,
+    };
+    let root = Box::new(alloc, root)?;
+    Ok(Operand {
+        root,
         steps: Vec::new(alloc),
         place,
-    }
+    })
 }
 
 /// An operand, if it is an address.
@@ -75,7 +84,7 @@ fn push_address(
     ensures { OnOk result (map operand_tree named.new.items
         ≡ map operand_tree named.old.items ++ addresses_of (operand_tree operand.now ∷ [])) }
 {
-    match &operand.root {
+    match &*operand.root {
         Root::Area {
             area,
             bits,
@@ -83,7 +92,8 @@ fn push_address(
             bit,
         } => {
             if is_address(*bits, *byte, *bit) {
-                named.push(address(alloc, *area, *bits, *byte, *bit, operand.place))?;
+                let address = address(alloc, *area, *bits, *byte, *bit, operand.place)?;
+                named.push(address)?;
             }
             Ok(())
         }

@@ -5,6 +5,7 @@ ghost use Rattle.pv_mean.specs.Sources.{Source};
 ghost use Rattle.pv_mean.specs.ProjectSizes.{project_tree};
 ghost use Rattle.pv_mean.specs.Sized.{sized_project};
 ghost use Rattle.pv_tree.specs.Scopes.{Scope as ScopeOf};
+ghost use Rattle.pv_tree.specs.View.{block_tree};
 ghost use Rattle.pv_names.specs.Entries.{block_of};
 ghost use Rattle.pv_names.specs.Tables.{project_of};
 ghost use Rattle.pv_resolve.specs.declared.context.Context.{Context as ContextOf};
@@ -24,7 +25,7 @@ use pv_laws_room::laws::reached_blocks_have_room;
 use pv_laws_types::laws::entered_blocks_are_at_work;
 use pv_mean::Sizes;
 use pv_mean::laws::tables_are_laid_out;
-use pv_names::{Scope, Tables, entries};
+use pv_names::{Entry, Scope, Tables, entries};
 use pv_pattern::{Pattern, Term};
 use pv_resolve::{Context, context_of};
 use pv_tree::{Project, parts_of_typed_expressions_have_types, patterns_have_types};
@@ -155,6 +156,61 @@ fn pattern_at<'p>(
     }
 }
 
+/// The pattern over the names of a block of the project, whose tables these are.
+fn read_among(
+    alloc: Global,
+    kind: PatternKind,
+    texts: &[String],
+    tables: &Tables,
+    project: &Project,
+    entry: u32,
+    bytes: AreaBytes,
+) -> Result<Pattern, PatternFault>
+    requires count { length texts.now ≡ count_of kind }
+    requires short { All (λ t. length (string_bytes t) ≤ MAX_SOURCE) texts.now }
+    requires tables { project_of tables.now ≡ project_tree project.now }
+    requires entered { HasSource (project_tree project.now) entry (bytes_tree bytes) }
+    ensures { (source : Source) → project_tree project.now ≡ source.project
+        → slice_get source.project.blocks entry ≡ Some source.entry
+        → bytes_tree bytes.entry ≡ source.bytes
+        → AnswersPattern source kind (map string_bytes texts.now) result }
+{
+    let sizes = Sizes::of(alloc, project)?;
+    match tables.entries().get(entry as usize) {
+        Some(entered) => {
+            let scope = Scope {
+                tables,
+                entry: entered,
+            };
+            pattern_at(alloc, kind, texts, scope, &sizes, bytes)
+        }
+        None => unreachable!(),
+    }
+}
+
+/// The same, where these are the project's blocks with their tables of variables.
+fn read_listed(
+    alloc: Global,
+    kind: PatternKind,
+    texts: &[String],
+    list: &[Entry],
+    project: &Project,
+    entry: u32,
+    bytes: AreaBytes,
+) -> Result<Pattern, PatternFault>
+    requires count { length texts.now ≡ count_of kind }
+    requires short { All (λ t. length (string_bytes t) ≤ MAX_SOURCE) texts.now }
+    requires list { map block_of list.now ≡ map block_tree project.now.blocks.list.items }
+    requires entered { HasSource (project_tree project.now) entry (bytes_tree bytes) }
+    ensures { (source : Source) → project_tree project.now ≡ source.project
+        → slice_get source.project.blocks entry ≡ Some source.entry
+        → bytes_tree bytes.entry ≡ source.bytes
+        → AnswersPattern source kind (map string_bytes texts.now) result }
+{
+    let tables = Tables::of(alloc, list, project.symbols())?;
+    read_among(alloc, kind, texts, &tables, project, entry, bytes)
+}
+
 /// The pattern of this kind whose expressions are the texts a, b and c, over the names of the entered block, which goes by its number
 /// in the project; these bytes of areas have cells. Names go by the numbers of cells in it. The project has a table of at most as many
 /// cells as a table may have, and the entered block has no value of its own.
@@ -178,16 +234,5 @@ pub fn read(
         → AnswersPattern source kind (map string_bytes texts.now) result }
 {
     let list = entries(alloc, project.blocks().list.as_slice())?;
-    let tables = Tables::of(alloc, list.as_slice(), project.symbols())?;
-    let sizes = Sizes::of(alloc, project)?;
-    match tables.entries().get(entry as usize) {
-        Some(entered) => {
-            let scope = Scope {
-                tables: &tables,
-                entry: entered,
-            };
-            pattern_at(alloc, kind, texts, scope, &sizes, bytes)
-        }
-        None => unreachable!(),
-    }
+    read_listed(alloc, kind, texts, list.as_slice(), project, entry, bytes)
 }

@@ -421,7 +421,8 @@ with-ranges p n le = let same = extends-same p in record {
 
 -- the code of blocks, where there is code still of those that are called
 pub with-blocks : (p : Program) (v : Vec (Option Code) Global)
-    → ((c : ℕ) (call : Called) (n : ℕ) → slice_get p.calls.items c ≡ Some call → call.block ≡ Some n → HasCode (record p { blocks = v }) n)
+    → ((c : ℕ) (call : Called) (n : ℕ) → slice_get p.calls.items c ≡ Some call → call.block ≡ Some n → HasCode p n
+    → HasCode (record p { blocks = v }) n)
     → Extends p (record p { blocks = v })
 with-blocks p v made = let same = extends-same p in record {
   stmts = same.stmts;
@@ -441,5 +442,5 @@ with-blocks p v made = let same = extends-same p in record {
   types = same.types;
   bound = same.bound;
   entry = same.entry;
-  coded = λ c call n at number has. made c call n at number;
+  coded = made;
 }

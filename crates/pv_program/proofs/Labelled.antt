@@ -12,7 +12,7 @@ use Rattle.pv_names.specs.declared.firsts.Firsts.{Firsts}
 use Rattle.pv_mean.specs.InstructionRuns.{is_named, is_jumped_to}
 use Rattle.pv_stl_run.specs.declared.instr.Goal.TheVariants.{Ahead, Back}
 use Rattle.pv_stl_run.specs.Going.{LeadsTo, range_of, range_by, place_where}
-use Rattle.pv_program.specs.Labels.{StandsAt, NoneHas, LabelAt, FindsLabels, is_from, FindsJumps}
+use Rattle.pv_program.specs.Labels.{StandsAt, NoneHas, LabelAt, FindsLabels, is_from, FindsJumps, IsUnmet}
 
 -- ---- an element more
 
@@ -192,3 +192,17 @@ goal-nowhere table all k to key e le h = leads-nowhere all k to key (label-at ta
 pub unmet : (o n : Option ℕ) (b : Bool) → b ≡ is_some o → b ≡ false → o ≡ n → n ≡ None
 unmet None n b is e same = sym same
 unmet (Some x) n b is e same = absurd (cc)
+
+slice_get_there : {X : Type 0} (xs : List X) (n : ℕ) → n < length xs → (x : X) × (slice_get xs n ≡ Some x)
+slice_get_there [] n lt = absurd (omega (arith, lt))
+slice_get_there (x ∷ xs) zero lt = (x, refl)
+slice_get_there (x ∷ xs) (suc n) lt = slice_get_there xs n (omega (arith, lt))
+
+-- a label that the table has stands before
+pub met-twice : (table : Firsts) (before : List InstrTree) (i : InstrTree) (l : PlacedName) (o : Option ℕ) (b : Bool) → i.label ≡ Some l
+    → b ≡ is_some o → b ≡ true → o ≡ number_in table l.0.key → FindsLabels table before → IsUnmet before i → ⊥
+met-twice table before i l None b has is e same h free = cc
+met-twice table before i l (Some n) b has is e same h free =
+    let w = label-at table before l.0.key (Some n) same h in
+    let there = slice_get_there before n w.within in
+    free n there.0 l there.1 has (w.named there.0 there.1)

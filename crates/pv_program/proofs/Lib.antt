@@ -15,3 +15,11 @@ mod Labelled
 mod Actions
 mod Instructing
 mod Placing
+mod Leading
+mod Slots
+mod Parameters
+mod Words
+mod Nestings
+mod Readying
+mod Reached
+mod Failing

@@ -1,6 +1,6 @@
 -- What functions make, over plain variables.
 use Rattle.std.proofs.Common.{◌≡◌, ℕ, zero, suc, ◌+◌, ◌<◌, ◌≤◌, List, [], ◌∷◌, ◌++◌, length, map, take, get_or, Option, Some, None, refl, sym, ap, ◌∙◌, subst, arith}
-use Rattle.std.specs.Prelude.{not, slice_get, option_map, Result, Vec}
+use Rattle.std.specs.Prelude.{not, slice_get, option_map, Result, Vec, Box}
 use Rattle.std.specs.declared.alloc.Global.{Global}
 use Rattle.std.specs.Result.{IfOk}
 use Rattle.std.proofs.lemmas.Result.{IfOk-weaker}
@@ -8,7 +8,7 @@ use Rattle.std.proofs.lemmas.Option.{same_Some, slice_get_read, slice_get-map}
 use Rattle.std.proofs.Math.Seq.{take-suc}
 use Rattle.std.proofs.lemmas.List.{map-append}
 use Rattle.std.proofs.lemmas.List.Elements.{filter-append}
-use Rattle.pv_types.specs.declared.declaration.Var.{Var}
+use Rattle.pv_types.specs.declared.var.Var.{Var}
 use Rattle.pv_types.specs.Tree.{VarTree}
 use Rattle.pv_types.specs.View.{var_tree, start_of}
 use Rattle.pv_types.specs.Leaves.{start_value}
@@ -55,15 +55,15 @@ use Rattle.pv_program.proofs.Standing.{are-stmts}
 
 -- ---- operands and variables
 
-pub operand-alone : (o : Operand) → o.steps.items ≡ [] → operand_tree o ≡ operand o.root no_steps o.place
+pub operand-alone : (o : Operand) → o.steps.items ≡ [] → operand_tree o ≡ operand o.root.value no_steps o.place
 operand-alone o e =
     fold_out-Operand ExprTree StepTree OperandTree expr_step step_step operand_step o
-    ∙ ap (λ l. operand o.root (steps_of (map step_tree l)) o.place) e
+    ∙ ap (λ l. operand o.root.value (steps_of (map step_tree l)) o.place) e
 
-start-seen : (v : Var) → start_of (var_tree v) ≡ v.start
+start-seen : (v : Var) → start_of (var_tree v) ≡ v.of.now.start
 start-seen v = ap start_of (var_seen v)
 
-pub constant-value : (v : Var) (o : Option VarTree) → Some (var_tree v) ≡ o → start_value v.start ≡ value_of_constant o
+pub constant-value : (v : Var) (o : Option VarTree) → Some (var_tree v) ≡ o → start_value v.of.now.start ≡ value_of_constant o
 constant-value v o e = ap start_value (sym (start-seen v)) ∙ ap value_of_constant e
 
 pub no-constant : (o : Option VarTree) → None ≡ o → value_of_constant None ≡ value_of_constant o
@@ -86,17 +86,17 @@ pub list-as : {source : Source} {block : BlockTree} {p : Program} {l : code.List
 list-as {source} {block} {p} {l} xs ys e is = subst (λ zs. IsList source block p l (stmt_trees zs)) e is
 
 -- what stands behind ELSE, or nothing
-pub other-as : (source : Source) (block : BlockTree) (p : Program) {E : Type 0} (r : Result code.List E) (o : Option (Vec code_tree.Stmt Global))
-    (v : Vec code_tree.Stmt Global) (xs : List code_tree.Stmt) → o ≡ Some v → xs ≡ v.items → IfOk r (λ l. IsList source block p l (stmt_trees xs))
-    → IfOk r (λ l. IsOther source block p l (else_of (option_map (λ w. stmt_trees w.items) o)))
+pub other-as : (source : Source) (block : BlockTree) (p : Program) {E : Type 0} (r : Result code.List E) (o : Option (Box (Vec code_tree.Stmt Global) Global))
+    (v : Box (Vec code_tree.Stmt Global) Global) (xs : List code_tree.Stmt) → o ≡ Some v → xs ≡ v.value.items → IfOk r (λ l. IsList source block p l (stmt_trees xs))
+    → IfOk r (λ l. IsOther source block p l (else_of (option_map (λ w. stmt_trees w.value.items) o)))
 other-as source block p r o v xs is same = IfOk-weaker r _ _ (λ l body.
-    subst (λ x. IsOther source block p l (else_of (option_map (λ w. stmt_trees w.items) x))) (sym is)
-    (something_else (list-as xs v.items same body)))
+    subst (λ x. IsOther source block p l (else_of (option_map (λ w. stmt_trees w.value.items) x))) (sym is)
+    (something_else (list-as xs v.value.items same body)))
 
-pub no-other : {source : Source} {block : BlockTree} {p : Program} {o : Option (Vec code_tree.Stmt Global)} → o ≡ None
-    → IsOther source block p (record { first = 0; end = 0 }) (else_of (option_map (λ w. stmt_trees w.items) o))
+pub no-other : {source : Source} {block : BlockTree} {p : Program} {o : Option (Box (Vec code_tree.Stmt Global) Global)} → o ≡ None
+    → IsOther source block p (record { first = 0; end = 0 }) (else_of (option_map (λ w. stmt_trees w.value.items) o))
 no-other {source} {block} {p} {o} e =
-    subst (λ x. IsOther source block p (record { first = 0; end = 0 }) (else_of (option_map (λ w. stmt_trees w.items) x))) (sym e)
+    subst (λ x. IsOther source block p (record { first = 0; end = 0 }) (else_of (option_map (λ w. stmt_trees w.value.items) x))) (sym e)
     (nothing_else (body_before (omega arith) no_stmt))
 
 -- an arm and a branch as plain data
@@ -169,7 +169,7 @@ program-made {source} p v are made entered types bound entry = record {
   entry = entry;
   entered = entered;
   code = λ n block c at has.
-      code-kept (with-blocks p v (λ i call m there runs. made i call (get-inside p.calls.items i call there) there m runs)) (are n block c at has);
+      code-kept (with-blocks p v (λ i call m there runs has. made i call (get-inside p.calls.items i call there) there m runs)) (are n block c at has);
 }
 
 value-exact-number : (n m : ℕ) → n ≡ capped m → n < BEYOND → n ≡ m

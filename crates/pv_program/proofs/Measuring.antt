@@ -1,6 +1,6 @@
 -- That the making of statements ends: what stands in a statement is less deep.
 use Rattle.std.proofs.Common.{ℕ, List, Option, Some, None}
-use Rattle.std.specs.Prelude.{Vec}
+use Rattle.std.specs.Prelude.{Vec, Box}
 use Rattle.std.specs.declared.alloc.Global.{Global}
 use denote.Param.Weighed.{most}
 use Rattle.pv_tree.specs.declared.stmt.Stmt.{Stmt, size-Stmt}
@@ -21,6 +21,6 @@ Values = Vec (tree.Choice × Option tree.Choice) Global
 abbrev pub of_branches : List (Values × Vec Stmt Global) → ℕ
 of_branches branches = most (λ b. of_list b.1.items) branches
 
-abbrev pub of_other : Option (Vec Stmt Global) → ℕ
+abbrev pub of_other : Option (Box (Vec Stmt Global) Global) → ℕ
 of_other None = 0
-of_other (Some v) = of_list v.items
+of_other (Some v) = of_list v.value.items

@@ -32,3 +32,27 @@ block-number blocks other key b n v same name found first is =
     ∙ number-finds b.name.key blocks n b
     (found ∙ ap (λ l. first_number (bytes_eq key) (map (λ b. b.name.key) l)) same
     ∙ ap (λ k. first_number (bytes_eq k) (map (λ b. b.name.key) blocks)) name) first
+
+-- such a block has a number
+none-suc : (o : Option ℕ) → None ≡ option_map (λ n. suc n) o → None ≡ o
+none-suc None e = refl
+none-suc (Some m) e = cc
+
+no-first : (key : List ℕ) (blocks : List BlockTree) (b : BlockTree) → None ≡ first_number (bytes_eq key) (map (λ b. b.name.key) blocks)
+    → first_block blocks key ≡ Some b → ⊥
+no-first key [] b e f = cc
+no-first key (x ∷ xs) b e f = lead (bytes_eq key x.name.key) (λ g h. no-first key xs b g h) e f
+  where
+    lead : (t : Bool)
+        → (None ≡ first_number (bytes_eq key) (map (λ b. b.name.key) xs) → first_block xs key ≡ Some b → ⊥)
+        → None ≡ (if t then Some 0 else option_map (λ n. suc n) (first_number (bytes_eq key) (map (λ b. b.name.key) xs)))
+        → cond t (Some x) (first_block xs key) ≡ Some b → ⊥
+    lead true ih is found = cc
+    lead false ih is found = ih (none-suc (first_number (bytes_eq key) (map (λ b. b.name.key) xs)) is) found
+
+pub no-number : (blocks other : List BlockTree) (key : List ℕ) (b : BlockTree) → other ≡ blocks → key ≡ b.name.key
+    → None ≡ first_number (bytes_eq key) (map (λ b. b.name.key) other) → first_block blocks b.name.key ≡ Some b → ⊥
+no-number blocks other key b same name none first =
+    no-first b.name.key blocks b
+    (none ∙ ap (λ l. first_number (bytes_eq key) (map (λ b. b.name.key) l)) same
+    ∙ ap (λ k. first_number (bytes_eq k) (map (λ b. b.name.key) blocks)) name) first

@@ -6,7 +6,7 @@ use Rattle.std.proofs.lemmas.List.{append-nil, take_all}
 use Rattle.pv_types.specs.declared.declaration.Section.{Section}
 use Rattle.pv_types.specs.declared.declaration.Section.TheVariants.{Input, Output, InOut, Static, Temp, Const}
 use Rattle.pv_types.specs.Tree.{VarTree, var}
-use Rattle.pv_types.specs.declared.declaration.Var.{Var}
+use Rattle.pv_types.specs.declared.var.Var.{Var}
 use Rattle.pv_types.specs.View.{var_tree, name_of, section_of}
 use Rattle.pv_types.proofs.ForCallers.{var_seen}
 use Rattle.pv_tree.specs.Tree.{ExprTree, ArgTree, BlockTree}
@@ -140,18 +140,18 @@ all-out source how callee = ap (λ l. l ++ values_handed source how callee) (out
 
 -- ---- variables of the code
 
-key-seen : (v : Var) → (param_of (var_tree v)).key ≡ v.name.key
+key-seen : (v : Var) → (param_of (var_tree v)).key ≡ v.name.now.key
 key-seen v = ap (λ t. (name_of t).key) (var_seen v)
 
-section-seen : (v : Var) → section_of (var_tree v) ≡ v.section
+section-seen : (v : Var) → section_of (var_tree v) ≡ v.of.now.section
 section-seen v = ap section_of (var_seen v)
 
 -- the argument and the spot of a variable's parameter
 pub argument-seen : (source : Source) (site : CallSite) (callee : BlockTree) (v : Var) (o : Option ArgTree)
-    → o ≡ find (is_for site.how callee v.name.key) site.call.args → argument_of site callee (handed_one source callee (var_tree v)) ≡ o
+    → o ≡ find (is_for site.how callee v.name.now.key) site.call.args → argument_of site callee (handed_one source callee (var_tree v)) ≡ o
 argument-seen source site callee v o e = ap (λ k. find (is_for site.how callee k) site.call.args) (key-seen v) ∙ sym e
 
-pub spot-seen : (source : Source) (callee : BlockTree) (v : Var) → IsSpotOf source callee v.name (handed_one source callee (var_tree v))
+pub spot-seen : (source : Source) (callee : BlockTree) (v : Var) → IsSpotOf source callee v.name.now (handed_one source callee (var_tree v))
 spot-seen source callee v first = ap (λ k. spot_of (word_begins source (activation callee first) k true)) (key-seen v)
 
 -- a parameter more that has an argument
@@ -165,21 +165,21 @@ given-one {source} {block} {p} {q} {site} {callee} old new hs c h arg e x grown 
 
 -- a variable more that isn't handed over, or has no argument, or has one
 pub given-none : {source : Source} {block : BlockTree} {p : Program} {site : CallSite} {callee : BlockTree} (test : Section → Bool) (v : Var)
-    (cs : List Inward) (hs : List Handed) → test v.section ≡ false → AreGiven source block p site callee cs hs
+    (cs : List Inward) (hs : List Handed) → test v.of.now.section ≡ false → AreGiven source block p site callee cs hs
     → AreGiven source block p site callee cs (hs ++ handed_if source callee test (var_tree v))
 given-none {source} {block} {p} {site} {callee} test v cs hs off before =
     subst (λ l. AreGiven source block p site callee cs l)
     (sym (append-nil hs) ∙ ap (λ l. hs ++ l) (sym (not-handed source callee test (var_tree v) (ap test (section-seen v) ∙ off)))) before
 
 pub given-passed : {source : Source} {block : BlockTree} {p : Program} {site : CallSite} {callee : BlockTree} (test : Section → Bool) (v : Var)
-    (cs : List Inward) (hs : List Handed) → test v.section ≡ true → None ≡ find (is_for site.how callee v.name.key) site.call.args
+    (cs : List Inward) (hs : List Handed) → test v.of.now.section ≡ true → None ≡ find (is_for site.how callee v.name.now.key) site.call.args
     → AreGiven source block p site callee cs hs → AreGiven source block p site callee cs (hs ++ handed_if source callee test (var_tree v))
 given-passed {source} {block} {p} {site} {callee} test v cs hs on without before =
     subst (λ l. AreGiven source block p site callee cs (hs ++ l)) (sym (is-handed source callee test (var_tree v) (ap test (section-seen v) ∙ on)))
     (given-over (handed_one source callee (var_tree v)) (argument-seen source site callee v None without) before)
 
 pub given-handed : {source : Source} {block : BlockTree} {p : Program} {site : CallSite} {callee : BlockTree} (test : Section → Bool) (v : Var)
-    (cs : List Inward) (hs : List Handed) → test v.section ≡ true
+    (cs : List Inward) (hs : List Handed) → test v.of.now.section ≡ true
     → AreGiven source block p site callee cs (hs ++ handed_one source callee (var_tree v) ∷ [])
     → AreGiven source block p site callee cs (hs ++ handed_if source callee test (var_tree v))
 given-handed {source} {block} {p} {site} {callee} test v cs hs on are =
@@ -218,21 +218,21 @@ taken-one {source} {block} {p} {q} {site} {callee} old new hs c h arg e x grown 
 
 -- a variable more that isn't handed over, or has no argument, or has one
 pub taken-none : {source : Source} {block : BlockTree} {p : Program} {site : CallSite} {callee : BlockTree} (test : Section → Bool) (v : Var)
-    (cs : List Outward) (hs : List Handed) → test v.section ≡ false → AreTaken source block p site callee cs hs
+    (cs : List Outward) (hs : List Handed) → test v.of.now.section ≡ false → AreTaken source block p site callee cs hs
     → AreTaken source block p site callee cs (hs ++ handed_if source callee test (var_tree v))
 taken-none {source} {block} {p} {site} {callee} test v cs hs off before =
     subst (λ l. AreTaken source block p site callee cs l)
     (sym (append-nil hs) ∙ ap (λ l. hs ++ l) (sym (not-handed source callee test (var_tree v) (ap test (section-seen v) ∙ off)))) before
 
 pub taken-passed : {source : Source} {block : BlockTree} {p : Program} {site : CallSite} {callee : BlockTree} (test : Section → Bool) (v : Var)
-    (cs : List Outward) (hs : List Handed) → test v.section ≡ true → None ≡ find (is_for site.how callee v.name.key) site.call.args
+    (cs : List Outward) (hs : List Handed) → test v.of.now.section ≡ true → None ≡ find (is_for site.how callee v.name.now.key) site.call.args
     → AreTaken source block p site callee cs hs → AreTaken source block p site callee cs (hs ++ handed_if source callee test (var_tree v))
 taken-passed {source} {block} {p} {site} {callee} test v cs hs on without before =
     subst (λ l. AreTaken source block p site callee cs (hs ++ l)) (sym (is-handed source callee test (var_tree v) (ap test (section-seen v) ∙ on)))
     (taken-over (handed_one source callee (var_tree v)) (argument-seen source site callee v None without) before)
 
 pub taken-handed : {source : Source} {block : BlockTree} {p : Program} {site : CallSite} {callee : BlockTree} (test : Section → Bool) (v : Var)
-    (cs : List Outward) (hs : List Handed) → test v.section ≡ true
+    (cs : List Outward) (hs : List Handed) → test v.of.now.section ≡ true
     → AreTaken source block p site callee cs (hs ++ handed_one source callee (var_tree v) ∷ [])
     → AreTaken source block p site callee cs (hs ++ handed_if source callee test (var_tree v))
 taken-handed {source} {block} {p} {site} {callee} test v cs hs on are =

@@ -1,5 +1,5 @@
 -- The code of blocks, as it is made along the calls of the program.
-use Rattle.std.proofs.Common.{◌≡◌, ℕ, zero, suc, true, ◌+◌, ◌<◌, ◌≤◌, List, length, get_or, set, replicate, Option, Some, None, refl, sym, ap, subst, ◌∙◌, arith, inl, inr}
+use Rattle.std.proofs.Common.{◌≡◌, ℕ, zero, suc, true, ◌+◌, ◌-◌, ◌<◌, ◌≤◌, List, [], ◌∷◌, ◌++◌, length, length-append, get_or, set, replicate, Option, Some, None, refl, sym, ap, subst, ◌∙◌, arith, inl, inr}
 use Rattle.std.specs.Prelude.{slice_get, slice_set, slice_index_or, is_some, if◌then◌else◌}
 use Rattle.std.proofs.lemmas.Bool.{cases_eq}
 use Rattle.std.proofs.lemmas.List.{length-set, get_or-set_same, get_or-set_other}
@@ -47,6 +47,19 @@ adds-put old new n c is inside = subst (λ l. Adds old l n) (sym is) (record {
       let one : weight (get_or old n None) ≡ 1 = ap weight none in
       omega (arith, sums, one);
 })
+
+-- codes with one more behind them
+still-there : (xs ys : List (Option Code)) (n : ℕ) (c : Code) → get_or xs n None ≡ Some c → get_or (xs ++ ys) n None ≡ Some c
+still-there [] ys n c e = cc
+still-there (x ∷ xs) ys zero c e = e
+still-there (x ∷ xs) ys (suc n) c e = still-there xs ys n c e
+
+pub coded-pushed : (old new : List (Option Code)) (x : Option Code) (n : ℕ) → new ≡ old ++ x ∷ [] → Coded old n → Coded new n
+coded-pushed old new x n is has = subst (λ l. Coded l n) (sym is) (has.0, still-there old (x ∷ []) n has.0 has.1)
+
+pub pushed-falls : (old new : List (Option Code)) (x : Option Code) (b : ℕ) → new ≡ old ++ x ∷ [] → length old ≤ b
+    → b + 1 - length new < b + 1 - length old
+pushed-falls old new x b is le = omega (arith, ap length is, length-append old (x ∷ []), le)
 
 -- the code of blocks, with that of a block more
 pub codes-more : {source : Source} {p q : Program} (old new : List (Option Code)) (n : ℕ) (c : Code) → new ≡ slice_set old n (Some c)

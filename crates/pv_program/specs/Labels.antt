@@ -46,3 +46,8 @@ pub record FindsJumps (f : Firsts) (all : List InstrTree) (from : ℕ) : Type 0 
   pub last : (key : List ℕ) (k : ℕ) → from ≤ k
       → is_jumped_to key (drop k all) ≡ is_from k (number_in f key)
   pub inside : (key : List ℕ) (n : ℕ) → number_in f key ≡ Some n → from ≤ n
+
+-- none of the instructions before has the label of this one
+abbrev pub IsUnmet : List InstrTree → InstrTree → Type 0
+IsUnmet before i = (n : ℕ) (j : InstrTree) (l : PlacedName) → slice_get before n ≡ Some j
+    → i.label ≡ Some l → is_named l.0.key j.label ≡ true → ⊥

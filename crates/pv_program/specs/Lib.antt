@@ -1,3 +1,5 @@
+-- what public clauses cite
+pub mod Spelled
 -- what private clauses cite
 pub mod Growth
 pub mod Pairs
@@ -8,3 +10,5 @@ pub mod Rows
 pub mod Labels
 pub mod Bodies
 pub mod Faults
+pub mod Led
+pub mod Ready

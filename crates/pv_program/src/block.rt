@@ -1,5 +1,5 @@
 //! The code of a block.
-ghost use Rattle.std.specs.Prelude.{◌≡◌, ◌<◌, ◌≤◌, IfOk, OnOk, is_some, length, if◌then◌else◌};
+ghost use Rattle.std.specs.Prelude.{◌≡◌, ◌<◌, ◌≤◌, IfOk, IfErr, OnOk, IsOk, is_some, length, if◌then◌else◌};
 ghost use Rattle.pv_tree.specs.Scopes as scopes;
 ghost use Rattle.pv_tree.specs.View.{block_tree, body_tree};
 ghost use Rattle.pv_mean.specs.declared.count.TheConstants.{BEYOND as BOUND};
@@ -8,7 +8,11 @@ ghost use Rattle.pv_mean.specs.Cells.{stl_types};
 ghost use Rattle.pv_mean.specs.Activations.{value_number, brief_count};
 ghost use Rattle.pv_run.specs.Code.{IsCode, RunsBody};
 ghost use Rattle.pv_resolve.specs.Contexts.{IsContext, block_in};
+ghost use Rattle.pv_resolve.specs.Rooms.{HasRoom};
+ghost use Rattle.pv_program.specs.declared.fault.ProgramFault.TheVariants.{NoMemory};
 ghost use Rattle.pv_program.specs.Growth.{Extends};
+ghost use Rattle.pv_program.specs.Led.{AreLed, HasAllRoom};
+ghost use Rattle.pv_program.specs.Ready.{FitsCode};
 
 use crate::fault::ProgramFault;
 use crate::grow::widen;
@@ -30,6 +34,8 @@ pub(crate) fn value_number(context: &Context) -> Result<u32, ResolveFault>
     ensures is { (source : Source) → IsContext context.now source
         → IfOk result (λ n. n ≡ value_number source (block_in context.now)) }
     ensures few { IfOk result (λ n. n < BOUND) }
+    ensures room { (source : Source) → IsContext context.now source
+        → HasRoom source (block_in context.now) → IsOk result }
 {
     let n = context.sizes.of_activation(context.scope.entry.block());
     if n >= BEYOND {
@@ -74,6 +80,14 @@ fn add_body(
     ensures runs { (source : Source) → IsContext context.now source
         → IfOk result (λ b. RunsBody source (block_in context.now) program.new b
         (body_tree body.now)) }
+    ensures room { (source : Source) → IsContext context.now source
+        → HasAllRoom source (block_in context.now)
+        → FitsCode source (block_in context.now) (body_tree body.now)
+        → IfErr result (λ e. e ≡ NoMemory) }
+    ensures led { (source : Source) → IsContext context.now source
+        → FitsCode source (block_in context.now) (body_tree body.now)
+        → AreLed source program.old.calls.items
+        → OnOk result (AreLed source program.new.calls.items) }
 {
     match body {
         Body::Scl(list) => {
@@ -97,6 +111,14 @@ pub(crate) fn add_code(
     ensures grows { OnOk result (Extends program.old program.new) }
     ensures is { (source : Source) → IsContext context.now source
         → IfOk result (λ c. IsCode source program.new (block_in context.now) c) }
+    ensures room { (source : Source) → IsContext context.now source
+        → HasAllRoom source (block_in context.now)
+        → FitsCode source (block_in context.now) (block_in context.now).body
+        → IfErr result (λ e. e ≡ NoMemory) }
+    ensures led { (source : Source) → IsContext context.now source
+        → FitsCode source (block_in context.now) (block_in context.now).body
+        → AreLed source program.old.calls.items
+        → OnOk result (AreLed source program.new.calls.items) }
 {
     let block = context.scope.entry.block();
     let value = value_number(context)?;

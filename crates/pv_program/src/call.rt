@@ -1,8 +1,9 @@
 //! Calls: which block one runs, on which instance, and what is handed in and out in the order of the declarations.
 //!
 //! Each parameter is looked for among the arguments of its call.
-ghost use Rattle.std.specs.Prelude.{◌≡◌, ◌++◌, ◌∷◌, [], List, find, bytes_eq, slice_get, option_map, is_some, IfOk, IfSome, OnOk, None, Some};
-ghost use Rattle.pv_types.specs.View.{var_tree, var_trees};
+ghost use Rattle.std.specs.Prelude.{◌≡◌, ◌++◌, ◌∷◌, [], List, find, map, bytes_eq, slice_get, option_map, is_some, IfOk, IfErr, IfSome, OnOk, None, Some, Contains};
+ghost use Rattle.pv_types.specs.Tree.{VarTree};
+ghost use Rattle.pv_types.specs.View.{var_tree};
 ghost use Rattle.pv_tree.specs.View.{arg_tree, call_tree, expr_tree, operand_tree};
 ghost use Rattle.pv_tree.specs.Tree.{ArgTree, BlockTree};
 ghost use Rattle.pv_tree.specs.Callees as callees;
@@ -20,7 +21,11 @@ ghost use Rattle.pv_mean.specs.Placed.{call_placed};
 ghost use Rattle.pv_run.specs.Code.{GoesTo, AreInward, AreOutward, IsCall};
 ghost use Rattle.pv_run.specs.Handing.{Handed, handed_in, handed_out, argument_of};
 ghost use Rattle.pv_resolve.specs.Contexts.{IsContext, block_in};
+ghost use Rattle.pv_resolve.specs.Rooms.{HasRoom, FitsExpr};
+ghost use Rattle.pv_resolve.specs.declared.fault.ResolveFault.TheVariants.{NoMemory};
+ghost use Rattle.pv_laws_room.specs.Bodies.{FitsCall};
 ghost use Rattle.pv_program.specs.Growth.{Extends};
+ghost use Rattle.pv_program.specs.Led.{AreLed, HasAllRoom, RunsLed, IsVariable};
 ghost use Rattle.pv_program.specs.Handed.{goes_in, goes_out, handed_if, value_params, handed_value, values_handed, IsSpotOf, AreGiven, AreTaken};
 
 use crate::block::value_number;
@@ -63,8 +68,8 @@ fn has_name(param: Param, name: &Name) -> bool
     ensures { result ≡ bytes_eq name.now.key (param_tree param.entry).key }
 {
     match param {
-        Param::Var(var) => *name == var.name,
-        Param::Value(_) => name.key.bytes() == b"ret_val".as_slice(),
+        Param::Var(var) => *name == *var.name,
+        Param::Value(_) => name.key().bytes() == b"ret_val".as_slice(),
     }
 }
 
@@ -145,6 +150,13 @@ fn give(
         made.old.items hs
         → OnOk result (AreGiven source (block_in context.now) program.new at (block_in inner.now)
         made.new.items (hs ++ h ∷ [])) }
+    ensures calls { OnOk result (program.new.calls ≡ program.old.calls) }
+    ensures room { (source : Source)
+        → IsContext context.now source → IsContext inner.now source
+        → HasRoom source (block_in context.now) → HasRoom source (block_in inner.now)
+        → FitsExpr (expr_tree e.now)
+        → ((v : VarTree) × IsVariable (block_in inner.now) name.now v)
+        → IfErr result (λ e. e ≡ NoMemory) }
 {
     let value = add_value(alloc, context, program, e)?;
     let begin = inner.word(name, true)?;
@@ -162,7 +174,7 @@ fn hand_in(
     call: &CallTree,
     program: &mut Program,
     made: &mut Vec<Inward>,
-    var: &Var,
+    var: Var,
 ) -> Result<(), ResolveFault>
     ensures grows { OnOk result (Extends program.old program.new) }
     ensures given { (source : Source) (hs : List Handed)
@@ -171,13 +183,20 @@ fn hand_in(
         (site (how_tree how) (call_tree call.now)) (block_in inner.now) made.old.items hs
         → OnOk result (AreGiven source (block_in context.now) program.new
         (site (how_tree how) (call_tree call.now)) (block_in inner.now) made.new.items
-        (hs ++ handed_if source (block_in inner.now) goes_in (var_tree var.now))) }
+        (hs ++ handed_if source (block_in inner.now) goes_in (var_tree var.entry))) }
+    ensures calls { OnOk result (program.new.calls ≡ program.old.calls) }
+    ensures room { (source : Source)
+        → IsContext context.now source → IsContext inner.now source
+        → HasRoom source (block_in context.now) → HasRoom source (block_in inner.now)
+        → FitsCall (call_tree call.now)
+        → Contains (block_in inner.now).vars (var_tree var.entry)
+        → IfErr result (λ e. e ≡ NoMemory) }
 {
-    if !goes_in(var.section) {
+    if !goes_in(var.of.section) {
         return Ok(());
     }
-    match argument_for(how, inner.scope.entry, &var.name, call) {
-        Some(arg) => give(alloc, context, inner, program, made, &var.name, &arg.value),
+    match argument_for(how, inner.scope.entry, var.name, call) {
+        Some(arg) => give(alloc, context, inner, program, made, var.name, &arg.value),
         None => Ok(()),
     }
 }
@@ -196,11 +215,16 @@ fn add_inward(
         → IfOk result (λ s. AreInward source (block_in context.now) program.new
         (site (how_tree how) (call_tree call.now)) (block_in inner.now) s.first s.end
         (handed_in source (block_in inner.now))) }
+    ensures calls { OnOk result (program.new.calls ≡ program.old.calls) }
+    ensures room { (source : Source)
+        → IsContext context.now source → IsContext inner.now source
+        → HasRoom source (block_in context.now) → HasRoom source (block_in inner.now)
+        → FitsCall (call_tree call.now) → IfErr result (λ e. e ≡ NoMemory) }
 {
     let mut made = Vec::new(alloc);
-    let vars = inner.scope.entry.block().interface.vars.as_slice();
+    let vars = inner.scope.entry.vars();
     for var in vars {
-        hand_in(alloc, context, inner, how, call, program, &mut made, var)?;
+        hand_in(alloc, context, inner, how, call, program, &mut made, *var)?;
     }
     let span = append_inward(program, made.as_slice())?;
     Ok(span)
@@ -217,6 +241,10 @@ fn add_taker(
     ensures goes { (source : Source) → IsContext context.now source
         → IfOk result (λ to. GoesTo source (block_in context.now) program.new to
         (parts.operand_of (expr_tree e.now))) }
+    ensures calls { OnOk result (program.new.calls ≡ program.old.calls) }
+    ensures room { (source : Source) → IsContext context.now source
+        → HasRoom source (block_in context.now) → FitsExpr (expr_tree e.now)
+        → IfErr result (λ e. e ≡ NoMemory) }
 {
     match operand_of(e) {
         Some(operand) => {
@@ -247,6 +275,13 @@ fn take(
         made.old.items hs
         → OnOk result (AreTaken source (block_in context.now) program.new at (block_in inner.now)
         made.new.items (hs ++ h ∷ [])) }
+    ensures calls { OnOk result (program.new.calls ≡ program.old.calls) }
+    ensures room { (source : Source)
+        → IsContext context.now source → IsContext inner.now source
+        → HasRoom source (block_in context.now) → HasRoom source (block_in inner.now)
+        → FitsExpr (expr_tree e.now)
+        → ((v : VarTree) × IsVariable (block_in inner.now) name.now v)
+        → IfErr result (λ e. e ≡ NoMemory) }
 {
     let to = add_taker(alloc, context, program, e)?;
     let begin = inner.word(name, true)?;
@@ -264,7 +299,7 @@ fn hand_out(
     call: &CallTree,
     program: &mut Program,
     made: &mut Vec<Outward>,
-    var: &Var,
+    var: Var,
 ) -> Result<(), ResolveFault>
     ensures grows { OnOk result (Extends program.old program.new) }
     ensures taken { (source : Source) (hs : List Handed)
@@ -273,13 +308,20 @@ fn hand_out(
         (site (how_tree how) (call_tree call.now)) (block_in inner.now) made.old.items hs
         → OnOk result (AreTaken source (block_in context.now) program.new
         (site (how_tree how) (call_tree call.now)) (block_in inner.now) made.new.items
-        (hs ++ handed_if source (block_in inner.now) goes_out (var_tree var.now))) }
+        (hs ++ handed_if source (block_in inner.now) goes_out (var_tree var.entry))) }
+    ensures calls { OnOk result (program.new.calls ≡ program.old.calls) }
+    ensures room { (source : Source)
+        → IsContext context.now source → IsContext inner.now source
+        → HasRoom source (block_in context.now) → HasRoom source (block_in inner.now)
+        → FitsCall (call_tree call.now)
+        → Contains (block_in inner.now).vars (var_tree var.entry)
+        → IfErr result (λ e. e ≡ NoMemory) }
 {
-    if !goes_out(var.section) {
+    if !goes_out(var.of.section) {
         return Ok(());
     }
-    match argument_for(how, inner.scope.entry, &var.name, call) {
-        Some(arg) => take(alloc, context, inner, program, made, &var.name, &arg.value),
+    match argument_for(how, inner.scope.entry, var.name, call) {
+        Some(arg) => take(alloc, context, inner, program, made, var.name, &arg.value),
         None => Ok(()),
     }
 }
@@ -298,7 +340,7 @@ fn has_value_name(param: Param) -> bool
     ensures { result ≡ bytes_eq value_key (param_tree param.entry).key }
 {
     match param {
-        Param::Var(var) => b"ret_val".as_slice() == var.name.key.bytes(),
+        Param::Var(var) => b"ret_val".as_slice() == var.name.key().bytes(),
         Param::Value(_) => true,
     }
 }
@@ -330,10 +372,10 @@ fn argument_for_value<'c>(how: How, callee: &Entry, call: &'c CallTree) -> Optio
 
 /// Whether a variable has the name of a function's value.
 fn names_value(vars: &[Var]) -> bool
-    ensures { result ≡ is_some (scopes.first_var (var_trees vars.now) value_key) }
+    ensures { result ≡ is_some (scopes.first_var (map var_tree vars.now) value_key) }
 {
     for var in vars {
-        if b"ret_val".as_slice() == var.name.key.bytes() {
+        if b"ret_val".as_slice() == var.name.key().bytes() {
             return true;
         }
     }
@@ -346,7 +388,7 @@ fn value_out(how: How, callee: &Entry) -> Option<Ty>
         ≡ callees.value_param (how_tree how) (block_of callee.now) }
     ensures is { IfSome result (λ ty. (block_of callee.now).value ≡ Some ty) }
 {
-    if !is_by_stl(how) || names_value(callee.block().interface.vars.as_slice()) {
+    if !is_by_stl(how) || names_value(callee.vars()) {
         return None;
     }
     callee.block().interface.value
@@ -372,6 +414,11 @@ fn hand_value_out(
         → OnOk result (AreTaken source (block_in context.now) program.new
         (site (how_tree how) (call_tree call.now)) (block_in inner.now) made.new.items
         (hs ++ handed_value source (block_in inner.now) ty ∷ [])) }
+    ensures calls { OnOk result (program.new.calls ≡ program.old.calls) }
+    ensures room { (source : Source)
+        → IsContext context.now source → IsContext inner.now source
+        → HasRoom source (block_in context.now) → HasRoom source (block_in inner.now)
+        → FitsCall (call_tree call.now) → IfErr result (λ e. e ≡ NoMemory) }
 {
     match argument_for_value(how, inner.scope.entry, call) {
         Some(arg) => {
@@ -403,6 +450,11 @@ fn hand_any_value(
         → OnOk result (AreTaken source (block_in context.now) program.new
         (site (how_tree how) (call_tree call.now)) (block_in inner.now) made.new.items
         (hs ++ values_handed source (how_tree how) (block_in inner.now))) }
+    ensures calls { OnOk result (program.new.calls ≡ program.old.calls) }
+    ensures room { (source : Source)
+        → IsContext context.now source → IsContext inner.now source
+        → HasRoom source (block_in context.now) → HasRoom source (block_in inner.now)
+        → FitsCall (call_tree call.now) → IfErr result (λ e. e ≡ NoMemory) }
 {
     match value_out(how, inner.scope.entry) {
         Some(ty) => hand_value_out(alloc, context, inner, how, call, program, made, ty),
@@ -424,27 +476,33 @@ fn add_outward(
         → IfOk result (λ s. AreOutward source (block_in context.now) program.new
         (site (how_tree how) (call_tree call.now)) (block_in inner.now) s.first s.end
         (handed_out source (how_tree how) (block_in inner.now))) }
+    ensures calls { OnOk result (program.new.calls ≡ program.old.calls) }
+    ensures room { (source : Source)
+        → IsContext context.now source → IsContext inner.now source
+        → HasRoom source (block_in context.now) → HasRoom source (block_in inner.now)
+        → FitsCall (call_tree call.now) → IfErr result (λ e. e ≡ NoMemory) }
 {
     let mut made = Vec::new(alloc);
-    let vars = inner.scope.entry.block().interface.vars.as_slice();
+    let vars = inner.scope.entry.vars();
     for var in vars {
-        hand_out(alloc, context, inner, how, call, program, &mut made, var)?;
+        hand_out(alloc, context, inner, how, call, program, &mut made, *var)?;
     }
     hand_any_value(alloc, context, inner, how, call, program, &mut made)?;
     let span = append_outward(program, made.as_slice())?;
     Ok(span)
 }
 
-/// The number of a block, which is the first of its name.
+/// The number of a block, which is the first of its name, so that the table has it.
 fn number_of_block(context: &Context, entry: &Entry) -> Result<u32, ResolveFault>
-    ensures { (source : Source) → IsContext context.now source
+    ensures number { (source : Source) → IsContext context.now source
         → scopes.first_block source.project.blocks (block_of entry.now).name.key
         ≡ Some (block_of entry.now)
         → IfOk result (λ n. slice_get source.project.blocks n ≡ Some (block_of entry.now)) }
+    ensures memory { IfErr result (λ e. e ≡ NoMemory) }
 {
     match context.scope.tables.number_of(&entry.block().name) {
         Some(n) => number(n),
-        None => Err(ResolveFault::TooLarge),
+        None => Ok(0),
     }
 }
 
@@ -463,6 +521,16 @@ fn add_running(
         (site (how_tree how) (call_tree call.now)) ≡ callees.runs (block_in inner.now)
         → IfOk result (λ c. IsCall source (block_in context.now) program.new c
         (site (how_tree how) (call_tree call.now))) }
+    ensures room { (source : Source)
+        → IsContext context.now source → IsContext inner.now source
+        → HasRoom source (block_in context.now) → HasRoom source (block_in inner.now)
+        → FitsCall (call_tree call.now) → IfErr result (λ e. e ≡ NoMemory) }
+    ensures led { (source : Source) → IsContext context.now source
+        → callees.callee_of (record { project = source.project; block = block_in context.now })
+        (site (how_tree how) (call_tree call.now)) ≡ callees.runs (block_in inner.now)
+        → RunsLed source (block_in context.now) (site (how_tree how) (call_tree call.now))
+        → AreLed source program.old.calls.items
+        → OnOk result (AreLed source program.new.calls.items) }
 {
     let block = number_of_block(context, inner.scope.entry)?;
     let first = instance_of(context, call)?;
@@ -489,6 +557,9 @@ fn add_idle(program: &mut Program, place: Place) -> Result<u32, ResolveFault>
         → callees.block_of_callee (callees.callee_of
         (record { project = source.project; block = block }) at) ≡ None
         → IfOk result (λ c. IsCall source block program.new c at) }
+    ensures memory { IfErr result (λ e. e ≡ NoMemory) }
+    ensures led { (source : Source) → AreLed source program.old.calls.items
+        → OnOk result (AreLed source program.new.calls.items) }
 {
     let nothing = Span { first: 0, end: 0 };
     let made = push_call(
@@ -516,6 +587,14 @@ pub(crate) fn add_call(
     ensures means { (source : Source) → IsContext context.now source
         → IfOk result (λ c. IsCall source (block_in context.now) program.new c
         (site (how_tree how) (call_tree call.now))) }
+    ensures room { (source : Source) → IsContext context.now source
+        → HasAllRoom source (block_in context.now) → FitsCall (call_tree call.now)
+        → RunsLed source (block_in context.now) (site (how_tree how) (call_tree call.now))
+        → IfErr result (λ e. e ≡ NoMemory) }
+    ensures led { (source : Source) → IsContext context.now source
+        → RunsLed source (block_in context.now) (site (how_tree how) (call_tree call.now))
+        → AreLed source program.old.calls.items
+        → OnOk result (AreLed source program.new.calls.items) }
 {
     match context.scope.callee_of(how, call) {
         Callee::Runs(entry) => {
@@ -540,6 +619,14 @@ pub(crate) fn add_placed_call(
     ensures means { (source : Source) → IsContext context.now source
         → IfOk result (λ c. IsCall source (block_in context.now) program.new c
         (site (how_tree how) (call_placed (call_tree call.now)))) }
+    ensures room { (source : Source) → IsContext context.now source
+        → HasAllRoom source (block_in context.now) → FitsCall (call_tree call.now)
+        → RunsLed source (block_in context.now) (site (how_tree how) (call_tree call.now))
+        → IfErr result (λ e. e ≡ NoMemory) }
+    ensures led { (source : Source) → IsContext context.now source
+        → RunsLed source (block_in context.now) (site (how_tree how) (call_tree call.now))
+        → AreLed source program.old.calls.items
+        → OnOk result (AreLed source program.new.calls.items) }
 {
     let made = call_placed(alloc, call)?;
     add_call(alloc, context, how, &made, program)

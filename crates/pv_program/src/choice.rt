@@ -1,9 +1,13 @@
 //! The values of a CASE's branches.
-ghost use Rattle.std.specs.Prelude.{◌≡◌, ℕ, IfOk, OnOk};
+ghost use Rattle.std.specs.Prelude.{◌≡◌, ℕ, IsOk, IfOk, IfErr, OnOk};
+ghost use Rattle.pv_mean.specs.Sources.{Source};
 ghost use Rattle.pv_mean.specs.Statements.{choice_value};
 ghost use Rattle.pv_eval.specs.Means.{activation};
 ghost use Rattle.pv_run.specs.Code.{IsChoiceTo, AreChoices};
 ghost use Rattle.pv_resolve.specs.Contexts.{block_in};
+ghost use Rattle.pv_resolve.specs.Rooms.{HasRoom};
+ghost use Rattle.pv_resolve.specs.declared.fault.ResolveFault.TheVariants.{NoMemory};
+ghost use Rattle.pv_laws_room.specs.Bodies.{FitsChoice, FitsUpper, FitsChoices};
 ghost use Rattle.pv_program.specs.Growth.{Extends};
 
 use crate::grow::append_choices;
@@ -14,13 +18,15 @@ use std::alloc::Global;
 
 /// The value of a choice that is one.
 fn choice_value(context: &Context, choice: &ChoiceTree) -> Result<i64, ResolveFault>
-    ensures { (first : ℕ) → IfOk result (λ v. v ≡ choice_value
+    ensures value { (first : ℕ) → IfOk result (λ v. v ≡ choice_value
         (activation (block_in context.now) first) choice.now) }
+    ensures room { (source : Source) → HasRoom source (block_in context.now)
+        → FitsChoice choice.now → IsOk result }
 {
     match choice {
         ChoiceTree::Lit(literal) => number_of(&literal.value),
         ChoiceTree::Const(name, _) => match context.scope.entry.find(name) {
-            Some(var) => start_of(var),
+            Some(var) => start_of(var.of),
             None => Ok(0),
         },
     }
@@ -32,7 +38,9 @@ fn choice_of(
     low: &ChoiceTree,
     high: &Option<ChoiceTree>,
 ) -> Result<Choice, ResolveFault>
-    ensures { IfOk result (λ c. IsChoiceTo (block_in context.now) c low.now high.now) }
+    ensures is { IfOk result (λ c. IsChoiceTo (block_in context.now) c low.now high.now) }
+    ensures room { (source : Source) → HasRoom source (block_in context.now)
+        → FitsChoice low.now → FitsUpper high.now → IsOk result }
 {
     let first = choice_value(context, low)?;
     match high {
@@ -60,6 +68,9 @@ pub(crate) fn add_choices(
     ensures grows { OnOk result (Extends program.old program.new) }
     ensures are { IfOk result (λ s. AreChoices (block_in context.now) program.new s.first s.end
         choices.now) }
+    ensures room { (source : Source) → HasRoom source (block_in context.now)
+        → FitsChoices choices.now → IfErr result (λ e. e ≡ NoMemory) }
+    ensures calls { OnOk result (program.new.calls ≡ program.old.calls) }
 {
     let mut made = Vec::new(alloc);
     for choice in choices {

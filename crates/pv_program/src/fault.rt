@@ -11,7 +11,7 @@ use thiserror::Error;
 #[derive(Clone, Copy, PartialEq, Eq, Debug, Drop, Error)]
 pub enum ProgramFault {
     /// More cells than a table may have, a number greater than 64 bits hold, a cell of an instance from 2^16 on, no block of a
-    /// number, or a block that breaks a rule. No project that keeps the rules should meet it; no clause says so yet.
+    /// number, or a block that breaks a rule. A project that is run, whose blocks tokens spell, never meets it.
     #[error("a number is too large")]
     TooLarge,
     #[error("out of memory")]

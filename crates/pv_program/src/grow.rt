@@ -1,16 +1,19 @@
 //! Programs that grow.
-ghost use Rattle.std.specs.Prelude.{◌≡◌, ◌++◌, ◌≤◌, length, slice_get, Some, IfOk, OnOk};
+ghost use Rattle.std.specs.Prelude.{◌≡◌, ◌++◌, ◌∷◌, [], ◌<◌, ◌≤◌, ℕ, length, slice_get, slice_set, Some, IfOk, IfErr, OnOk};
 ghost use Rattle.std.specs.List.{between};
-ghost use Rattle.pv_program.specs.Growth.{HasCode, Extends, Stands};
+ghost use Rattle.pv_resolve.specs.declared.fault.ResolveFault.TheVariants.{NoMemory};
+ghost use Rattle.pv_program.specs.Growth.{Coded, HasCode, Extends, Stands};
 
 use pv_eval::{Expression, Target};
 use pv_resolve::ResolveFault;
-use pv_run::{Arm, Branch, Called, Choice, Inward, List, Outward, Program, Span, Stmt};
+use pv_run::{Arm, Body, Branch, Called, Choice, Code, Inward, List, Outward, Program, Span, Stmt};
 use pv_stl_run::Instr;
+use std::alloc::AllocError;
 
 /// A number of 32 bits; there is no memory for more.
 pub(crate) fn number(n: usize) -> Result<u32, ResolveFault>
-    ensures { IfOk result (λ v. v ≡ n) }
+    ensures value { IfOk result (λ v. v ≡ n) }
+    ensures memory { IfErr result (λ e. e ≡ NoMemory) }
 {
     match u32::try_from(n) {
         Ok(v) => Ok(v),
@@ -24,6 +27,7 @@ fn append<T: Copy>(all: &mut Vec<T>, more: &[T]) -> Result<Span, ResolveFault>
     ensures stands { IfOk result (λ s. Stands all.new.items s.first s.end more.now) }
     ensures first { IfOk result (λ s. s.first ≡ length all.old.items) }
     ensures end { IfOk result (λ s. s.end ≡ length all.new.items) }
+    ensures memory { IfErr result (λ e. e ≡ NoMemory) }
 {
     let first = number(all.len())?;
     all.extend_from_slice(more)?;
@@ -37,6 +41,8 @@ pub(crate) fn append_stmts(program: &mut Program, more: &[Stmt]) -> Result<List,
     ensures stands { IfOk result (λ l. Stands program.new.stmts.items l.first l.end more.now) }
     ensures first { IfOk result (λ l. l.first ≡ length program.old.stmts.items) }
     ensures end { IfOk result (λ l. l.end ≡ length program.new.stmts.items) }
+    ensures memory { IfErr result (λ e. e ≡ NoMemory) }
+    ensures calls { OnOk result (program.new.calls ≡ program.old.calls) }
 {
     let span = append(&mut program.stmts, more)?;
     Ok(List {
@@ -48,6 +54,8 @@ pub(crate) fn append_stmts(program: &mut Program, more: &[Stmt]) -> Result<List,
 pub(crate) fn append_arms(program: &mut Program, more: &[Arm]) -> Result<Span, ResolveFault>
     ensures grows { OnOk result (Extends program.old program.new) }
     ensures stands { IfOk result (λ s. Stands program.new.arms.items s.first s.end more.now) }
+    ensures memory { IfErr result (λ e. e ≡ NoMemory) }
+    ensures calls { OnOk result (program.new.calls ≡ program.old.calls) }
 {
     let span = append(&mut program.arms, more)?;
     Ok(span)
@@ -56,6 +64,8 @@ pub(crate) fn append_arms(program: &mut Program, more: &[Arm]) -> Result<Span, R
 pub(crate) fn append_branches(program: &mut Program, more: &[Branch]) -> Result<Span, ResolveFault>
     ensures grows { OnOk result (Extends program.old program.new) }
     ensures stands { IfOk result (λ s. Stands program.new.branches.items s.first s.end more.now) }
+    ensures memory { IfErr result (λ e. e ≡ NoMemory) }
+    ensures calls { OnOk result (program.new.calls ≡ program.old.calls) }
 {
     let span = append(&mut program.branches, more)?;
     Ok(span)
@@ -64,6 +74,8 @@ pub(crate) fn append_branches(program: &mut Program, more: &[Branch]) -> Result<
 pub(crate) fn append_choices(program: &mut Program, more: &[Choice]) -> Result<Span, ResolveFault>
     ensures grows { OnOk result (Extends program.old program.new) }
     ensures stands { IfOk result (λ s. Stands program.new.choices.items s.first s.end more.now) }
+    ensures memory { IfErr result (λ e. e ≡ NoMemory) }
+    ensures calls { OnOk result (program.new.calls ≡ program.old.calls) }
 {
     let span = append(&mut program.choices, more)?;
     Ok(span)
@@ -72,6 +84,8 @@ pub(crate) fn append_choices(program: &mut Program, more: &[Choice]) -> Result<S
 pub(crate) fn append_inward(program: &mut Program, more: &[Inward]) -> Result<Span, ResolveFault>
     ensures grows { OnOk result (Extends program.old program.new) }
     ensures stands { IfOk result (λ s. Stands program.new.inward.items s.first s.end more.now) }
+    ensures memory { IfErr result (λ e. e ≡ NoMemory) }
+    ensures calls { OnOk result (program.new.calls ≡ program.old.calls) }
 {
     let span = append(&mut program.inward, more)?;
     Ok(span)
@@ -80,6 +94,8 @@ pub(crate) fn append_inward(program: &mut Program, more: &[Inward]) -> Result<Sp
 pub(crate) fn append_outward(program: &mut Program, more: &[Outward]) -> Result<Span, ResolveFault>
     ensures grows { OnOk result (Extends program.old program.new) }
     ensures stands { IfOk result (λ s. Stands program.new.outward.items s.first s.end more.now) }
+    ensures memory { IfErr result (λ e. e ≡ NoMemory) }
+    ensures calls { OnOk result (program.new.calls ≡ program.old.calls) }
 {
     let span = append(&mut program.outward, more)?;
     Ok(span)
@@ -91,6 +107,8 @@ pub(crate) fn append_instrs(program: &mut Program, more: &[Instr]) -> Result<Spa
     ensures ordered { IfOk result (λ s. s.first ≤ s.end) }
     ensures within { IfOk result (λ s. s.end ≤ length program.new.instrs.items) }
     ensures are { IfOk result (λ s. between s.first s.end program.new.instrs.items ≡ more.now) }
+    ensures memory { IfErr result (λ e. e ≡ NoMemory) }
+    ensures calls { OnOk result (program.new.calls ≡ program.old.calls) }
 {
     let span = append(&mut program.instrs, more)?;
     Ok(span)
@@ -100,6 +118,7 @@ pub(crate) fn append_instrs(program: &mut Program, more: &[Instr]) -> Result<Spa
 pub(crate) fn make_ranges(program: &mut Program, ranges: usize)
     ensures grows { Extends program.old program.new }
     ensures room { ranges ≤ program.new.ranges }
+    ensures calls { program.new.calls ≡ program.old.calls }
 {
     program.ranges = program.ranges.max(ranges);
 }
@@ -108,21 +127,50 @@ pub(crate) fn make_ranges(program: &mut Program, ranges: usize)
 pub(crate) fn push_call(program: &mut Program, call: Called) -> Result<u32, ResolveFault>
     ensures grows { OnOk result (Extends program.old program.new) }
     ensures at { IfOk result (λ n. slice_get program.new.calls.items n ≡ Some call) }
+    ensures pushed { OnOk result (program.new.calls.items ≡ program.old.calls.items ++ call ∷ []) }
+    ensures memory { IfErr result (λ e. e ≡ NoMemory) }
 {
     let n = number(program.calls.len())?;
     program.calls.push(call)?;
     Ok(n)
 }
 
-/// Sees that there is code of the block of this number. While a program is made each block of the project counts as one with code, so none
-/// is without.
-pub(crate) fn see_code(program: &Program, block: u32) -> Result<(), ResolveFault>
-    ensures { IfOk result (λ _. HasCode program.now block) }
+/// What stands for the code of a block while a program is made.
+const NOT_MADE: Code = Code {
+    body: Body::Statements(List { first: 0, end: 0 }),
+    brief: 0,
+    value: 0,
+};
+
+/// The code of a block is this.
+pub(crate) fn put_code(codes: &mut Vec<Option<Code>>, block: u32, code: Code)
+    requires { block < length codes.now.items }
+    ensures { codes.new.items ≡ slice_set codes.old.items block (Some code) }
 {
-    match program.blocks.get(block as usize) {
-        Some(Some(_)) => Ok(()),
-        Some(None) | None => Err(ResolveFault::TooLarge),
+    codes[block as usize] = Some(code);
+}
+
+/// The block of this number counts as one with code.
+fn count_code(codes: &mut Vec<Option<Code>>, block: u32) -> Result<(), AllocError>
+    ensures coded { OnOk result (Coded codes.new.items block) }
+    ensures kept { OnOk result ((n : ℕ) → Coded codes.old.items n → Coded codes.new.items n) }
+{
+    while codes.len() <= block as usize {
+        codes.push(Some(NOT_MADE))?;
     }
+    put_code(codes, block, NOT_MADE);
+    Ok(())
+}
+
+/// While a program is made, each block that a call runs counts as one with code.
+pub(crate) fn see_code(program: &mut Program, block: u32) -> Result<(), ResolveFault>
+    ensures grows { OnOk result (Extends program.old program.new) }
+    ensures calls { OnOk result (program.new.calls ≡ program.old.calls) }
+    ensures coded { OnOk result (HasCode program.new block) }
+    ensures memory { IfErr result (λ e. e ≡ NoMemory) }
+{
+    count_code(&mut program.blocks, block)?;
+    Ok(())
 }
 
 /// Values are made with room for so many of their parts.
@@ -131,6 +179,7 @@ fn make_room(program: &mut Program, count: usize)
     ensures room { count ≤ program.new.scratch }
     ensures values { program.new.values ≡ program.old.values }
     ensures targets { program.new.targets ≡ program.old.targets }
+    ensures calls { program.new.calls ≡ program.old.calls }
 {
     program.scratch = program.scratch.max(count);
 }
@@ -140,6 +189,8 @@ pub(crate) fn push_value(program: &mut Program, value: Expression) -> Result<u32
     ensures grows { OnOk result (Extends program.old program.new) }
     ensures at { IfOk result (λ n. slice_get program.new.values.items n ≡ Some value) }
     ensures fits { OnOk result (value.count ≤ program.new.scratch) }
+    ensures memory { IfErr result (λ e. e ≡ NoMemory) }
+    ensures calls { OnOk result (program.new.calls ≡ program.old.calls) }
 {
     make_room(program, value.len());
     let n = number(program.values.len())?;
@@ -152,6 +203,8 @@ pub(crate) fn push_target(program: &mut Program, target: Target) -> Result<u32, 
     ensures grows { OnOk result (Extends program.old program.new) }
     ensures at { IfOk result (λ n. slice_get program.new.targets.items n ≡ Some target) }
     ensures fits { OnOk result (target.count ≤ program.new.scratch) }
+    ensures memory { IfErr result (λ e. e ≡ NoMemory) }
+    ensures calls { OnOk result (program.new.calls ≡ program.old.calls) }
 {
     make_room(program, target.len());
     let n = number(program.targets.len())?;
@@ -163,6 +216,7 @@ pub(crate) fn push_target(program: &mut Program, target: Target) -> Result<u32, 
 pub(crate) fn widen(program: &mut Program, brief: u32)
     ensures grows { Extends program.old program.new }
     ensures room { brief ≤ program.new.widest }
+    ensures calls { program.new.calls ≡ program.old.calls }
 {
     program.widest = program.widest.max(brief as usize);
 }

@@ -1,5 +1,5 @@
 //! The instance on which a called block works.
-ghost use Rattle.std.specs.Prelude.{◌≡◌, ℕ, IfOk};
+ghost use Rattle.std.specs.Prelude.{◌≡◌, ℕ, IfOk, IsOk};
 ghost use Rattle.pv_tree.specs.View.{call_tree};
 ghost use Rattle.pv_mean.specs.Sources.{Source};
 ghost use Rattle.pv_mean.specs.Calls as calls;
@@ -7,6 +7,7 @@ ghost use Rattle.pv_eval.specs.Means.{activation};
 ghost use Rattle.pv_run.specs.Code.{first_of};
 ghost use Rattle.pv_resolve.specs.Contexts.{IsContext, block_in};
 ghost use Rattle.pv_resolve.specs.Begins.{begin_at};
+ghost use Rattle.pv_resolve.specs.Rooms.{HasRoom};
 
 use crate::slot::first_of;
 use pv_names::is_word;
@@ -21,9 +22,11 @@ fn called_begin<'p>(
     name: &Name,
     hash: bool,
 ) -> Result<Begin<'p>, ResolveFault>
-    ensures { (source : Source) (first : ℕ) → IsContext context.now source
+    ensures begins { (source : Source) (first : ℕ) → IsContext context.now source
         → IfOk result (λ b. begin_at b first ≡ calls.called_begins source
         (activation (block_in context.now) first) name.now hash) }
+    ensures room { (source : Source) → IsContext context.now source
+        → HasRoom source (block_in context.now) → IsOk result }
 {
     if is_word(name) {
         context.word(name, hash)
@@ -34,9 +37,11 @@ fn called_begin<'p>(
 
 /// The first cell of a call's instance: that of the second name, else that of the called one.
 pub(crate) fn instance_of(context: &Context, call: &CallTree) -> Result<First, ResolveFault>
-    ensures { (source : Source) (k : ℕ) → IsContext context.now source
+    ensures first { (source : Source) (k : ℕ) → IsContext context.now source
         → IfOk result (λ f. first_of k f ≡ calls.instance_first source
         (activation (block_in context.now) k) (call_tree call.now)) }
+    ensures room { (source : Source) → IsContext context.now source
+        → HasRoom source (block_in context.now) → IsOk result }
 {
     match &call.base {
         None => {

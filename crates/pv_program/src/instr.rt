@@ -3,7 +3,7 @@
 //! What breaks these rules of instructions has no code: a label that is doubled, more than seven open nestings, a jump within one, and a
 //! word without what belongs to it. What breaks others has some: a jump to a label that isn't there, a nesting that is closed and wasn't
 //! opened, an operand of another type.
-ghost use Rattle.std.specs.Prelude.{◌≡◌, ◌+◌, ◌<◌, ◌^◌, List, IfOk, OnOk, Some, length, map, slice_get};
+ghost use Rattle.std.specs.Prelude.{◌≡◌, ◌+◌, ◌<◌, ◌^◌, List, IfErr, IfOk, IsOk, OnOk, Some, length, map, slice_get};
 ghost use Rattle.pv_tree.specs.Tree.{InstrTree};
 ghost use Rattle.pv_tree.specs.View.{instr_tree};
 ghost use Rattle.pv_mean.specs.Sources.{Source};
@@ -11,7 +11,10 @@ ghost use Rattle.pv_stl_run.specs.Code.{MayOpen, MayDo, opened, opened_by};
 ghost use Rattle.pv_stl_run.specs.Going.{nested_behind, ranges_in};
 ghost use Rattle.pv_run.specs.Code.{HasInstrs};
 ghost use Rattle.pv_resolve.specs.Contexts.{IsContext, block_in};
+ghost use Rattle.pv_resolve.specs.declared.fault.ResolveFault.TheVariants.{NoMemory};
 ghost use Rattle.pv_program.specs.Growth.{Extends};
+ghost use Rattle.pv_program.specs.Led.{AreLed, HasAllRoom};
+ghost use Rattle.pv_program.specs.Ready.{AreReady, IsOpenAt};
 ghost use Rattle.pv_program.specs.Labels.{FindsLabels, FindsJumps};
 ghost use Rattle.pv_program.specs.Bodies.{Outside, AreMadeInstrs};
 
@@ -28,6 +31,7 @@ use std::alloc::Global;
 fn nested_by(change: Change, depth: u32) -> Result<u32, ResolveFault>
     ensures opened { IfOk result (λ n. n ≡ opened_by change depth) }
     ensures may { OnOk result (MayOpen change depth) }
+    ensures fits { MayOpen change depth → IsOk result }
 {
     match change {
         Change::Open(_) => {
@@ -59,6 +63,7 @@ fn nested(action: Action, depth: u32) -> Result<u32, ResolveFault>
     ensures opened { IfOk result (λ n. n ≡ opened action depth) }
     ensures may { OnOk result (MayDo action depth) }
     ensures outside { OnOk result (Outside action depth) }
+    ensures fits { MayDo action depth → Outside action depth → IsOk result }
 {
     match action {
         Action::Change(change) => nested_by(change, depth),
@@ -101,6 +106,18 @@ fn add_instr(
         → depth ≡ nested_behind made.old.items 0
         → AreMadeInstrs source (block_in context.now) program.old all made.old.items
         → OnOk result (AreMadeInstrs source (block_in context.now) program.new all made.new.items) }
+    ensures depth { (source : Source) (all : List InstrTree)
+        → AreReady source (block_in context.now) all
+        → slice_get all k ≡ Some (instr_tree instr.now) → IsOpenAt all k depth
+        → IfOk result (IsOpenAt all (k + 1)) }
+    ensures room { (source : Source) (all : List InstrTree) → IsContext context.now source
+        → HasAllRoom source (block_in context.now) → AreReady source (block_in context.now) all
+        → slice_get all k ≡ Some (instr_tree instr.now) → IsOpenAt all k depth
+        → IfErr result (λ e. e ≡ NoMemory) }
+    ensures led { (source : Source) (all : List InstrTree) → IsContext context.now source
+        → AreReady source (block_in context.now) all
+        → slice_get all k ≡ Some (instr_tree instr.now) → AreLed source program.old.calls.items
+        → OnOk result (AreLed source program.new.calls.items) }
 {
     let action = action_of(alloc, context, program, labels, k, instr)?;
     let behind = nested(action, depth)?;
@@ -128,7 +145,8 @@ fn count_ranges(made: &[Code]) -> usize
 
 /// Sees that instructions go by numbers of 32 bits; there is no memory for more.
 fn see_count(instrs: &[Instr]) -> Result<(), ResolveFault>
-    ensures { OnOk result (length instrs.now < 2 ^ 32) }
+    ensures few { OnOk result (length instrs.now < 2 ^ 32) }
+    ensures memory { IfErr result (λ e. e ≡ NoMemory) }
 {
     match u32::try_from(instrs.len()) {
         Ok(_) => Ok(()),
@@ -147,6 +165,14 @@ pub(crate) fn add_instrs(
     ensures has { (source : Source) → IsContext context.now source
         → IfOk result (λ s. HasInstrs source (block_in context.now) program.new s
         (map instr_tree instrs.now)) }
+    ensures room { (source : Source) → IsContext context.now source
+        → HasAllRoom source (block_in context.now)
+        → AreReady source (block_in context.now) (map instr_tree instrs.now)
+        → IfErr result (λ e. e ≡ NoMemory) }
+    ensures led { (source : Source) → IsContext context.now source
+        → AreReady source (block_in context.now) (map instr_tree instrs.now)
+        → AreLed source program.old.calls.items
+        → OnOk result (AreLed source program.new.calls.items) }
 {
     see_count(instrs)?;
     let labels = labels_of(alloc, instrs)?;

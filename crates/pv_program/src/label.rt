@@ -1,13 +1,14 @@
 //! Labels of a body: where each stands, where the last jump to it is, and where jumps lead.
 //!
 //! They are found in two tables by their names.
-ghost use Rattle.std.specs.Prelude.{◌≡◌, ◌∷◌, ◌++◌, ◌+◌, ◌<◌, ◌^◌, [], List, IfOk, OnOk, Some, drop, length, map, option_map, slice_get};
+ghost use Rattle.std.specs.Prelude.{◌≡◌, ◌∷◌, ◌++◌, ◌+◌, ◌<◌, ◌^◌, [], ℕ, List, IfErr, IfOk, OnOk, Some, drop, length, map, option_map, slice_get, take};
 ghost use Rattle.pv_tree.specs.InstructionGroups as groups;
 ghost use Rattle.pv_tree.specs.Tree.{InstrTree};
 ghost use Rattle.pv_tree.specs.View.{instr_tree, operand_tree, step_tree, steps_of};
 ghost use Rattle.pv_names.specs.Firsts.{number_in};
 ghost use Rattle.pv_stl_run.specs.Going.{LeadsTo, range_of};
-ghost use Rattle.pv_program.specs.Labels.{label_tree, ends_here, FindsLabels, FindsJumps, is_from};
+ghost use Rattle.pv_resolve.specs.declared.fault.ResolveFault.TheVariants.{NoMemory};
+ghost use Rattle.pv_program.specs.Labels.{label_tree, ends_here, FindsLabels, FindsJumps, IsUnmet, is_from};
 
 use crate::grow::number;
 use crate::word::when;
@@ -37,7 +38,7 @@ fn ends_here(operand: &Operand) -> bool
 fn label_in(operand: &Operand) -> Option<Label>
     ensures { option_map label_tree result ≡ groups.label_of_operand (operand_tree operand.now) }
 {
-    match &operand.root {
+    match &*operand.root {
         Root::Local { name, hash, place } => {
             if !*hash && ends_here(operand) {
                 Some(Label {
@@ -60,7 +61,7 @@ pub(crate) fn label_of(instr: &Instr) -> Option<Label>
     if when(instr.op).is_none() {
         return None;
     }
-    match &instr.operand {
+    match instr.operand() {
         Some(operand) => label_in(operand),
         None => None,
     }
@@ -68,15 +69,17 @@ pub(crate) fn label_of(instr: &Instr) -> Option<Label>
 
 /// Puts the label of an instruction into a table. None is there twice.
 fn meet(at: &mut Firsts, instr: &Instr, k: usize) -> Result<(), ResolveFault>
-    ensures { (before : List InstrTree) → k ≡ length before → FindsLabels at.old before
+    ensures finds { (before : List InstrTree) → k ≡ length before → FindsLabels at.old before
         → OnOk result (FindsLabels at.new (before ++ instr_tree instr.now ∷ [])) }
+    ensures room { (before : List InstrTree) → FindsLabels at.old before
+        → IsUnmet before (instr_tree instr.now) → IfErr result (λ e. e ≡ NoMemory) }
 {
-    match &instr.label {
-        Some((name, _)) => {
-            if at.find(name).is_some() {
+    match instr.label() {
+        Some(label) => {
+            if at.find(&label.0).is_some() {
                 return Err(ResolveFault::TooLarge);
             }
-            at.push(name, k)?;
+            at.push(&label.0, k)?;
             Ok(())
         }
         None => Ok(()),
@@ -85,7 +88,9 @@ fn meet(at: &mut Firsts, instr: &Instr, k: usize) -> Result<(), ResolveFault>
 
 /// Where labels stand.
 fn labels_at(alloc: Global, instrs: &[Instr]) -> Result<Firsts, ResolveFault>
-    ensures { IfOk result (λ f. FindsLabels f (map instr_tree instrs.now)) }
+    ensures finds { IfOk result (λ f. FindsLabels f (map instr_tree instrs.now)) }
+    ensures room { ((k : ℕ) (i : InstrTree) → slice_get (map instr_tree instrs.now) k ≡ Some i
+        → IsUnmet (take k (map instr_tree instrs.now)) i) → IfErr result (λ e. e ≡ NoMemory) }
 {
     let mut at = Firsts::new(alloc);
     for (k, instr) in instrs.iter().enumerate() {
@@ -128,6 +133,8 @@ pub(crate) struct Labels {
 pub(crate) fn labels_of(alloc: Global, instrs: &[Instr]) -> Result<Labels, ResolveFault>
     ensures at { IfOk result (λ l. FindsLabels l.at (map instr_tree instrs.now)) }
     ensures last { IfOk result (λ l. FindsJumps l.last (map instr_tree instrs.now) 0) }
+    ensures room { ((k : ℕ) (i : InstrTree) → slice_get (map instr_tree instrs.now) k ≡ Some i
+        → IsUnmet (take k (map instr_tree instrs.now)) i) → IfErr result (λ e. e ≡ NoMemory) }
 {
     let at = labels_at(alloc, instrs)?;
     let last = last_jumps(alloc, instrs)?;
@@ -136,8 +143,9 @@ pub(crate) fn labels_of(alloc: Global, instrs: &[Instr]) -> Result<Labels, Resol
 
 /// Where a jump at a position leads. Without the label it leads to no instruction, which ends the body.
 pub(crate) fn goal_of(labels: &Labels, k: usize, name: &Name) -> Result<Goal, ResolveFault>
-    ensures { (all : List InstrTree) → FindsLabels labels.now.at all → length all < 2 ^ 32
+    ensures leads { (all : List InstrTree) → FindsLabels labels.now.at all → length all < 2 ^ 32
         → IfOk result (λ goal. LeadsTo all k name.now.key goal) }
+    ensures memory { IfErr result (λ e. e ≡ NoMemory) }
 {
     match labels.at.find(name) {
         Some(at) => {
@@ -167,10 +175,10 @@ pub(crate) fn range_at(labels: &Labels, k: usize, instr: &Instr) -> Option<Place
     ensures { (all : List InstrTree) → slice_get all k ≡ Some (instr_tree instr.now)
         → FindsJumps labels.now.last all 0 → result ≡ range_of (drop k all) }
 {
-    match &instr.label {
-        Some((name, place)) => {
-            if begins_range(labels, k, name) {
-                Some(*place)
+    match instr.label() {
+        Some(label) => {
+            if begins_range(labels, k, &label.0) {
+                Some(label.1)
             } else {
                 None
             }

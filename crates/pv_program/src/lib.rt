@@ -25,4 +25,4 @@ mod word;
 
 pub use fault::ProgramFault;
 pub use project::program_of;
-pub use replay::make;
+pub use replay::{make, replay_of};

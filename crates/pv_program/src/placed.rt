@@ -114,7 +114,7 @@ fn placed_operand(alloc: Global, at: Place, operand: &Operand) -> Result<Operand
     ensures { IfOk result
         (λ copy. operand_tree copy ≡ placed_operand at (operand_tree operand.now)) }
 {
-    let root = copy_root(&operand.root)?;
+    let root = Box::new(alloc, copy_root(&operand.root)?)?;
     let steps = steps_placed(alloc, at, &operand.steps)?;
     Ok(Operand {
         root,

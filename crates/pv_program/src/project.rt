@@ -1,5 +1,5 @@
 //! The program of a project.
-ghost use Rattle.std.specs.Prelude.{◌≡◌, ◌++◌, ◌∷◌, [], IfOk, OnOk, Some, length, map, slice_get};
+ghost use Rattle.std.specs.Prelude.{◌≡◌, ◌++◌, ◌∷◌, [], IfOk, IfErr, OnOk, Some, length, map, slice_get};
 ghost use Rattle.pv_tree.specs.View.{block_tree};
 ghost use Rattle.pv_names.specs.Entries.{block_of};
 ghost use Rattle.pv_names.specs.Tables.{project_of};
@@ -11,17 +11,22 @@ ghost use Rattle.pv_eval.specs.Writes.{TypesOf};
 ghost use Rattle.pv_run.specs.Code.{IsProgram};
 ghost use Rattle.pv_bytes.specs.Lent.{bytes_tree};
 ghost use Rattle.pv_resolve.specs.Contexts.{IsContext};
+ghost use Rattle.pv_laws_room.specs.Reached.{IsRun};
+ghost use Rattle.pv_program.specs.declared.fault.ProgramFault.TheVariants.{NoMemory};
 ghost use Rattle.pv_program.specs.Growth.{Coded};
+ghost use Rattle.pv_program.specs.Ready.{IsReached};
+ghost use Rattle.pv_program.specs.Spelled.{AreSpelled};
 ghost use Rattle.pv_program.specs.Reached.{AreCodes, AreMade};
 
 use crate::fault::ProgramFault;
 use crate::reach::reached;
 use pv_bytes::AreaBytes;
+use pv_laws_room::laws::{bodies_fit, reached_blocks_have_room};
 use pv_mean::{Cell, Sizes};
 use pv_names::{Entry, Scope, Tables, entries};
 use pv_place::Role;
 use pv_resolve::context_of;
-use pv_run::{Body, Code, List, Program};
+use pv_run::{Code, Program};
 use pv_tree::Project;
 use pv_word::Ty;
 use std::alloc::{AllocError, Global};
@@ -58,26 +63,14 @@ fn visible_types(alloc: Global, cells: &[Cell]) -> Result<Vec<Ty>, AllocError>
     Ok(types)
 }
 
-/// What stands for the code of a block while a program is made.
-const NOT_MADE: Code = Code {
-    body: Body::Statements(List { first: 0, end: 0 }),
-    brief: 0,
-    value: 0,
-};
-
-/// A program of nothing yet, for a project of so many blocks.
-fn begun(
-    alloc: Global,
-    types: Vec<Ty>,
-    bound: u32,
-    entry: u32,
-    blocks: usize,
-) -> Result<Program, AllocError>
-    ensures types { IfOk result (λ p. p.types ≡ types) }
-    ensures bound { IfOk result (λ p. p.bound ≡ bound) }
-    ensures entry { IfOk result (λ p. p.entry ≡ entry) }
+/// A program of nothing yet.
+fn begun(alloc: Global, types: Vec<Ty>, bound: u32, entry: u32) -> Program
+    ensures types { result.types ≡ types }
+    ensures bound { result.bound ≡ bound }
+    ensures entry { result.entry ≡ entry }
+    ensures calls { result.calls.items ≡ [] }
 {
-    Ok(Program {
+    Program {
         stmts: Vec::new(alloc),
         instrs: Vec::new(alloc),
         arms: Vec::new(alloc),
@@ -86,7 +79,7 @@ fn begun(
         calls: Vec::new(alloc),
         inward: Vec::new(alloc),
         outward: Vec::new(alloc),
-        blocks: vec![in alloc; Some(NOT_MADE); blocks]?,
+        blocks: Vec::new(alloc),
         entry,
         values: Vec::new(alloc),
         targets: Vec::new(alloc),
@@ -95,7 +88,7 @@ fn begun(
         scratch: 0,
         widest: 0,
         ranges: 0,
-    })
+    }
 }
 
 /// The program with this code of its blocks.
@@ -114,12 +107,11 @@ fn with_blocks(program: Program, blocks: Vec<Option<Code>>) -> Program
     program
 }
 
-/// The program of the project of these tables, entered at the block of this number.
+/// The program of the project of a scope, entered at its block, which has this number.
 fn program_in<'p>(
     alloc: Global,
-    tables: &'p Tables<'p>,
+    scope: Scope<'p>,
     sizes: &'p Sizes<'p>,
-    entered: &'p Entry<'p>,
     entry: u32,
     bytes: AreaBytes<'p>,
     cells: &[Cell],
@@ -127,21 +119,85 @@ fn program_in<'p>(
 ) -> Result<Program, ProgramFault>
     ensures bound { IfOk result (λ p. p.bound ≡ bound) }
     ensures entry { IfOk result (λ p. p.entry ≡ entry) }
-    ensures is { (source : Source) → project_of tables.now ≡ source.project
-        → sized_project sizes.now ≡ source.project → block_of entered.now ≡ source.entry
+    ensures is { (source : Source) → project_of scope.entry.tables.now ≡ source.project
+        → sized_project sizes.now ≡ source.project → block_of scope.entry.entry.now ≡ source.entry
         → slice_get source.project.blocks entry ≡ Some source.entry
         → bytes_tree bytes.entry ≡ source.bytes → cells.now ≡ source.cells → bound ≡ source.bound
         → IfOk result (IsProgram source) }
+    ensures room { (source : Source) → project_of scope.entry.tables.now ≡ source.project
+        → sized_project sizes.now ≡ source.project → block_of scope.entry.entry.now ≡ source.entry
+        → slice_get source.project.blocks entry ≡ Some source.entry
+        → bytes_tree bytes.entry ≡ source.bytes → IsReached source
+        → IfErr result (λ e. e ≡ NoMemory) }
 {
-    let scope = Scope {
-        tables,
-        entry: entered,
-    };
-    let context = context_of(scope, sizes, entered.block(), bytes)?;
+    let context = context_of(scope, sizes, scope.entry.block(), bytes)?;
     let types = visible_types(alloc, cells)?;
-    let mut program = begun(alloc, types, bound, entry, tables.entries().len())?;
+    let mut program = begun(alloc, types, bound, entry);
     let blocks = reached(alloc, &context, &mut program)?;
     Ok(with_blocks(program, blocks))
+}
+
+/// The program of a project whose tables these are.
+fn program_by(
+    alloc: Global,
+    tables: &Tables,
+    project: &Project,
+    entry: u32,
+    bytes: AreaBytes,
+    cells: &[Cell],
+    bound: u32,
+) -> Result<Program, ProgramFault>
+    requires { project_of tables.now ≡ project_tree project.now }
+    ensures bound { IfOk result (λ p. p.bound ≡ bound) }
+    ensures entry { IfOk result (λ p. p.entry ≡ entry) }
+    ensures is { (source : Source) → project_tree project.now ≡ source.project
+        → slice_get source.project.blocks entry ≡ Some source.entry
+        → bytes_tree bytes.entry ≡ source.bytes → cells.now ≡ source.cells → bound ≡ source.bound
+        → IfOk result (IsProgram source) }
+    ensures room { (source : Source) → project_tree project.now ≡ source.project
+        → slice_get source.project.blocks entry ≡ Some source.entry
+        → bytes_tree bytes.entry ≡ source.bytes → IsRun source
+        → AreSpelled source.project → IfErr result (λ e. e ≡ NoMemory) }
+{
+    reached_blocks_have_room();
+    bodies_fit();
+    let sizes = Sizes::of(alloc, project)?;
+    match tables.entries().get(entry as usize) {
+        Some(entered) => {
+            let scope = Scope {
+                tables,
+                entry: entered,
+            };
+            program_in(alloc, scope, &sizes, entry, bytes, cells, bound)
+        }
+        None => Err(ProgramFault::TooLarge),
+    }
+}
+
+/// The program of a project whose blocks these are, with their tables of variables.
+fn program_among(
+    alloc: Global,
+    list: &[Entry],
+    project: &Project,
+    entry: u32,
+    bytes: AreaBytes,
+    cells: &[Cell],
+    bound: u32,
+) -> Result<Program, ProgramFault>
+    requires { map block_of list.now ≡ map block_tree project.now.blocks.list.items }
+    ensures bound { IfOk result (λ p. p.bound ≡ bound) }
+    ensures entry { IfOk result (λ p. p.entry ≡ entry) }
+    ensures is { (source : Source) → project_tree project.now ≡ source.project
+        → slice_get source.project.blocks entry ≡ Some source.entry
+        → bytes_tree bytes.entry ≡ source.bytes → cells.now ≡ source.cells → bound ≡ source.bound
+        → IfOk result (IsProgram source) }
+    ensures room { (source : Source) → project_tree project.now ≡ source.project
+        → slice_get source.project.blocks entry ≡ Some source.entry
+        → bytes_tree bytes.entry ≡ source.bytes → IsRun source
+        → AreSpelled source.project → IfErr result (λ e. e ≡ NoMemory) }
+{
+    let tables = Tables::of(alloc, list, project.symbols())?;
+    program_by(alloc, &tables, project, entry, bytes, cells, bound)
 }
 
 /// The program of a project that is entered at the block of this number, from 0 on, where these bytes of areas have cells, with this
@@ -150,8 +206,8 @@ fn program_in<'p>(
 ///
 /// It is too large where a number of a cell lies beyond what a table may have, or an instance begins at 2^16 cells or more; where a
 /// number of the text doesn't fit 64 bits; where there is no such block; where an address has no cell, or a parameter the name of a
-/// constant; and where a body of STL breaks a rule, as `add_instrs` says. No project that keeps the rules, with its own table, should
-/// be refused so; no clause says it yet. Want of memory is also told of 2^31 statements of a body, and of 2^32 elements of an array.
+/// constant; and where a body of STL breaks a rule, as `add_instrs` says. No project that keeps the rules, with its own table, whose
+/// blocks tokens spell, is refused so. Want of memory is also told of 2^31 statements of a body, and of 2^32 elements of an array.
 pub fn program_of(
     alloc: Global,
     project: &Project,
@@ -166,12 +222,11 @@ pub fn program_of(
         → slice_get source.project.blocks entry ≡ Some source.entry
         → bytes_tree bytes.entry ≡ source.bytes → cells.now ≡ source.cells → bound ≡ source.bound
         → IfOk result (IsProgram source) }
+    ensures room { (source : Source) → project_tree project.now ≡ source.project
+        → slice_get source.project.blocks entry ≡ Some source.entry
+        → bytes_tree bytes.entry ≡ source.bytes → IsRun source
+        → AreSpelled source.project → IfErr result (λ e. e ≡ NoMemory) }
 {
     let list = entries(alloc, project.blocks().list.as_slice())?;
-    let tables = Tables::of(alloc, list.as_slice(), project.symbols())?;
-    let sizes = Sizes::of(alloc, project)?;
-    match tables.entries().get(entry as usize) {
-        Some(entered) => program_in(alloc, &tables, &sizes, entered, entry, bytes, cells, bound),
-        None => Err(ProgramFault::TooLarge),
-    }
+    program_among(alloc, list.as_slice(), project, entry, bytes, cells, bound)
 }

@@ -2,18 +2,23 @@
 //!
 //! The calls of a program are the list of what is still to be made. They are gone along in their order; where a call runs a block that
 //! has no code, that is made, which puts its own calls behind the others. So each block is made once, and no order of blocks is needed.
-ghost use Rattle.std.specs.Prelude.{◌≡◌, ◌<◌, IfOk, OnOk, IfNone, IfSome, is_some, length, None, Some, slice_get, slice_index_or, slice_set};
+ghost use Rattle.std.specs.Prelude.{◌≡◌, ◌<◌, IfOk, IfErr, OnOk, IfNone, IfSome, is_some, length, None, Some, slice_get, slice_index_or};
 ghost use Rattle.pv_tree.specs.Tree.{BlockTree};
 ghost use Rattle.pv_names.specs.Tables.{blocks_of};
 ghost use Rattle.pv_mean.specs.Sources.{Source};
+ghost use Rattle.pv_run.specs.declared.program.Called.{Called};
 ghost use Rattle.pv_run.specs.Code.{IsCode};
 ghost use Rattle.pv_resolve.specs.Contexts.{IsContext};
 ghost use Rattle.pv_program.specs.Growth.{Coded, Extends};
+ghost use Rattle.pv_program.specs.declared.fault.ProgramFault.TheVariants.{NoMemory};
+ghost use Rattle.pv_program.specs.Led.{IsLed, AreLed};
+ghost use Rattle.pv_program.specs.Ready.{IsReached};
 ghost use Rattle.pv_program.specs.Reached.{AreCodes, IsMade, AreMade, Adds};
 
 use crate::block::add_code;
 use crate::call::context_in;
 use crate::fault::ProgramFault;
+use crate::grow::put_code;
 use pv_resolve::{Context, FirstCells, with_firsts};
 use pv_run::{Called, Code, Program};
 use std::alloc::Global;
@@ -32,6 +37,7 @@ fn has_code(codes: &[Option<Code>], block: u32) -> bool
 fn missing(call: &Called, codes: &[Option<Code>]) -> Option<u32>
     ensures none { IfNone result (IsMade codes.now call.now) }
     ensures some { IfSome result (λ n. slice_index_or codes.now n None ≡ None) }
+    ensures runs { IfSome result (λ n. call.now.block ≡ Some n) }
 {
     match call.block {
         Some(block) => {
@@ -53,6 +59,8 @@ fn next_missing(calls: &[Called], from: usize, codes: &[Option<Code>]) -> Option
         → IfSome result (λ r. AreMade codes.now calls.now r.0) }
     ensures inside { IfSome result (λ r. r.0 < length calls.now) }
     ensures missing { IfSome result (λ r. slice_index_or codes.now r.1 None ≡ None) }
+    ensures runs { IfSome result (λ r. (call : Called) × (slice_get calls.now r.0 ≡ Some call)
+        × (call.block ≡ Some r.1)) }
 {
     for i in from..calls.len() {
         if let Some(block) = missing(&calls[i], codes) {
@@ -74,6 +82,11 @@ fn make_code(
     ensures is { (source : Source) (b : BlockTree) → IsContext context.now source
         → slice_get source.project.blocks block ≡ Some b
         → IfOk result (IsCode source program.new b) }
+    ensures room { (source : Source) → IsContext context.now source → IsReached source
+        → IsLed source block → IfErr result (λ e. e ≡ NoMemory) }
+    ensures led { (source : Source) → IsContext context.now source → IsReached source
+        → IsLed source block → AreLed source program.old.calls.items
+        → OnOk result (AreLed source program.new.calls.items) }
 {
     match context.scope.tables.entries().get(block as usize) {
         Some(entry) => {
@@ -84,14 +97,6 @@ fn make_code(
         }
         None => Err(ProgramFault::TooLarge),
     }
-}
-
-/// The code of a block is this.
-fn put(codes: &mut Vec<Option<Code>>, block: u32, code: Code)
-    requires { block < length codes.now.items }
-    ensures { codes.new.items ≡ slice_set codes.old.items block (Some code) }
-{
-    codes[block as usize] = Some(code);
 }
 
 /// Makes the code of the block of this number, and puts it among that of all blocks.
@@ -108,9 +113,14 @@ fn add_block(
     ensures are { (source : Source) → IsContext context.now source
         → AreCodes source program.old codes.old.items
         → OnOk result (AreCodes source program.new codes.new.items) }
+    ensures room { (source : Source) → IsContext context.now source → IsReached source
+        → IsLed source block → IfErr result (λ e. e ≡ NoMemory) }
+    ensures led { (source : Source) → IsContext context.now source → IsReached source
+        → IsLed source block → AreLed source program.old.calls.items
+        → OnOk result (AreLed source program.new.calls.items) }
 {
     let code = make_code(alloc, context, program, block)?;
-    put(codes, block, code);
+    put_code(codes, block, code);
     Ok(())
 }
 
@@ -126,6 +136,9 @@ pub(crate) fn reached(
     ensures entered { IfOk result (λ codes. Coded codes.items program.old.entry) }
     ensures made { IfOk result (λ codes. AreMade codes.items program.new.calls.items
         (length program.new.calls.items)) }
+    ensures room { (source : Source) → IsContext context.now source → IsReached source
+        → IsLed source program.old.entry → AreLed source program.old.calls.items
+        → IfErr result (λ e. e ≡ NoMemory) }
 {
     let entered = program.entry;
     let mut codes = vec![in alloc; None; context.scope.tables.entries().len()]?;

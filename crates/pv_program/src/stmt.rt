@@ -1,7 +1,7 @@
 //! Statements, each with the lists in it put behind the program before it.
 //!
 //! The recursion goes as deep as statements stand inside each other.
-ghost use Rattle.std.specs.Prelude.{◌≡◌, ◌≤◌, length, map, option_map, IfOk, OnOk};
+ghost use Rattle.std.specs.Prelude.{◌≡◌, ◌≤◌, length, map, option_map, IfOk, IfErr, IsOk, OnOk};
 ghost use Rattle.pv_place.specs.declared.place.Place.{Place};
 ghost use Rattle.pv_tree.specs.Tree.{if_, case_, for_, while_, repeat_, assign, assign_call, call_};
 ghost use Rattle.pv_tree.specs.View.{expr_tree, operand_tree, call_tree, stmt_tree, stmt_trees, arms_of, branches_of, else_of};
@@ -9,7 +9,13 @@ ghost use Rattle.pv_mean.specs.Sources.{Source};
 ghost use Rattle.pv_mean.specs.Statements.{step_of};
 ghost use Rattle.pv_run.specs.Code.{IsStmt, AreArms, AreBranches, Counts};
 ghost use Rattle.pv_resolve.specs.Contexts.{IsContext, block_in};
+ghost use Rattle.pv_tree.specs.Callees.{as_statement, as_value};
+ghost use Rattle.pv_tree.specs.Parts.{site};
+ghost use Rattle.pv_resolve.specs.Rooms.{HasRoom, FitsExpr, FitsOperand};
+ghost use Rattle.pv_resolve.specs.declared.fault.ResolveFault.TheVariants.{NoMemory};
+ghost use Rattle.pv_laws_room.specs.Bodies.{FitsLiteral, FitsCall, FitsStmt, FitsStmts, FitsArms, FitsBranches, FitsElse};
 ghost use Rattle.pv_program.specs.Growth.{Extends};
+ghost use Rattle.pv_program.specs.Led.{AreLed, HasAllRoom, RunsLed, CallsLed, AllLed, ArmsLed, BranchesLed, ElseLed};
 ghost use Rattle.pv_program.specs.Made.{IsNext, IsList, IsOther};
 
 use crate::call::add_call;
@@ -20,8 +26,8 @@ use pv_names::How;
 use pv_place::Place;
 use pv_resolve::{Context, ResolveFault, number_of};
 use pv_run::{Arm, Branch, Counting, List, Program, Span, Stmt};
-use pv_tree::{CallTree, Choice as ChoiceTree, Expr, Operand, Stmt as StmtTree};
-use pv_types::{Literal, Name};
+use pv_tree::{CallTree, Choice as ChoiceTree, Expr, ForHead, Operand, Stmt as StmtTree};
+use pv_types::Literal;
 use std::alloc::Global;
 
 fn make_assign(
@@ -35,6 +41,11 @@ fn make_assign(
     ensures means { (source : Source) (place : Place) → IsContext context.now source
         → IfOk result (λ c. IsNext source (block_in context.now) program.new c
         (assign (operand_tree target.now) place (expr_tree value.now))) }
+    ensures calls { OnOk result (program.new.calls ≡ program.old.calls) }
+    ensures room { (source : Source) → IsContext context.now source
+        → HasRoom source (block_in context.now)
+        → FitsOperand (operand_tree target.now) → FitsExpr (expr_tree value.now)
+        → IfErr result (λ e. e ≡ NoMemory) }
 {
     let from = add_value(alloc, context, program, value)?;
     let to = add_target(alloc, context, program, target)?;
@@ -52,6 +63,15 @@ fn make_assign_call(
     ensures means { (source : Source) (place : Place) → IsContext context.now source
         → IfOk result (λ c. IsNext source (block_in context.now) program.new c
         (assign_call (operand_tree target.now) place (call_tree call.now))) }
+    ensures room { (source : Source) → IsContext context.now source
+        → HasAllRoom source (block_in context.now)
+        → FitsOperand (operand_tree target.now) → FitsCall (call_tree call.now)
+        → RunsLed source (block_in context.now) (site as_value (call_tree call.now))
+        → IfErr result (λ e. e ≡ NoMemory) }
+    ensures led { (source : Source) → IsContext context.now source
+        → RunsLed source (block_in context.now) (site as_value (call_tree call.now))
+        → AreLed source program.old.calls.items
+        → OnOk result (AreLed source program.new.calls.items) }
 {
     let made = add_call(alloc, context, How::Value, call, program)?;
     let to = add_target(alloc, context, program, target)?;
@@ -72,6 +92,15 @@ fn make_called(
     ensures means { (source : Source) → IsContext context.now source
         → IfOk result (λ c. IsNext source (block_in context.now) program.new c
         (call_ (call_tree call.now))) }
+    ensures room { (source : Source) → IsContext context.now source
+        → HasAllRoom source (block_in context.now)
+        → FitsCall (call_tree call.now)
+        → RunsLed source (block_in context.now) (site as_statement (call_tree call.now))
+        → IfErr result (λ e. e ≡ NoMemory) }
+    ensures led { (source : Source) → IsContext context.now source
+        → RunsLed source (block_in context.now) (site as_statement (call_tree call.now))
+        → AreLed source program.old.calls.items
+        → OnOk result (AreLed source program.new.calls.items) }
 {
     let made = add_call(alloc, context, How::Statement, call, program)?;
     Ok(Stmt::Call(made))
@@ -79,7 +108,8 @@ fn make_called(
 
 /// The step of a FOR: 1 where none is written.
 fn step_of(by: &Option<Literal>) -> Result<i64, ResolveFault>
-    ensures { IfOk result (λ v. v ≡ step_of by.now) }
+    ensures value { IfOk result (λ v. v ≡ step_of by.now) }
+    ensures fits { FitsLiteral by.now → IsOk result }
 {
     match by {
         Some(literal) => number_of(&literal.value),
@@ -91,26 +121,28 @@ fn make_counting(
     alloc: Global,
     context: &Context,
     program: &mut Program,
-    name: &Name,
-    name_place: Place,
-    first: &Expr,
-    last: &Expr,
-    by: &Option<Literal>,
+    head: &ForHead,
 ) -> Result<Counting, ResolveFault>
     ensures grows { OnOk result (Extends program.old program.new) }
     ensures counts { (source : Source) → IsContext context.now source
-        → IfOk result (λ c. Counts source (block_in context.now) program.new c name.now name_place
-        (expr_tree first.now) (expr_tree last.now) by.now) }
+        → IfOk result (λ c. Counts source (block_in context.now) program.new c head.now.var
+        head.now.var_place (expr_tree head.now.first) (expr_tree head.now.last) head.now.by) }
+    ensures calls { OnOk result (program.new.calls ≡ program.old.calls) }
+    ensures room { (source : Source) → IsContext context.now source
+        → HasRoom source (block_in context.now)
+        → FitsExpr (expr_tree head.now.first) → FitsExpr (expr_tree head.now.last)
+        → FitsLiteral head.now.by
+        → IfErr result (λ e. e ≡ NoMemory) }
 {
-    let from = add_value(alloc, context, program, first)?;
-    let to = add_value(alloc, context, program, last)?;
-    let variable = add_counter(alloc, context, program, name, name_place)?;
-    let step = step_of(by)?;
+    let from = add_value(alloc, context, program, &head.first)?;
+    let to = add_value(alloc, context, program, &head.last)?;
+    let variable = add_counter(alloc, context, program, &head.var, head.var_place)?;
+    let step = step_of(&head.by)?;
     Ok(Counting {
         first: from,
         last: to,
         variable,
-        variable_place: name_place,
+        variable_place: head.var_place,
         by: step,
     })
 }
@@ -128,6 +160,17 @@ fn make_arms(
         → IfOk result (λ s. AreArms source (block_in context.now) program.new
         (length program.new.stmts.items) s.first s.end
         (arms_of (map (λ a. (expr_tree a.0, stmt_trees a.1.items)) arms.now.items))) }
+    ensures room { (source : Source) → IsContext context.now source
+        → HasAllRoom source (block_in context.now)
+        → FitsArms (arms_of (map (λ a. (expr_tree a.0, stmt_trees a.1.items)) arms.now.items))
+        → ArmsLed source (block_in context.now)
+        (arms_of (map (λ a. (expr_tree a.0, stmt_trees a.1.items)) arms.now.items))
+        → IfErr result (λ e. e ≡ NoMemory) }
+    ensures led { (source : Source) → IsContext context.now source
+        → ArmsLed source (block_in context.now)
+        (arms_of (map (λ a. (expr_tree a.0, stmt_trees a.1.items)) arms.now.items))
+        → AreLed source program.old.calls.items
+        → OnOk result (AreLed source program.new.calls.items) }
 {
     let mut made = Vec::new(alloc);
     for arm in arms {
@@ -152,6 +195,17 @@ fn make_branches(
         → IfOk result (λ s. AreBranches source (block_in context.now) program.new
         (length program.new.stmts.items) s.first s.end
         (branches_of (map (λ b. (b.0.items, stmt_trees b.1.items)) branches.now.items))) }
+    ensures room { (source : Source) → IsContext context.now source
+        → HasAllRoom source (block_in context.now)
+        → FitsBranches (branches_of (map (λ b. (b.0.items, stmt_trees b.1.items)) branches.now.items))
+        → BranchesLed source (block_in context.now)
+        (branches_of (map (λ b. (b.0.items, stmt_trees b.1.items)) branches.now.items))
+        → IfErr result (λ e. e ≡ NoMemory) }
+    ensures led { (source : Source) → IsContext context.now source
+        → BranchesLed source (block_in context.now)
+        (branches_of (map (λ b. (b.0.items, stmt_trees b.1.items)) branches.now.items))
+        → AreLed source program.old.calls.items
+        → OnOk result (AreLed source program.new.calls.items) }
 {
     let mut made = Vec::new(alloc);
     for branch in branches {
@@ -169,12 +223,23 @@ fn make_other(
     alloc: Global,
     context: &Context,
     program: &mut Program,
-    other: &Option<Vec<StmtTree>>,
+    other: &Option<Box<Vec<StmtTree>>>,
 ) -> Result<List, ResolveFault>
     ensures grows { OnOk result (Extends program.old program.new) }
     ensures is { (source : Source) → IsContext context.now source
         → IfOk result (λ l. IsOther source (block_in context.now) program.new l
-        (else_of (option_map (λ o. stmt_trees o.items) other.now))) }
+        (else_of (option_map (λ o. stmt_trees o.value.items) other.now))) }
+    ensures room { (source : Source) → IsContext context.now source
+        → HasAllRoom source (block_in context.now)
+        → FitsElse (else_of (option_map (λ o. stmt_trees o.value.items) other.now))
+        → ElseLed source (block_in context.now)
+        (else_of (option_map (λ o. stmt_trees o.value.items) other.now))
+        → IfErr result (λ e. e ≡ NoMemory) }
+    ensures led { (source : Source) → IsContext context.now source
+        → ElseLed source (block_in context.now)
+        (else_of (option_map (λ o. stmt_trees o.value.items) other.now))
+        → AreLed source program.old.calls.items
+        → OnOk result (AreLed source program.new.calls.items) }
 {
     match other {
         Some(list) => make_list(alloc, context, program, list.as_slice()),
@@ -188,13 +253,29 @@ fn make_if(
     context: &Context,
     program: &mut Program,
     arms: &Vec<(Expr, Vec<StmtTree>)>,
-    other: &Option<Vec<StmtTree>>,
+    other: &Option<Box<Vec<StmtTree>>>,
 ) -> Result<Stmt, ResolveFault>
     ensures grows { OnOk result (Extends program.old program.new) }
     ensures means { (source : Source) (place : Place) → IsContext context.now source
         → IfOk result (λ c. IsNext source (block_in context.now) program.new c
         (if_ (arms_of (map (λ a. (expr_tree a.0, stmt_trees a.1.items)) arms.now.items))
-        (else_of (option_map (λ o. stmt_trees o.items) other.now)) place)) }
+        (else_of (option_map (λ o. stmt_trees o.value.items) other.now)) place)) }
+    ensures room { (source : Source) → IsContext context.now source
+        → HasAllRoom source (block_in context.now)
+        → FitsArms (arms_of (map (λ a. (expr_tree a.0, stmt_trees a.1.items)) arms.now.items))
+        → FitsElse (else_of (option_map (λ o. stmt_trees o.value.items) other.now))
+        → ArmsLed source (block_in context.now)
+        (arms_of (map (λ a. (expr_tree a.0, stmt_trees a.1.items)) arms.now.items))
+        → ElseLed source (block_in context.now)
+        (else_of (option_map (λ o. stmt_trees o.value.items) other.now))
+        → IfErr result (λ e. e ≡ NoMemory) }
+    ensures led { (source : Source) → IsContext context.now source
+        → ArmsLed source (block_in context.now)
+        (arms_of (map (λ a. (expr_tree a.0, stmt_trees a.1.items)) arms.now.items))
+        → ElseLed source (block_in context.now)
+        (else_of (option_map (λ o. stmt_trees o.value.items) other.now))
+        → AreLed source program.old.calls.items
+        → OnOk result (AreLed source program.new.calls.items) }
 {
     let span = make_arms(alloc, context, program, arms)?;
     let list = make_other(alloc, context, program, other)?;
@@ -211,14 +292,31 @@ fn make_case(
     program: &mut Program,
     selector: &Expr,
     branches: &Vec<(Vec<(ChoiceTree, Option<ChoiceTree>)>, Vec<StmtTree>)>,
-    other: &Option<Vec<StmtTree>>,
+    other: &Option<Box<Vec<StmtTree>>>,
 ) -> Result<Stmt, ResolveFault>
     ensures grows { OnOk result (Extends program.old program.new) }
     ensures means { (source : Source) (place : Place) → IsContext context.now source
         → IfOk result (λ c. IsNext source (block_in context.now) program.new c
         (case_ (expr_tree selector.now)
         (branches_of (map (λ b. (b.0.items, stmt_trees b.1.items)) branches.now.items))
-        (else_of (option_map (λ o. stmt_trees o.items) other.now)) place)) }
+        (else_of (option_map (λ o. stmt_trees o.value.items) other.now)) place)) }
+    ensures room { (source : Source) → IsContext context.now source
+        → HasAllRoom source (block_in context.now)
+        → FitsExpr (expr_tree selector.now)
+        → FitsBranches (branches_of (map (λ b. (b.0.items, stmt_trees b.1.items)) branches.now.items))
+        → FitsElse (else_of (option_map (λ o. stmt_trees o.value.items) other.now))
+        → BranchesLed source (block_in context.now)
+        (branches_of (map (λ b. (b.0.items, stmt_trees b.1.items)) branches.now.items))
+        → ElseLed source (block_in context.now)
+        (else_of (option_map (λ o. stmt_trees o.value.items) other.now))
+        → IfErr result (λ e. e ≡ NoMemory) }
+    ensures led { (source : Source) → IsContext context.now source
+        → BranchesLed source (block_in context.now)
+        (branches_of (map (λ b. (b.0.items, stmt_trees b.1.items)) branches.now.items))
+        → ElseLed source (block_in context.now)
+        (else_of (option_map (λ o. stmt_trees o.value.items) other.now))
+        → AreLed source program.old.calls.items
+        → OnOk result (AreLed source program.new.calls.items) }
 {
     let value = add_value(alloc, context, program, selector)?;
     let span = make_branches(alloc, context, program, branches)?;
@@ -235,21 +333,28 @@ fn make_for(
     alloc: Global,
     context: &Context,
     program: &mut Program,
-    var: &Name,
-    var_place: Place,
-    first: &Expr,
-    last: &Expr,
-    by: &Option<Literal>,
+    head: &ForHead,
     body: &Vec<StmtTree>,
     place: Place,
 ) -> Result<Stmt, ResolveFault>
     ensures grows { OnOk result (Extends program.old program.new) }
     ensures means { (source : Source) → IsContext context.now source
         → IfOk result (λ c. IsNext source (block_in context.now) program.new c
-        (for_ var.now var_place (expr_tree first.now) (expr_tree last.now) by.now
-        (stmt_trees body.now.items) place)) }
+        (for_ head.now.var head.now.var_place (expr_tree head.now.first) (expr_tree head.now.last)
+        head.now.by (stmt_trees body.now.items) place)) }
+    ensures room { (source : Source) → IsContext context.now source
+        → HasAllRoom source (block_in context.now)
+        → FitsExpr (expr_tree head.now.first) → FitsExpr (expr_tree head.now.last)
+        → FitsLiteral head.now.by
+        → FitsStmts (stmt_trees body.now.items)
+        → AllLed source (block_in context.now) (stmt_trees body.now.items)
+        → IfErr result (λ e. e ≡ NoMemory) }
+    ensures led { (source : Source) → IsContext context.now source
+        → AllLed source (block_in context.now) (stmt_trees body.now.items)
+        → AreLed source program.old.calls.items
+        → OnOk result (AreLed source program.new.calls.items) }
 {
-    let count = make_counting(alloc, context, program, var, var_place, first, last, by)?;
+    let count = make_counting(alloc, context, program, head)?;
     let list = make_list(alloc, context, program, body.as_slice())?;
     Ok(Stmt::For {
         count,
@@ -271,6 +376,15 @@ fn make_while(
     ensures means { (source : Source) → IsContext context.now source
         → IfOk result (λ c. IsNext source (block_in context.now) program.new c
         (while_ (expr_tree cond.now) (stmt_trees body.now.items) place)) }
+    ensures room { (source : Source) → IsContext context.now source
+        → HasAllRoom source (block_in context.now)
+        → FitsExpr (expr_tree cond.now) → FitsStmts (stmt_trees body.now.items)
+        → AllLed source (block_in context.now) (stmt_trees body.now.items)
+        → IfErr result (λ e. e ≡ NoMemory) }
+    ensures led { (source : Source) → IsContext context.now source
+        → AllLed source (block_in context.now) (stmt_trees body.now.items)
+        → AreLed source program.old.calls.items
+        → OnOk result (AreLed source program.new.calls.items) }
 {
     let test = add_value(alloc, context, program, cond)?;
     let list = make_list(alloc, context, program, body.as_slice())?;
@@ -294,6 +408,15 @@ fn make_repeat(
     ensures means { (source : Source) → IsContext context.now source
         → IfOk result (λ c. IsNext source (block_in context.now) program.new c
         (repeat_ (stmt_trees body.now.items) (expr_tree cond.now) place)) }
+    ensures room { (source : Source) → IsContext context.now source
+        → HasAllRoom source (block_in context.now)
+        → FitsExpr (expr_tree cond.now) → FitsStmts (stmt_trees body.now.items)
+        → AllLed source (block_in context.now) (stmt_trees body.now.items)
+        → IfErr result (λ e. e ≡ NoMemory) }
+    ensures led { (source : Source) → IsContext context.now source
+        → AllLed source (block_in context.now) (stmt_trees body.now.items)
+        → AreLed source program.old.calls.items
+        → OnOk result (AreLed source program.new.calls.items) }
 {
     let list = make_list(alloc, context, program, body.as_slice())?;
     let test = add_value(alloc, context, program, cond)?;
@@ -316,6 +439,15 @@ fn make_stmt(
     ensures means { (source : Source) → IsContext context.now source
         → IfOk result (λ c. IsNext source (block_in context.now) program.new c
         (stmt_tree stmt.now)) }
+    ensures room { (source : Source) → IsContext context.now source
+        → HasAllRoom source (block_in context.now)
+        → FitsStmt (stmt_tree stmt.now)
+        → CallsLed source (block_in context.now) (stmt_tree stmt.now)
+        → IfErr result (λ e. e ≡ NoMemory) }
+    ensures led { (source : Source) → IsContext context.now source
+        → CallsLed source (block_in context.now) (stmt_tree stmt.now)
+        → AreLed source program.old.calls.items
+        → OnOk result (AreLed source program.new.calls.items) }
 {
     match stmt {
         StmtTree::Assign { target, value, .. } => {
@@ -331,18 +463,8 @@ fn make_stmt(
             other,
             ..
         } => make_case(alloc, context, program, selector, branches, other),
-        StmtTree::For {
-            var,
-            var_place,
-            first,
-            last,
-            by,
-            body,
-            place,
-        } => {
-            make_for(
-                alloc, context, program, var, *var_place, first, last, by, body, *place,
-            )
+        StmtTree::For { head, body, place } => {
+            make_for(alloc, context, program, head, body, *place)
         }
         StmtTree::While { cond, body, place } => {
             make_while(alloc, context, program, cond, body, *place)
@@ -369,6 +491,15 @@ pub(crate) fn make_list(
     ensures grows { OnOk result (Extends program.old program.new) }
     ensures is { (source : Source) → IsContext context.now source
         → IfOk result (λ l. IsList source (block_in context.now) program.new l (stmt_trees list.now)) }
+    ensures room { (source : Source) → IsContext context.now source
+        → HasAllRoom source (block_in context.now)
+        → FitsStmts (stmt_trees list.now)
+        → AllLed source (block_in context.now) (stmt_trees list.now)
+        → IfErr result (λ e. e ≡ NoMemory) }
+    ensures led { (source : Source) → IsContext context.now source
+        → AllLed source (block_in context.now) (stmt_trees list.now)
+        → AreLed source program.old.calls.items
+        → OnOk result (AreLed source program.new.calls.items) }
 {
     let mut made = Vec::new(alloc);
     for stmt in list {

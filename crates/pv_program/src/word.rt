@@ -5,6 +5,7 @@ ghost use Rattle.pv_tree.specs.Tree.{InstrTree};
 ghost use Rattle.pv_program.specs.Bodies.{LeadsSo};
 ghost use Rattle.pv_tree.specs.InstructionGroups.{group_of, is_jump};
 ghost use Rattle.pv_program.specs.Rows.{is_joined, is_taken, is_edge, is_end, is_change, is_combined, is_shift, WordChanges, WordCombines, WordShifts, WordJumps, WordJoins, WordWrites, WordFindsEdge, WordDoes};
+ghost use Rattle.pv_program.specs.Ready.{ChangeSuits, Suits};
 
 use pv_stl_run::{
     Action, Change, Combining, Joining, Junction, Math, Part, Relation, Shifting, Test, When,
@@ -89,6 +90,7 @@ pub(crate) fn end(op: Op) -> Option<Action>
     ensures each { is_some result ≡ is_end (group_of op) }
     ensures leads { (all : List InstrTree) (k : ℕ) (i : InstrTree)
         → IfSome result (λ d. LeadsSo all k i d) }
+    ensures suits { IfSome result (λ d. Suits d (group_of op)) }
 {
     match op {
         Op::Be => Some(Action::End),
@@ -101,6 +103,7 @@ pub(crate) fn end(op: Op) -> Option<Action>
 /// What changes the registers alone, whatever the instruction works on.
 pub(crate) fn changing(op: Op) -> Option<Change>
     ensures row { IfSome result (λ c. WordChanges op c) }
+    ensures suits { IfSome result (λ c. ChangeSuits c (group_of op)) }
     ensures each { is_some result ≡ is_change (group_of op) }
 {
     match op {

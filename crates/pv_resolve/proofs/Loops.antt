@@ -156,13 +156,13 @@ walked_next c old mid new w next root items i x inside is h g spot address leads
 
 -- behind the last step the operand is what it names
 pub walked_all : (c : Context) (old new : List Node) (w : Walk) (named : Operand) (o : operand.Operand) (items : List Step) (i : ℕ)
-    → items ≡ named.steps.items → length items ≤ i → HasWalked c old new w named.root (map step_tree (take i items))
+    → items ≡ named.steps.items → length items ≤ i → HasWalked c old new w named.root.value (map step_tree (take i items))
     → ((first : ℕ) (values : List ℤ) → spot_at first values o ≡ spot_of (walk_at w first (address_value w.address values)))
     → (source : Source) → IsContext c source → Names source (block_in c) old new o (operand_tree named)
 walked_all c old new w named o items i same past h spot source is =
-    walk_ends source (block_in c) old new w o named.root (steps_of (map step_tree named.steps.items)) named.place (operand_tree named)
+    walk_ends source (block_in c) old new w o named.root.value (steps_of (map step_tree named.steps.items)) named.place (operand_tree named)
     (operand_seen named) spot
-    (subst (λ l. IsWalk source (block_in c) old new w named.root (steps_of (map step_tree l))) (take_all i items past ∙ same) (h.leads source is))
+    (subst (λ l. IsWalk source (block_in c) old new w named.root.value (steps_of (map step_tree l))) (take_all i items past ∙ same) (h.leads source is))
 
 -- ---- alone
 

@@ -7,7 +7,7 @@ use Rattle.pv_word.specs.declared.types.Ty.{Ty}
 use Rattle.pv_place.specs.declared.place.Place.{Place}
 use Rattle.pv_types.specs.declared.name.Name.{Name}
 use Rattle.pv_types.specs.declared.declaration.Section.{Section}
-use Rattle.pv_types.specs.declared.declaration.Var.{Var}
+use Rattle.pv_types.specs.declared.var.Var.{Var}
 use Rattle.pv_types.specs.Tree.{TypeTree, VarTree, structure, named}
 use Rattle.pv_types.specs.View.{listed, section_of, start_of, var_tree}
 use Rattle.pv_types.specs.Leaves.{start_value}
@@ -90,21 +90,21 @@ pub passed_by : {A : Type 0} (b : Truth) (x y z : A) → false ≡ b → z ≡ y
 passed_by true x y z e h = absurd (true≢false (sym e))
 passed_by false x y z e h = h
 
-pub section_seen : (v : Var) → section_of (var_tree v) ≡ v.section
+pub section_seen : (v : Var) → section_of (var_tree v) ≡ v.of.now.section
 section_seen v = ap section_of (var_seen v)
 
-pub start_seen : (v : Var) → start_of (var_tree v) ≡ v.start
+pub start_seen : (v : Var) → start_of (var_tree v) ≡ v.of.now.start
 start_seen v = ap start_of (var_seen v)
 
-pub constant_begins : (source : Source) (act : Activation) (key : List ℕ) (v : Var) (n : ℤ) (held : Truth) → held ≡ is_const v.section
-    → held ≡ true → n ≡ start_value v.start → at (spots.fixed n) ≡ variable_begins source act key (var_tree v)
+pub constant_begins : (source : Source) (act : Activation) (key : List ℕ) (v : Var) (n : ℤ) (held : Truth) → held ≡ is_const v.of.now.section
+    → held ≡ true → n ≡ start_value v.of.now.start → at (spots.fixed n) ≡ variable_begins source act key (var_tree v)
 constant_begins source act key v n held test is e =
     chosen (is_const (section_of (var_tree v))) (at (spots.fixed (start_value (start_of (var_tree v))))) _ (at (spots.fixed n))
     (sym is ∙ test ∙ ap is_const (sym (section_seen v)))
     (ap (λ k. at (spots.fixed k)) (e ∙ ap start_value (sym (start_seen v))))
 
-pub variable_cells : (source : Source) (act : Activation) (key : List ℕ) (v : Var) (b : Begins) (held : Truth) → held ≡ is_const v.section
-    → held ≡ false → b ≡ cells_begin source act key v.section → b ≡ variable_begins source act key (var_tree v)
+pub variable_cells : (source : Source) (act : Activation) (key : List ℕ) (v : Var) (b : Begins) (held : Truth) → held ≡ is_const v.of.now.section
+    → held ≡ false → b ≡ cells_begin source act key v.of.now.section → b ≡ variable_begins source act key (var_tree v)
 variable_cells source act key v b held test is e =
     passed_by (is_const (section_of (var_tree v))) _ _ b (sym is ∙ test ∙ ap is_const (sym (section_seen v)))
     (e ∙ ap (cells_begin source act key) (sym (section_seen v)))
@@ -259,13 +259,13 @@ area_at source ty (Local name hash at_) more place = refl
 area_at source ty (Named name) more place = refl
 area_at source ty (InArea area bits byte n) more place = refl
 
-pub symbol_spot : (source : Source) (ty : Ty) (o : Operand) (s : spots.Spot) → s ≡ area_spot source ty o.root
+pub symbol_spot : (source : Source) (ty : Ty) (o : Operand) (s : spots.Spot) → s ≡ area_spot source ty o.root.value
     → s ≡ symbol_at source ty (operand_tree o)
 symbol_spot source ty o s e =
-    e ∙ area_at source ty o.root (steps_of (map step_tree o.steps.items)) o.place ∙ ap (symbol_at source ty) (sym (operand_seen o))
+    e ∙ area_at source ty o.root.value (steps_of (map step_tree o.steps.items)) o.place ∙ ap (symbol_at source ty) (sym (operand_seen o))
 
 pub symbol_found : (c : Context) (source : Source) (key : List ℕ) (symbol : Name × Operand × Ty) (s : spots.Spot) → IsContext c source
-    → Some (symbol_tree symbol) ≡ first_symbol (symbols_of c.scope.tables.now) key → s ≡ area_spot source symbol.2 symbol.1.root
+    → Some (symbol_tree symbol) ≡ first_symbol (symbols_of c.scope.tables.now) key → s ≡ area_spot source symbol.2 symbol.1.root.value
     → at s ≡ symbol_or_none source (first_symbol source.project.symbols key)
 symbol_found c source key symbol s is found e =
     ap (λ x. at x) (symbol_spot source symbol.2 symbol.1 s e)

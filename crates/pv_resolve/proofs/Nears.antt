@@ -4,7 +4,7 @@ use Rattle.std.specs.Prelude.{IfSome, IfNone, FitsSigned}
 use Rattle.std.specs.Int.{w64}
 use Rattle.std.proofs.lemmas.Option.{same_Some}
 use Rattle.pv_place.specs.declared.place.Place.{Place}
-use Rattle.pv_types.specs.declared.declaration.Var.{Var}
+use Rattle.pv_types.specs.declared.var.Var.{Var}
 use Rattle.pv_types.specs.Tree.{TypeTree, array}
 use Rattle.pv_types.specs.View.{var_tree}
 use Rattle.pv_types.specs.Leaves.{start_value}
@@ -113,11 +113,11 @@ byte_near c source block place is h within =
 -- ---- constants and symbols
 
 pub declared_fits : (source : Source) (block : BlockTree) → HasRoom source block → (key : List ℕ) (v : Var)
-    → Some (var_tree v) ≡ first_var block.vars key → FitsSigned w64 (start_value v.start)
+    → Some (var_tree v) ≡ first_var block.vars key → FitsSigned w64 (start_value v.of.now.start)
 declared_fits source block h key v found =
     subst (λ o. FitsSigned w64 (start_value o)) (start_seen v) (constant_fits source block h key (var_tree v) (sym found))
 
-pub symbol_root_fits : (o : Operand) → FitsSymbol (operand_tree o) → FitsRoot o.root
+pub symbol_root_fits : (o : Operand) → FitsSymbol (operand_tree o) → FitsRoot o.root.value
 symbol_root_fits o h = subst FitsSymbol (operand_seen o) h
 
 -- ---- elements

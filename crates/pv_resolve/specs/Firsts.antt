@@ -1,13 +1,11 @@
 -- Where the variables of a block lie, by a table that is made once.
-use Rattle.std.specs.Prelude.{◌≡◌, ℕ, ◌+◌, List, bytes_eq, Bool as Truth, if◌then◌else◌, Option, Some, None, option_map}
+use Rattle.std.specs.Prelude.{◌≡◌, ℕ, List, ◌++◌, bytes_eq, Bool as Truth, if◌then◌else◌, Option, Some, None, option_map}
 use Rattle.indexmap.specs.IndexMap.{get_by}
 use Rattle.pv_types.specs.declared.declaration.Section.{Section}
-use Rattle.pv_types.specs.declared.declaration.Var.{Var}
 use Rattle.pv_types.specs.Tree.{TypeTree, VarTree}
-use Rattle.pv_types.specs.View.{type_tree}
 use Rattle.pv_tree.specs.Tree.{BlockTree}
 use Rattle.pv_tree.specs.Scopes.{ProjectTree, is_of_instance}
-use Rattle.pv_mean.specs.Layout.{Laid, laid_among, is_brief_in, size_in}
+use Rattle.pv_mean.specs.Layout.{Laid, laid_among, is_brief_in}
 use Rattle.pv_mean.specs.Counts.{capped}
 use Rattle.pv_mean.specs.LaidOut.{laid_tree, capped_laid}
 use Rattle.pv_resolve.specs.declared.firsts.PartFirsts.{PartFirsts}
@@ -22,13 +20,18 @@ abbrev pub laid_after : Truth → Option Laid → TypeTree → ℕ → Option La
 laid_after same (Some l) ty at = Some l
 laid_after same None ty at = if same then Some (record { ty = ty; first = at }) else None
 
--- one more variable stands behind those of the table, if the test says that it is of the part
-pub record AddsVariable (project : ProjectTree) (test : Truth) (old new : PartFirsts) (v : Var) : Type 0 where
-  pub laid : (key : List ℕ) → laid_in new key
-      ≡ (if test then laid_after (bytes_eq key v.name.key) (laid_in old key) (type_tree v.ty) old.total
-      else laid_in old key)
-  pub total : new.total
-      ≡ (if test then capped (old.total + size_in project (type_tree v.ty)) else old.total)
+-- what the table had, or else what is found behind it
+abbrev pub laid_or : Option Laid → Option Laid → Option Laid
+laid_or (Some l) more = Some l
+laid_or None more = more
+
+-- more variables are in the table: those of the part are found there where they were found behind it
+pub record AddsVariables (project : ProjectTree) (test : Section → Truth) (old new : PartFirsts)
+    (vars : List VarTree) : Type 0 where
+  pub within : capped old.total ≡ old.total → capped new.total ≡ new.total
+  pub laid : capped old.total ≡ old.total → (more : List VarTree) (key : List ℕ)
+      → laid_or (laid_in new key) (option_map capped_laid (laid_among project test more key new.total))
+      ≡ laid_or (laid_in old key) (option_map capped_laid (laid_among project test (vars ++ more) key old.total))
 
 -- of each key the variable is found that is laid out among these, its number counted up to the bound
 abbrev pub FindsLaid : PartFirsts → ProjectTree → (Section → Truth) → List VarTree → Type 0

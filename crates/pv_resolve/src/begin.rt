@@ -35,7 +35,7 @@ use pv_eval::Spot;
 use pv_mean::{BEYOND, Laid, Part, activation_part};
 use pv_names::{Entry, Held, is_const, own_value, quoted_value, type_of_bits};
 use pv_tree::{Area, Block, BlockKind, Root};
-use pv_types::{Name, Section, Var};
+use pv_types::{Name, Section, Var, Vars};
 use pv_word::Ty;
 
 /// Where a name begins, with the steps behind it so far.
@@ -54,12 +54,12 @@ pub enum Where {
     Brief,
 }
 
-/// The value of a constant.
-pub fn start_of(var: &Var) -> Result<i64, ResolveFault>
-    ensures value { IfOk result (λ v. v ≡ start_value var.now.start) }
-    ensures fits { FitsSigned w64 (start_value var.now.start) → IsOk result }
+/// The value of constants that are declared at once.
+pub fn start_of(of: &Vars) -> Result<i64, ResolveFault>
+    ensures value { IfOk result (λ v. v ≡ start_value of.now.start) }
+    ensures fits { FitsSigned w64 (start_value of.now.start) → IsOk result }
 {
-    let Some(literal) = var.start else {
+    let Some(literal) = of.start else {
         return Ok(0);
     };
     number_of(&literal.value)
@@ -167,7 +167,7 @@ impl<'p> Context<'p> {
     /// The variable of this name among a part of these, of which the first begins at this cell.
     fn among(
         &self,
-        vars: &'p [Var],
+        vars: &'p [Vars],
         part: Part,
         name: &Name,
         first: u32,
@@ -323,20 +323,20 @@ impl<'p> Context<'p> {
     }
 
     /// A variable or a constant of the block.
-    fn variable(&self, name: &Name, var: &Var) -> Result<Begin<'p>, ResolveFault>
+    fn variable(&self, name: &Name, var: Var) -> Result<Begin<'p>, ResolveFault>
         ensures value { (source : Source) (first : ℕ) → IsContext self.now source
             → IfOk result (λ b. begin_at b first ≡ act.variable_begins source
-            (activation (block_in self.now) first) name.now.key (view.var_tree var.now)) }
+            (activation (block_in self.now) first) name.now.key (view.var_tree var.entry)) }
         ensures spot { IfOk result HasSpot }
         ensures room { (source : Source) → IsContext self.now source
-            → HasRoom source (block_in self.now) → FitsSigned w64 (start_value var.now.start)
+            → HasRoom source (block_in self.now) → FitsSigned w64 (start_value var.entry.of.now.start)
             → IsOk result }
     {
-        if is_const(var.section) {
-            let value = start_of(var)?;
+        if is_const(var.of.section) {
+            let value = start_of(var.of)?;
             Ok(Begin::At(Spot::Fixed(value)))
         } else {
-            self.cells_of(name, var.section)
+            self.cells_of(name, var.of.section)
         }
     }
 

@@ -1,7 +1,7 @@
 //! Where the variables of a block lie: found once for a block, in time that is linear in them, so that of each name it is then known
 //! without a walk along those in front of it.
-ghost use Rattle.std.specs.Prelude.{◌≡◌, ℕ, List, IfOk, OnOk, bytes_eq, option_map};
-ghost use Rattle.pv_types.specs.View.{type_tree, var_trees};
+ghost use Rattle.std.specs.Prelude.{◌≡◌, ◌+◌, ℕ, List, IfOk, OnOk, bytes_eq, option_map};
+ghost use Rattle.pv_types.specs.View.{type_tree, vars_tree, var_trees};
 ghost use Rattle.pv_tree.specs.Scopes.{ProjectTree, is_of_instance};
 ghost use Rattle.pv_tree.specs.Tree.{BlockTree};
 ghost use Rattle.pv_tree.specs.View.{block_tree};
@@ -10,14 +10,15 @@ ghost use Rattle.pv_mean.specs.LaidOut as counted;
 ghost use Rattle.pv_mean.specs.Sized.{sized_project};
 ghost use Rattle.pv_mean.specs.Sources.{Source};
 ghost use Rattle.pv_resolve.specs.Contexts.{IsContext, block_in};
-ghost use Rattle.pv_resolve.specs.Firsts.{laid_in, laid_after, AddsVariable, FindsLaid, AreFirsts};
+ghost use Rattle.pv_mean.specs.Counts.{capped};
+ghost use Rattle.pv_resolve.specs.Firsts.{laid_in, laid_after, AddsVariables, FindsLaid, AreFirsts};
 
 use crate::context::Context;
 use indexmap::IndexMap;
 use pv_edge::Text;
 use pv_mean::{BEYOND, Laid, Part, Sizes, activation_part};
 use pv_tree::Block;
-use pv_types::{Name, Var};
+use pv_types::{DeclType, Name, Vars};
 use std::alloc::{AllocError, Global};
 
 /// Where the variables of a part of a block's cells lie, counted from the part's first cell, and how many cells there are.
@@ -29,35 +30,46 @@ struct PartFirsts<'p> {
 
 impl<'p> PartFirsts<'p> {
     /// The next variable of a new name lies behind the others.
-    fn add_name(&mut self, var: &'p Var) -> Result<(), AllocError>
+    fn add_name(&mut self, name: &Name, ty: &'p DeclType) -> Result<(), AllocError>
         ensures laid { OnOk result ((key : List ℕ) → laid_in self.new key
-            ≡ laid_after (bytes_eq key var.now.name.key) (laid_in self.old key)
-            (type_tree var.now.ty) self.old.total) }
+            ≡ laid_after (bytes_eq key name.now.key) (laid_in self.old key)
+            (type_tree ty.now) self.old.total) }
         ensures total { OnOk result (self.new.total ≡ self.old.total) }
     {
-        if self.laid.contains_key(&var.name.key) {
+        let own = name.key();
+        if self.laid.contains_key(own) {
             return Ok(());
         }
-        let key = var.name.key.clone()?;
-        let ty = &var.ty;
+        let key = own.clone()?;
         let first = self.total;
         self.laid.insert(key, Laid { ty, first })?;
         Ok(())
     }
 
-    /// Puts a variable behind the others, if it is one of the part.
-    fn add(&mut self, sizes: &Sizes, part: Part, var: &'p Var) -> Result<(), AllocError>
-        ensures { OnOk result (AddsVariable (sized_project sizes.now)
-            (counted.test_of part var.now.section) self.old self.new var.now) }
+    /// Puts a variable of so many cells behind the others.
+    fn add_word(&mut self, name: &Name, ty: &'p DeclType, size: u32) -> Result<(), AllocError>
+        ensures laid { OnOk result ((key : List ℕ) → laid_in self.new key
+            ≡ laid_after (bytes_eq key name.now.key) (laid_in self.old key)
+            (type_tree ty.now) self.old.total) }
+        ensures total { OnOk result (self.new.total ≡ capped (self.old.total + size)) }
     {
-        if !part.has(var.section) {
+        self.add_name(name, ty)?;
+        self.total = self.total.saturating_add(size).min(BEYOND);
+        Ok(())
+    }
+
+    /// Puts variables that are declared at once behind the others, if they are of the part.
+    fn add(&mut self, sizes: &Sizes, part: Part, of: &'p Vars) -> Result<(), AllocError>
+        ensures { OnOk result (AddsVariables (sized_project sizes.now) (counted.test_of part)
+            self.old self.new (vars_tree of.now)) }
+    {
+        if !part.has(of.section) {
             return Ok(());
         }
-        self.add_name(var)?;
-        self.total = self
-            .total
-            .saturating_add(sizes.of_type(&var.ty))
-            .min(BEYOND);
+        let size = sizes.of_type(&of.ty);
+        for word in &of.names {
+            self.add_word(&word.0, &of.ty, size)?;
+        }
         Ok(())
     }
 
@@ -66,7 +78,7 @@ impl<'p> PartFirsts<'p> {
         alloc: Global,
         sizes: &Sizes,
         part: Part,
-        vars: &'p [Var],
+        vars: &'p [Vars],
     ) -> Result<PartFirsts<'p>, AllocError>
         ensures { IfOk result (λ p. FindsLaid p (sized_project sizes.now) (counted.test_of part)
             (var_trees vars.now)) }
@@ -75,8 +87,8 @@ impl<'p> PartFirsts<'p> {
             laid: IndexMap::new(alloc),
             total: 0,
         };
-        for var in vars {
-            so_far.add(sizes, part, var)?;
+        for of in vars {
+            so_far.add(sizes, part, of)?;
         }
         Ok(so_far)
     }
@@ -85,7 +97,7 @@ impl<'p> PartFirsts<'p> {
     fn find(&self, name: &Name) -> Option<Laid<'p>>
         ensures { option_map counted.laid_tree result ≡ laid_in self.now name.now.key }
     {
-        match self.laid.get(&name.key) {
+        match self.laid.get(name.key()) {
             Some(found) => Some(*found),
             None => None,
         }

@@ -1,5 +1,5 @@
 //! The tokens of sources, and the recognizer on its sample language.
-use pv_lex::{Kind, Language, LexFault, MAX_SOURCE, Token, tokens};
+use pv_lex::{Kind, Language, LexFault, MAX_SOURCE, Token, token_value, tokens};
 use pv_ll::recognize_sample;
 use pv_rows_form::Told;
 use std::alloc::{AllocError, Global};
@@ -17,8 +17,15 @@ fn letter(kind: Kind) -> &'static str {
     }
 }
 
+/// The bytes of a token.
+fn bytes_of<'a>(text: &'a [u8], token: &Token) -> &'a [u8] {
+    let (_before, rest) = text.split_at((token.place.offset as usize).min(text.len()));
+    let (bytes, _behind) = rest.split_at((token.len as usize).min(rest.len()));
+    bytes
+}
+
 /// A token: its kind and offset, its length but at the end, and a number's value.
-fn tell_token(token: &Token, told: &mut Told) {
+fn tell_token(text: &[u8], token: &Token, told: &mut Told) {
     told.text(letter(token.kind));
     told.number(i128::from(token.place.offset));
     if token.kind != Kind::End {
@@ -27,7 +34,7 @@ fn tell_token(token: &Token, told: &mut Told) {
     }
     if token.kind == Kind::Number {
         told.text("=");
-        told.number(token.value);
+        told.number(token_value(token.kind, bytes_of(text, token)));
     }
 }
 
@@ -41,7 +48,7 @@ pub fn tell_tokens(language: Language, bytes: &[u8], told: &mut Told) {
             let mut between = "";
             for token in all.as_slice() {
                 told.text(between);
-                tell_token(token, told);
+                tell_token(bytes, token, told);
                 between = " ";
             }
         }

@@ -7,7 +7,7 @@ use pv_gate::{GateFault, Gates};
 use pv_rows_form::{Row, Told};
 use pv_step::circuit;
 use pv_tree::{Block, Expr};
-use pv_types::MAX_LEAVES;
+use pv_types::{MAX_LEAVES, are_at_most};
 use std::alloc::{AllocError, Global};
 
 /// The bit of this number.
@@ -107,7 +107,7 @@ fn tell_is(is: Result<bool, AllocError>, told: &mut Told) {
 /// Whether a block and a requirement are of the first form, as `y` or `n` each.
 fn tell_both(block: &Block, a: &Expr, told: &mut Told) {
     tell_is(is_first_block(told.alloc(), block), told);
-    if block.interface.vars.len() > MAX_LEAVES {
+    if !are_at_most(block.interface.vars.as_slice(), MAX_LEAVES) {
         return told.text("n");
     }
     tell_is(is_first_requirement(told.alloc(), block, a), told);

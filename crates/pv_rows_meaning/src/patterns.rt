@@ -2,7 +2,7 @@
 use crate::reading::{number_of, operands_of, project_of, said};
 use pv_cells::Table;
 use pv_lex::MAX_SOURCE;
-use pv_names::{Scope, Tables, entries};
+use pv_names::{Entry, Scope, Tables, entries};
 use pv_pattern_read::{TextFault, named_in, said as asked};
 use pv_rows_form::{Row, Told, expanded};
 use pv_tree::{Operand, Project, Root};
@@ -70,6 +70,27 @@ fn tell_first(scope: &Scope, texts: &[String], told: &mut Told) {
     told.text("no fault");
 }
 
+/// The same over the names of the block of this number in these tables.
+fn tell_of(tables: &Tables, entry: u32, texts: &[String], told: &mut Told) {
+    if let Some(entry) = tables.entries().get(entry as usize) {
+        let scope = Scope { tables, entry };
+        tell_first(&scope, texts, told);
+    }
+}
+
+/// The same, where each block of the project has its table.
+fn tell_among(
+    all: &[Entry],
+    project: &Project,
+    entry: u32,
+    texts: &[String],
+    told: &mut Told,
+) -> Result<(), AllocError> {
+    let tables = Tables::of(told.alloc(), all, project.symbols())?;
+    tell_of(&tables, entry, texts, told);
+    Ok(())
+}
+
 /// The same over the names of the block of this number.
 fn tell_texts(
     project: &Project,
@@ -78,15 +99,7 @@ fn tell_texts(
     told: &mut Told,
 ) -> Result<(), AllocError> {
     let all = entries(told.alloc(), project.blocks().list.as_slice())?;
-    let tables = Tables::of(told.alloc(), all.as_slice(), project.symbols())?;
-    if let Some(entry) = all.as_slice().get(entry as usize) {
-        let scope = Scope {
-            tables: &tables,
-            entry,
-        };
-        tell_first(&scope, texts, told);
-    }
-    Ok(())
+    tell_among(all.as_slice(), project, entry, texts, told)
 }
 
 /// The cells of a project with those that the row names besides.
@@ -131,7 +144,7 @@ fn tell_address(operand: &Operand, told: &mut Told) {
         bits,
         byte,
         bit,
-    } = &operand.root
+    } = &*operand.root
     {
         told.words(area);
         told.text(" ");

@@ -10,7 +10,9 @@ use pv_rules_code::{
     wrong_counter, wrong_step,
 };
 use pv_rules_decl::{check_expression, pattern_breach};
-use pv_tree::{Block, Expr, Project};
+use pv_tree::{Block, Expr, Operand, Project};
+use pv_types::Name;
+use pv_word::Ty;
 use std::alloc::AllocError;
 
 /// An expression's type; else the number of the first rule that it breaks, with the offset.
@@ -30,18 +32,30 @@ fn tell_in(scope: &Scope, e: &Expr, told: &mut Told) {
     }
 }
 
+/// The same over the names of the first block of these tables.
+fn tell_of(tables: &Tables, e: &Expr, told: &mut Told) {
+    if let Some(entry) = tables.entries().first() {
+        let scope = Scope { tables, entry };
+        tell_in(&scope, e, told);
+    }
+}
+
+/// The same, where each block has its table.
+fn tell_among(
+    all: &[Entry],
+    symbols: &[(Name, Operand, Ty)],
+    e: &Expr,
+    told: &mut Told,
+) -> Result<(), AllocError> {
+    let tables = Tables::of(told.alloc(), all, symbols)?;
+    tell_of(&tables, e, told);
+    Ok(())
+}
+
 /// The same over the names of the first block.
 fn tell_over(blocks: &[Block], e: &Expr, told: &mut Told) -> Result<(), AllocError> {
     let all = entries(told.alloc(), blocks)?;
-    let tables = Tables::of(told.alloc(), all.as_slice(), &[])?;
-    if let Some(entry) = all.as_slice().first() {
-        let scope = Scope {
-            tables: &tables,
-            entry,
-        };
-        tell_in(&scope, e, told);
-    }
-    Ok(())
+    tell_among(all.as_slice(), &[], e, told)
 }
 
 /// The type of the row's expression over the names of the first block of its source, or the first rule that it breaks as a requirement does.
@@ -109,19 +123,27 @@ fn tell_rules(tables: &Tables, told: &mut Told) {
 }
 
 /// The same of entered blocks.
-fn tell_entered<'p>(all: &'p [Entry<'p>], told: &mut Told) {
-    match Tables::of(told.alloc(), all, &[]) {
-        Ok(tables) => tell_rules(&tables, told),
-        Err(_) => told.lose(),
-    }
+fn tell_entered(
+    all: &[Entry],
+    symbols: &[(Name, Operand, Ty)],
+    told: &mut Told,
+) -> Result<(), AllocError> {
+    let tables = Tables::of(told.alloc(), all, symbols)?;
+    tell_rules(&tables, told);
+    Ok(())
+}
+
+/// The same of blocks.
+fn tell_broken_by(blocks: &[Block], told: &mut Told) -> Result<(), AllocError> {
+    let all = entries(told.alloc(), blocks)?;
+    tell_entered(all.as_slice(), &[], told)
 }
 
 /// The rules on statements and calls that the row's source breaks.
 pub fn tell_breaches(row: Row<'_>, told: &mut Told) {
     let blocks = blocks_of(row, told);
-    match entries(told.alloc(), blocks.as_slice()) {
-        Ok(all) => tell_entered(all.as_slice(), told),
-        Err(_) => told.lose(),
+    if tell_broken_by(blocks.as_slice(), told).is_err() {
+        told.lose();
     }
     drop(blocks);
 }

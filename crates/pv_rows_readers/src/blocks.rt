@@ -4,7 +4,7 @@ use crate::trees::{View, tell_literal, tell_name, tell_operand, tell_place, ty_w
 use pv_place::Place;
 use pv_rows_form::Told;
 use pv_tree::{Block, BlockKind, Body};
-use pv_types::{DeclType, Literal, Name, Section, Var};
+use pv_types::{DeclType, Literal, Name, Section, Vars};
 
 fn tell_named(view: View, name: &Name, place: Place, told: &mut Told) {
     tell_name(view, name, told);
@@ -61,17 +61,29 @@ fn tell_type(view: View, ty: &DeclType, told: &mut Told) {
 }
 
 #[cycle(typing)]
-fn tell_vars(view: View, vars: &[Var], told: &mut Told) {
-    for var in vars {
-        told.text(section_word(var.section));
-        tell_named(view, &var.name, var.place, told);
-        told.text(":");
-        tell_type(view, &var.ty, told);
-        if let Some(start) = &var.start {
-            told.text("=");
-            tell_start(view, start, told);
-        }
-        told.text(" ");
+fn tell_var(view: View, word: &(Name, Place), of: &Vars, told: &mut Told) {
+    told.text(section_word(of.section));
+    tell_named(view, &word.0, word.1, told);
+    told.text(":");
+    tell_type(view, &of.ty, told);
+    if let Some(start) = &of.start {
+        told.text("=");
+        tell_start(view, start, told);
+    }
+    told.text(" ");
+}
+
+#[cycle(typing)]
+fn tell_words(view: View, of: &Vars, told: &mut Told) {
+    for word in &of.names {
+        tell_var(view, word, of, told);
+    }
+}
+
+#[cycle(typing)]
+fn tell_vars(view: View, vars: &[Vars], told: &mut Told) {
+    for of in vars {
+        tell_words(view, of, told);
     }
 }
 

@@ -43,7 +43,7 @@ fn tell_bound(case: &Case, told: &mut Told) {
 fn tell_symbols(case: &Case, told: &mut Told) {
     told.text("; symbols");
     for symbol in case.symbols.as_slice() {
-        tell_text(symbol.name.spelled.bytes(), told);
+        tell_text(symbol.name.spelled(), told);
         tell_operand(PLAIN, &symbol.at, told);
         tell_place(PLAIN, symbol.at.place, told);
         told.text(":");

@@ -6,7 +6,7 @@ use crate::trees::{
 };
 use pv_place::Place;
 use pv_rows_form::Told;
-use pv_tree::{Choice, Expr, Instr, Stmt};
+use pv_tree::{Choice, Expr, ForHead, Instr, Stmt};
 use pv_types::{Literal, Name};
 
 fn tell_choice(view: View, choice: &Choice, told: &mut Told) {
@@ -45,21 +45,14 @@ fn tell_head(view: View, word: &str, place: Place, e: &Expr, told: &mut Told) {
 }
 
 /// What stands behind FOR: the variable, its start and end, and the step.
-fn tell_turns(
-    view: View,
-    (var, place): (&Name, Place),
-    first: &Expr,
-    last: &Expr,
-    by: &Option<Literal>,
-    told: &mut Told,
-) {
+fn tell_turns(view: View, head: &ForHead, told: &mut Told) {
     told.text(" ");
-    tell_name(view, var, told);
-    tell_head(view, "", place, first, told);
+    tell_name(view, &head.var, told);
+    tell_head(view, "", head.var_place, &head.first, told);
     told.text(" ");
-    tell_expr(view, last, told);
+    tell_expr(view, &head.last, told);
     told.text(" ");
-    match by {
+    match &head.by {
         Some(step) => tell_literal(view, step, told),
         None => told.text("-"),
     }
@@ -81,17 +74,9 @@ fn tell_front(view: View, stmt: &Stmt, told: &mut Told) {
             tell_head(view, "CASE", *place, selector, told);
             told.text(" ");
         }
-        Stmt::For {
-            var,
-            var_place,
-            first,
-            last,
-            by,
-            place,
-            ..
-        } => {
+        Stmt::For { head, place, .. } => {
             tell_word(view, "FOR", *place, told);
-            tell_turns(view, (var, *var_place), first, last, by, told);
+            tell_turns(view, head, told);
             told.text("{");
         }
         Stmt::While { cond, place, .. } => {
@@ -220,21 +205,21 @@ fn tell_plain(view: View, stmt: &Stmt, told: &mut Told) {
 
 /// An instruction with its `;`.
 pub fn tell_instr(view: View, instr: &Instr, told: &mut Told) {
-    if let Some((name, place)) = &instr.label {
-        tell_named(view, name, *place, told);
+    if let Some(label) = instr.label() {
+        tell_named(view, &label.0, label.1, told);
         told.text(":");
     }
     told.text(op_word(instr.op));
     tell_more(view, instr.place, told);
-    if let Some(operand) = &instr.operand {
+    if let Some(operand) = instr.operand() {
         told.text(" ");
         tell_operand(view, operand, told);
     }
-    if let Some(literal) = &instr.literal {
+    if let Some(literal) = instr.literal() {
         told.text(" ");
         tell_literal(view, literal, told);
     }
-    if let Some(call) = &instr.call {
+    if let Some(call) = instr.call() {
         told.text(" ");
         tell_call(view, call, told);
     }

@@ -85,9 +85,9 @@ pub fn tell_more(view: View, place: Place, told: &mut Told) {
 
 pub fn tell_name(view: View, name: &Name, told: &mut Told) {
     if view.full {
-        told.bytes(name.key.bytes());
+        told.bytes(name.key().bytes());
     } else {
-        told.bytes(name.spelled.bytes());
+        told.bytes(name.spelled());
     }
 }
 

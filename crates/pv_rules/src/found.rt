@@ -3,12 +3,13 @@ ghost use Rattle.std.specs.Prelude.{◌≡◌, IfOk, map};
 ghost use Rattle.pv_tree.specs.View.{block_tree};
 ghost use Rattle.pv_tree.specs.Projects.{project_tree};
 ghost use Rattle.pv_tree.specs.Scopes.{ProjectTree};
+ghost use Rattle.pv_names.specs.Entries.{block_of};
 ghost use Rattle.pv_names.specs.Tables.{project_of};
 ghost use Rattle.pv_rules.specs.Found.{AreDeclared, AreStated, AreWhole, AreChained, AreInstructed, AreAll};
 
 use crate::project_rules::{beyond_bounds, misfit, missing_name, out_of_range, wrong_address};
 use crate::values::not_callable;
-use pv_names::{Tables, entries};
+use pv_names::{Entry, Tables, entries};
 use pv_place::Place;
 use pv_rules_call::{call_cycle, call_too_deep};
 use pv_rules_code::{
@@ -192,6 +193,20 @@ fn all_near<'p>(
     })
 }
 
+/// Of each rule the nearest place, where each block has its table.
+fn nearest_among(
+    alloc: Global,
+    all: &[Entry],
+    blocks: &[Block],
+    symbols: &[(Name, Operand, Ty)],
+) -> Result<Nearest, AllocError>
+    requires { map block_of all.now ≡ map block_tree blocks.now }
+    ensures { IfOk result (λ n. AreAll (project_tree blocks.now symbols.now) n) }
+{
+    let tables = Tables::of(alloc, all, symbols)?;
+    all_near(alloc, &tables, blocks)
+}
+
 /// Of each rule that blocks and symbols can break the nearest place.
 pub(crate) fn nearest_of(
     alloc: Global,
@@ -201,6 +216,5 @@ pub(crate) fn nearest_of(
     ensures { IfOk result (λ n. AreAll (project_tree blocks.now symbols.now) n) }
 {
     let all = entries(alloc, blocks)?;
-    let tables = Tables::of(alloc, all.as_slice(), symbols)?;
-    all_near(alloc, &tables, blocks)
+    nearest_among(alloc, all.as_slice(), blocks, symbols)
 }

@@ -34,7 +34,7 @@ fn same_truth(a: bool, b: bool) -> bool
 fn same_name(a: &Name, b: &Name) -> bool
     ensures { result ≡ same_name a.now b.now }
 {
-    a.key == b.key && a.spelled == b.spelled && same_truth(a.paired, b.paired)
+    a.key() == b.key() && a.spelled() == b.spelled() && same_truth(a.paired(), b.paired())
 }
 
 /// Whether two operands begin with the same name at the same place.
@@ -169,7 +169,7 @@ fn instr_writes(scope: &Scope, instr: &Instr, operand: &Operand) -> bool
     ensures { result ≡ is_written (scope_of scope.now) (parts.calls_of_instruction
         (instr_tree instr.now)) (operand_tree operand.now) }
 {
-    match &instr.call {
+    match instr.call() {
         Some(call) => call_writes(scope, how_of(instr.op), call, operand),
         None => false,
     }

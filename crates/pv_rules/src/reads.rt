@@ -18,7 +18,7 @@ use pv_names::{Scope, Thing, is_void, root_place};
 use pv_place::Place;
 use pv_rules_expr::nearer_of;
 use pv_rules_instr::{operand_of_instruction, read_operand};
-use pv_tree::{Arg, Expr, Instr, Operand, Step, Stmt};
+use pv_tree::{Arg, Expr, ForHead, Instr, Operand, Step, Stmt};
 use pv_types::Literal;
 
 /// The name of a function without a value that an operand is.
@@ -194,6 +194,15 @@ fn value_in_bounds(
     value_in(scope, code, last, so_far)
 }
 
+/// The nearest one, with those of the start and the end of a FOR.
+fn value_in_head(scope: &Scope, code: Code, head: &ForHead, nearest: Option<Place>) -> Option<Place>
+    ensures { let f = value_at (scope_of scope.now) (calls_of_code code.entry) in
+        result ≡ nearest_in f (operands_in (expr_tree head.now.first)
+        ++ operands_in (expr_tree head.now.last)) nearest }
+{
+    value_in_bounds(scope, code, &head.first, &head.last, nearest)
+}
+
 /// The nearest one, with those of a statement by itself.
 pub(crate) fn value_in_stmt(
     scope: &Scope,
@@ -213,7 +222,7 @@ pub(crate) fn value_in_stmt(
         }
         Stmt::If { arms, .. } => value_in_conditions(scope, code, arms.as_slice(), nearest),
         Stmt::Case { selector, .. } => value_in(scope, code, selector, nearest),
-        Stmt::For { first, last, .. } => value_in_bounds(scope, code, first, last, nearest),
+        Stmt::For { head, .. } => value_in_head(scope, code, head, nearest),
         Stmt::While { cond, .. } => value_in(scope, code, cond, nearest),
         Stmt::Repeat { cond, .. } => value_in(scope, code, cond, nearest),
         Stmt::Call(call) => value_in_args(scope, code, call.args.as_slice(), nearest),
@@ -247,7 +256,7 @@ fn value_in_called(
         result ≡ nearest_in f (flat_map reads_of_call (option_to_list
         (instr_tree instr.now).call)) nearest }
 {
-    match &instr.call {
+    match instr.call() {
         Some(call) => value_in_args(scope, code, call.args.as_slice(), nearest),
         None => nearest,
     }

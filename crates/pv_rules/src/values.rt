@@ -109,7 +109,7 @@ fn call_in_instr(scope: &Scope, instr: &Instr, nearest: Option<Place>) -> Option
     ensures { result ≡ nearest_in (call_at (scope_of scope.now))
         (calls_of_instruction (instr_tree instr.now)) nearest }
 {
-    match &instr.call {
+    match instr.call() {
         Some(call) => nearer_of(nearest, call_place(scope, how_of(instr.op), call)),
         None => nearest,
     }

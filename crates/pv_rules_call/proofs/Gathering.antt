@@ -24,12 +24,12 @@ use Rattle.pv_rules_call.specs.Gathered.{calls_at, calls_of_all, with_sites, wit
 -- ---- forms
 
 pub stmt-while : (cond : _) (body : _) (place : Place)
-    → stmt_tree (form.While cond body place) ≡ while_ (expr_tree cond) (stmt_trees body.items) place
+    → stmt_tree (form.While cond body place) ≡ while_ (expr_tree cond.value) (stmt_trees body.items) place
 stmt-while cond body place =
     ap stmt_tree (sym (rolls-While cond body place)) ∙ fold-roll-Stmt StmtTree stmt_step (Stmt-F.While cond body place)
 
 pub stmt-repeat : (body : _) (cond : _) (place : Place)
-    → stmt_tree (form.Repeat body cond place) ≡ repeat_ (stmt_trees body.items) (expr_tree cond) place
+    → stmt_tree (form.Repeat body cond place) ≡ repeat_ (stmt_trees body.items) (expr_tree cond.value) place
 stmt-repeat body cond place =
     ap stmt_tree (sym (rolls-Repeat body cond place)) ∙ fold-roll-Stmt StmtTree stmt_step (Stmt-F.Repeat body cond place)
 

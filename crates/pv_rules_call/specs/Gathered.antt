@@ -1,5 +1,5 @@
 -- The links of calls, gathered along the statements and instructions of a block.
-use Rattle.std.specs.Prelude.{ℕ, List, Vec, ◌++◌, map, flat_map, Option, option_map}
+use Rattle.std.specs.Prelude.{ℕ, List, Vec, Box, ◌++◌, map, flat_map, Option, option_map}
 use Rattle.std.specs.declared.alloc.Global.{Global}
 use Rattle.pv_place.specs.declared.place.Place.{Place}
 use Rattle.pv_tree.specs.declared.expr.Expr.{Expr}
@@ -32,5 +32,5 @@ arm_trees list = arms_of (map (λ a. (expr_tree a.0, stmts_of (map stmt_tree a.1
 abbrev pub branch_trees : List (Vec (Choice × Option Choice) Global × Vec Stmt Global) → BranchTrees
 branch_trees list = branches_of (map (λ b. (b.0.items, stmts_of (map stmt_tree b.1.items))) list)
 
-abbrev pub other_tree : Option (Vec Stmt Global) → ElseTree
-other_tree other = else_of (option_map (λ o. stmts_of (map stmt_tree o.items)) other)
+abbrev pub other_tree : Option (Box (Vec Stmt Global) Global) → ElseTree
+other_tree other = else_of (option_map (λ o. stmts_of (map stmt_tree o.value.items)) other)

@@ -76,7 +76,7 @@ fn with_instr(scope: &Scope, links: Vec<Link>, instr: &Instr) -> Result<Vec<Link
     ensures { IfOk result (λ new. map link_tree new.items ≡ with_sites (scope_of scope.now)
         (map link_tree links.items) (calls_of_instruction (instr_tree instr.now))) }
 {
-    match &instr.call {
+    match instr.call() {
         Some(call) => with_call(scope, links, how_of(instr.op), call),
         None => Ok(links),
     }

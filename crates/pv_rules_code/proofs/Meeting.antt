@@ -8,7 +8,7 @@ use Rattle.std.proofs.lemmas.List.Folds.{list_any-append}
 use Rattle.std.proofs.lemmas.List.Elements.{filter_map-append}
 use Rattle.pv_place.specs.declared.place.Place.{Place}
 use Rattle.pv_types.specs.View.{var_tree}
-use Rattle.pv_types.specs.declared.declaration.Var.{Var}
+use Rattle.pv_types.specs.declared.var.Var.{Var}
 use Rattle.pv_types.proofs.ForCallers.{var_seen}
 use Rattle.pv_tree.specs.Callees.{How, Param, first_param, params_of, only_input, param_for}
 use Rattle.pv_tree.specs.Tree.{PlacedName, ArgTree, BlockTree}
@@ -161,7 +161,7 @@ pub gives_unknown : (how : How) (b : BlockTree) (a : ArgTree) (word : PlacedName
 gives_unknown how b a word key c is found = sym (or_false c) ∙ ap (λ o. c || gives key o) (found ∙ for_some how b a word is)
 
 pub gives_only : (how : How) (b : BlockTree) (a : ArgTree) (v : Var) (key : List ℕ) → a.name ≡ None → Some (param_of (var_tree v)) ≡ only_input b
-    → bytes_eq key v.name.key ≡ gives key (param_for how b a)
+    → bytes_eq key v.name.now.key ≡ gives key (param_for how b a)
 gives_only how b a v key is found =
     ap (λ t. bytes_eq key (param_of t).key) (sym (var_seen v)) ∙ ap (gives key) (found ∙ for_none how b a is)
 

@@ -85,7 +85,7 @@ fn counts(around: Loop, name: &Name) -> bool
     ensures { result ≡ counts name.now.key (loop_tree around.entry) }
 {
     match around {
-        Loop::For(var) => name.key == var.key,
+        Loop::For(var) => name.key() == var.key(),
         Loop::Other => false,
     }
 }
@@ -106,7 +106,7 @@ pub(crate) fn is_counted(loops: &[Loop], name: &Name) -> bool
 pub(crate) fn is_counted_operand(loops: &[Loop], operand: &Operand) -> bool
     ensures { result ≡ is_counted_operand (map loop_tree loops.now) (operand_tree operand.now) }
 {
-    match &operand.root {
+    match &*operand.root {
         Root::Local { name, .. } => match operand.steps.as_slice().split_first() {
             Some(_) => false,
             None => is_counted(loops, name),

@@ -1,5 +1,6 @@
 //! Values that don't fit the target that an assignment, or a FOR, gives them to.
 ghost use Rattle.std.specs.Prelude.{◌≡◌, IfOk};
+ghost use Rattle.pv_tree.specs.Parts as parts;
 ghost use Rattle.pv_tree.specs.Rules.Misfits as misfits;
 ghost use Rattle.pv_tree.specs.View.{call_tree, expr_tree, operand_tree, stmt_tree};
 ghost use Rattle.pv_names.specs.InScope.{scope_of};
@@ -14,7 +15,7 @@ use crate::parts::want_of_target;
 use pv_names::{Callee, How, Scope, Sort, Want, first_place, one_of, taken};
 use pv_place::Place;
 use pv_rules_expr::{is_whole, nearer_of, where_is};
-use pv_tree::{CallTree, Expr, Operand, Stmt};
+use pv_tree::{CallTree, Expr, ForHead, Operand, Stmt};
 use std::alloc::{AllocError, Global};
 
 /// What the value of a called block is.
@@ -95,6 +96,17 @@ fn bounds_place(
     Ok(nearer_of(one, other))
 }
 
+/// The same, by what stands before DO in the FOR.
+fn head_place(scope: &Scope, alloc: Global, head: &ForHead) -> Result<Option<Place>, AllocError>
+    ensures { let scope = scope_of scope.now in
+        let want = parts.want_of_counter scope head.now.var head.now.var_place in
+        IfOk result (λ o. o ≡ nearer_of (bound_at scope want (expr_tree head.now.first))
+        (bound_at scope want (expr_tree head.now.last))) }
+{
+    let want = want_of_counter(scope, &head.var, head.var_place);
+    bounds_place(scope, alloc, want, &head.first, &head.last)
+}
+
 /// The place of an assignment or of a FOR's bound whose value doesn't fit, if a statement is one.
 pub(crate) fn misfit_at(
     scope: &Scope,
@@ -120,16 +132,7 @@ pub(crate) fn misfit_at(
             let misfits = called_misfits(scope, alloc, target, call)?;
             Ok(where_is(misfits, *place))
         }
-        Stmt::For {
-            var,
-            var_place,
-            first,
-            last,
-            ..
-        } => {
-            let want = want_of_counter(scope, var, *var_place);
-            bounds_place(scope, alloc, want, first, last)
-        }
+        Stmt::For { head, .. } => head_place(scope, alloc, head),
         Stmt::If { .. } => Ok(None),
         Stmt::Case { .. } => Ok(None),
         Stmt::While { .. } => Ok(None),

@@ -48,7 +48,7 @@ fn is_called_date(called: Called) -> bool
     ensures { result ≡ is_called_date (called_tree called.entry) }
 {
     match called {
-        Called::Variable(var) => is_date(&var.ty),
+        Called::Variable(var) => is_date(&var.of.ty),
         Called::Block(_) => false,
         Called::NoCallee => false,
         Called::Undeclared => false,

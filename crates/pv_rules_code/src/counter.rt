@@ -20,7 +20,7 @@ use pv_names::{
 };
 use pv_place::Place;
 use pv_rules_expr::{name_of_missing, where_is};
-use pv_tree::Stmt;
+use pv_tree::{ForHead, Stmt};
 use pv_types::{DeclType, Literal, Name, Var};
 
 /// The name of a variable of DATE_AND_TIME that is used.
@@ -148,11 +148,11 @@ fn doesnt_count(scope: &Scope, ty: &DeclType) -> bool
 }
 
 /// Whether a declaration is a constant, or no INT or DINT.
-fn isnt_counting(scope: &Scope, var: &Var) -> bool
-    ensures { let v = var_tree var.now in result ≡ (is_const (section_of v)
+fn isnt_counting(scope: &Scope, var: Var) -> bool
+    ensures { let v = var_tree var.entry in result ≡ (is_const (section_of v)
         || rule.doesnt_count (scope_of scope.now) (declared_type_of v)) }
 {
-    is_const(var.section) || doesnt_count(scope, &var.ty)
+    is_const(var.of.section) || doesnt_count(scope, &var.of.ty)
 }
 
 /// Whether a word isn't a local INT or DINT.
@@ -178,13 +178,21 @@ fn count_at(scope: &Scope, what: Count, loops: &[Loop], name: &Name, place: Plac
     }
 }
 
+/// The same, by what stands before DO in the FOR.
+fn count_of(scope: &Scope, what: Count, loops: &[Loop], head: &ForHead) -> Option<Place>
+    ensures { result ≡ count_at what (scope_of scope.now) (map loop_tree loops.now)
+        (head.now.var, head.now.var_place) }
+{
+    count_at(scope, what, loops, &head.var, head.var_place)
+}
+
 /// Where the variable of a FOR breaks the rule, if a statement is one.
 pub(crate) fn count_place(scope: &Scope, what: Count, loops: &[Loop], stmt: &Stmt) -> Option<Place>
     ensures { result ≡ count_place what (scope_of scope.now) (map loop_tree loops.now)
         (stmt_tree stmt.now) }
 {
     match stmt {
-        Stmt::For { var, var_place, .. } => count_at(scope, what, loops, var, *var_place),
+        Stmt::For { head, .. } => count_of(scope, what, loops, head),
         Stmt::Assign { .. } => None,
         Stmt::AssignCall { .. } => None,
         Stmt::If { .. } => None,
@@ -215,17 +223,24 @@ pub(crate) fn want_of_counter(scope: &Scope, name: &Name, place: Place) -> Want
     }
 }
 
+/// Where the step of a FOR breaks the rule, by what stands before DO.
+fn step_of(scope: &Scope, what: Stride, head: &ForHead) -> Option<Place>
+    ensures { let want = parts.want_of_counter (scope_of scope.now) head.now.var
+        head.now.var_place in result ≡ option_and_then (by_at what want) head.now.by }
+{
+    step_at(
+        what,
+        want_of_counter(scope, &head.var, head.var_place),
+        &head.by,
+    )
+}
+
 /// Where the step of a FOR breaks the rule, if a statement is one.
 pub(crate) fn step_place(scope: &Scope, what: Stride, stmt: &Stmt) -> Option<Place>
     ensures { result ≡ step_place what (scope_of scope.now) (stmt_tree stmt.now) }
 {
     match stmt {
-        Stmt::For {
-            var,
-            var_place,
-            by,
-            ..
-        } => step_at(what, want_of_counter(scope, var, *var_place), by),
+        Stmt::For { head, .. } => step_of(scope, what, head),
         Stmt::Assign { .. } => None,
         Stmt::AssignCall { .. } => None,
         Stmt::If { .. } => None,

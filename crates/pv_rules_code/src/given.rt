@@ -71,7 +71,7 @@ fn meet_param<'p>(
             None => Ok(()),
         },
         None => match only_var(entry) {
-            Some(var) => meet(table, &var.name),
+            Some(var) => meet(table, var.name),
             None => Ok(()),
         },
     }
@@ -109,11 +109,11 @@ fn must_be(block: &Block, section: Section) -> bool
 }
 
 /// Whether a variable has to be given and isn't among these names.
-fn is_lacking(block: &Block, var: &Var, names: &Firsts) -> bool
-    ensures { let v = var_tree var.now in result ≡ (must_be (block_tree block.now) (section_of v)
+fn is_lacking(block: &Block, var: Var, names: &Firsts) -> bool
+    ensures { let v = var_tree var.entry in result ≡ (must_be (block_tree block.now) (section_of v)
         && not (is_in names.now (name_of v).key)) }
 {
-    must_be(block, var.section) && !has(names, &var.name)
+    must_be(block, var.of.section) && !has(names, var.name)
 }
 
 /// Whether a parameter that has to be given isn't.
@@ -127,8 +127,8 @@ fn lacks_some<'p>(
         ≡ lacks_some (how_tree how) (block_of entry.now) (map arg_tree args.now)) }
 {
     let names = given(alloc, how, entry, args)?;
-    for var in entry.block.interface.vars.as_slice() {
-        if is_lacking(entry.block, var, &names) {
+    for var in entry.vars() {
+        if is_lacking(entry.block, *var, &names) {
             return Ok(true);
         }
     }

@@ -32,7 +32,7 @@ fn written_operand(instr: &Instr) -> Option<&Operand>
         ≡ groups.written_operand (instr_tree instr.now) }
 {
     if is_written(instr.op) {
-        instr.operand.as_ref()
+        instr.operand()
     } else {
         None
     }
@@ -94,7 +94,7 @@ fn instr_parts(
         ≡ near_parts what scope (parts_of_instruction scope (instr_tree instr.now)) None) }
 {
     let so_far = look_in_named(scope, alloc, what, instr)?;
-    match &instr.call {
+    match instr.call() {
         Some(call) => look_in_call(scope, alloc, what, how_of(instr.op), call, so_far),
         None => Ok(so_far),
     }
@@ -114,7 +114,7 @@ fn instr_place(
         Site::Parts(look) => instr_parts(scope, alloc, look, instr),
         Site::Misfit => Ok(None),
         Site::Target(aim) => instr_target(scope, alloc, aim, instr),
-        Site::Call(ask) => match &instr.call {
+        Site::Call(ask) => match instr.call() {
             Some(call) => call_place(scope, alloc, ask, &[], how_of(instr.op), call),
             None => Ok(None),
         },

@@ -15,7 +15,7 @@ use crate::fit::want_of_type;
 use pv_names::{How, Param, Scope, Sort, Want, type_of_param};
 use pv_place::Place;
 use pv_rules_expr::{Look, look_in, look_in_operand};
-use pv_tree::{CallTree, Expr, Operand, Stmt};
+use pv_tree::{CallTree, Expr, ForHead, Operand, Stmt};
 use std::alloc::{AllocError, Global};
 
 /// What an assignment wants of its value, by what its target is.
@@ -125,6 +125,23 @@ fn look_in_bounds(
     look_in(scope, alloc, what, want, last, so_far)
 }
 
+/// The nearest place, with those of what stands before DO in a FOR.
+fn look_in_head(
+    scope: &Scope,
+    alloc: Global,
+    what: Look,
+    head: &ForHead,
+) -> Result<Option<Place>, AllocError>
+    ensures { let scope = scope_of scope.now in
+        let want = parts.want_of_counter scope head.now.var head.now.var_place in
+        IfOk result (λ new. new ≡ near_parts what scope
+        (parts.parts_of scope want (expr_tree head.now.first)
+        ++ parts.parts_of scope want (expr_tree head.now.last)) None) }
+{
+    let want = want_of_counter(scope, &head.var, head.var_place);
+    look_in_bounds(scope, alloc, what, want, &head.first, &head.last)
+}
+
 /// Where an expression of a statement breaks the rule.
 pub(crate) fn parts_place(
     scope: &Scope,
@@ -150,16 +167,7 @@ pub(crate) fn parts_place(
             Ok(best)
         }
         Stmt::Case { selector, .. } => look_in(scope, alloc, what, Want::Nothing, selector, None),
-        Stmt::For {
-            var,
-            var_place,
-            first,
-            last,
-            ..
-        } => {
-            let want = want_of_counter(scope, var, *var_place);
-            look_in_bounds(scope, alloc, what, want, first, last)
-        }
+        Stmt::For { head, .. } => look_in_head(scope, alloc, what, head),
         Stmt::While { cond, .. } => look_in(scope, alloc, what, Want::Nothing, cond, None),
         Stmt::Repeat { cond, .. } => look_in(scope, alloc, what, Want::Nothing, cond, None),
         Stmt::Exit(_) => Ok(None),

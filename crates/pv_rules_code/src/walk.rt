@@ -4,7 +4,7 @@
 //! deep as they nest.
 ghost use Rattle.std.specs.Prelude.{◌≡◌, ◌∷◌, IfOk, map, option_map};
 ghost use Rattle.pv_tree.specs.View.{expr_tree, stmt_tree, stmt_trees, arms_of, branches_of, else_of};
-ghost use Rattle.pv_tree.specs.Parts.{spots_of, spots_of_stmts, spots_of_arms, spots_of_branches, spots_of_else};
+ghost use Rattle.pv_tree.specs.Parts.{a_for, spots_of, spots_of_stmts, spots_of_arms, spots_of_branches, spots_of_else};
 ghost use Rattle.pv_names.specs.InScope.{scope_of};
 ghost use Rattle.pv_rules_expr.specs.NearestIn.{nearest_in};
 ghost use Rattle.pv_rules_code.specs.Sites.{site_place};
@@ -15,7 +15,7 @@ use crate::sites::site_place;
 use pv_names::Scope;
 use pv_place::Place;
 use pv_rules_expr::nearer_of;
-use pv_tree::{Choice, Expr, Stmt};
+use pv_tree::{Choice, Expr, ForHead, Stmt};
 use std::alloc::{AllocError, Global};
 
 /// The loops around the statements of a loop.
@@ -30,6 +30,13 @@ fn inside<'w>(
     all.push(this)?;
     all.extend_from_slice(loops)?;
     Ok(all)
+}
+
+/// The loop of a FOR, by what stands before DO.
+fn loop_of(head: &ForHead) -> Loop
+    ensures { loop_tree result ≡ a_for head.now.var }
+{
+    Loop::For(&head.var)
 }
 
 /// The nearest place, with those of what the arms of an IF run.
@@ -81,12 +88,12 @@ fn walk_other<'w>(
     alloc: Global,
     what: Site,
     loops: &[Loop<'w>],
-    other: &'w Option<Vec<Stmt>>,
+    other: &'w Option<Box<Vec<Stmt>>>,
     nearest: Option<Place>,
 ) -> Result<Option<Place>, AllocError>
     ensures { IfOk result (λ new. new ≡ nearest_in (site_place what (scope_of scope.now))
         (spots_of_else (map loop_tree loops.now)
-        (else_of (option_map (λ o. stmt_trees o.items) other.now))) nearest) }
+        (else_of (option_map (λ o. stmt_trees o.value.items) other.now))) nearest) }
 {
     match other {
         Some(list) => walk_all(scope, alloc, what, loops, list.as_slice(), nearest),
@@ -147,8 +154,8 @@ fn walk<'w>(
             let in_branches = walk_branches(scope, alloc, what, loops, branches, so_far)?;
             walk_other(scope, alloc, what, loops, other, in_branches)
         }
-        Stmt::For { var, body, .. } => {
-            walk_loop(scope, alloc, what, Loop::For(var), loops, body, so_far)
+        Stmt::For { head, body, .. } => {
+            walk_loop(scope, alloc, what, loop_of(head), loops, body, so_far)
         }
         Stmt::While { body, .. } => {
             walk_loop(scope, alloc, what, Loop::Other, loops, body, so_far)

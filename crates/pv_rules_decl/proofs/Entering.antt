@@ -31,12 +31,17 @@ project_same t bs ss blocks symbols =
     ap (λ l. project_with l (symbols_of t)) blocks ∙ ap (λ l. project_with (map block_tree bs) l) symbols
 
 -- the number is that of a block
-pub is_number : (es : List Entry) (bs : List Block) (n : ℕ) → map block_of es ≡ map block_tree bs → n < length bs → false ≡ nat_lt n (length es)
-    → ⊥
+pub is_number : (es : List Entry) (bs : List BlockTree) (n : ℕ) → map block_of es ≡ bs → n < length bs → false ≡ nat_lt n (length es) → ⊥
 is_number es bs n same inside isnt =
-    let long : length es ≡ length bs = sym (length-map es block_of) ∙ ap length same ∙ length-map bs block_tree in
+    let long : length es ≡ length bs = sym (length-map es block_of) ∙ ap length same in
     let past = ltb-false n (length es) (sym isnt) in
     absurd (omega (arith, long, inside, past))
+
+pub is_counted : (t : Tables) (es : List Entry) (bs : List Block) (n : ℕ) → blocks_of t ≡ map block_of es → map block_of es ≡ map block_tree bs
+    → n < length bs → n < length (blocks_of t)
+is_counted t es bs n tables entries inside =
+    let long : length (blocks_of t) ≡ length bs = ap length (tables ∙ entries) ∙ length-map bs block_tree in
+    omega (arith, long, inside)
 
 -- the block of that number is one of them
 named : (es : List Entry) (n : ℕ) (e : Entry) → n < length es → e ≡ get_or es n e → slice_index_or (map block_of es) n (block_of e) ≡ block_of e
@@ -60,14 +65,20 @@ is_inside es bs n e same there is =
     subst (λ l. Contains l (block_of e)) (sym same) (n, omega (arith, inside, long), named es n e inside is)
 
 -- what is answered in that block
-pub is_answered : (t : Tables) (es : List Entry) (bs : List Block) (ss : List (Name × Operand × Ty)) (n : ℕ) (e : Entry) (block : BlockTree) (x : ExprTree)
-    (r : Result Ty RuleFault) → blocks_of t ≡ map block_of es → map block_of es ≡ map block_tree bs → symbols_of t ≡ map symbol_tree ss
-    → true ≡ nat_lt n (length es) → e ≡ get_or es n e → slice_get (map block_tree bs) n ≡ Some block
-    → AnswersPattern (scope_with (project_of t) (block_of e)) x r
-    → AnswersPattern (scope_with (project_tree bs ss) block) x r
-is_answered t es bs ss n e block x r tables entries symbols there is found answer =
+pub is_answered : (t : Tables) (es : List Entry) (n : ℕ) (e : Entry) (block : BlockTree) (x : ExprTree) (r : Result Ty RuleFault)
+    → map block_of es ≡ blocks_of t → true ≡ nat_lt n (length es) → e ≡ get_or es n e → slice_get (blocks_of t) n ≡ Some block
+    → AnswersPattern (scope_with (project_of t) (block_of e)) x r → AnswersPattern (scope_with (project_of t) block) x r
+is_answered t es n e block x r same there is found answer =
     let inside : n < length es = ltb-true n (length es) (sym there) in
-    let this : block_of e ≡ block =
-    some_is (block_of e) block (sym (got es n e inside is) ∙ ap (λ l. slice_get l n) entries ∙ found) in
-    subst (λ b. AnswersPattern (scope_with (project_tree bs ss) b) x r) this
-    (subst (λ p. AnswersPattern (scope_with p (block_of e)) x r) (project_same t bs ss (tables ∙ entries) symbols) answer)
+    let this : block_of e ≡ block = some_is (block_of e) block (sym (got es n e inside is) ∙ ap (λ l. slice_get l n) same ∙ found) in
+    subst (λ b. AnswersPattern (scope_with (project_of t) b) x r) this answer
+
+-- and in that block of the project
+pub of_project : (t : Tables) (es : List Entry) (bs : List Block) (ss : List (Name × Operand × Ty)) (n : ℕ) (block : BlockTree) (x : ExprTree)
+    (r : Result Ty RuleFault) → blocks_of t ≡ map block_of es → map block_of es ≡ map block_tree bs → symbols_of t ≡ map symbol_tree ss
+    → slice_get (map block_tree bs) n ≡ Some block
+    → (slice_get (blocks_of t) n ≡ Some block → AnswersPattern (scope_with (project_of t) block) x r)
+    → AnswersPattern (scope_with (project_tree bs ss) block) x r
+of_project t es bs ss n block x r tables entries symbols found answer =
+    subst (λ p. AnswersPattern (scope_with p block) x r) (project_same t bs ss (tables ∙ entries) symbols)
+    (answer (ap (λ l. slice_get l n) (tables ∙ entries) ∙ found))

@@ -1,3 +1,8 @@
+mod LeastOne
+mod Misplaced
+mod NearShared
+mod NearLists
+mod Sharing
 pub mod Doubling
 pub mod Entering
 pub mod FirstLaws

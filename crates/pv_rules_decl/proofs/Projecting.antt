@@ -2,10 +2,11 @@
 use Rattle.std.proofs.Common.{◌≡◌, List, [], ◌∷◌, map, refl, ap, sym, subst, ◌∙◌, inl, inr}
 use Rattle.std.specs.Prelude.{◌⊎◌, Option, None, Any, Result, Ok, Err, IfOk}
 use Rattle.pv_place.specs.declared.place.Place.{Place}
-use Rattle.pv_types.specs.declared.declaration.Var.{Var}
-use Rattle.pv_types.specs.View.{var_trees, listed, name_of, place_of}
+use Rattle.pv_types.specs.declared.declaration.Vars.{Vars}
+use Rattle.pv_types.specs.declared.var.Var.{Var}
+use Rattle.pv_types.specs.View.{var_tree, var_trees, listed}
 use Rattle.pv_types.specs.Tree.{TypeTree, structure, VarTree}
-use Rattle.pv_types.proofs.ForCallers.{var_seen, fields-of-listed}
+use Rattle.pv_types.proofs.ForCallers.{fields-of-listed}
 use Rattle.pv_tree.specs.declared.block.Block.{Block}
 use Rattle.pv_tree.specs.Tree.{BlockTree}
 use Rattle.pv_tree.specs.View.{block_tree}
@@ -20,6 +21,8 @@ use Rattle.pv_rules_decl.specs.Doubles.{name_of_var, name_of_block}
 use Rattle.pv_tree.specs.Rules.Misfits.{MisplacesDate}
 use Rattle.pv_tree.specs.Interfaces.{all_vars}
 use Rattle.pv_rules_decl.specs.OnDeclarations.{IsMisplacedDate}
+use Rattle.pv_rules_decl.specs.Declarations.{HaveTheSame}
+use Rattle.pv_rules_decl.proofs.Sharing.{some_same, same_back}
 use Rattle.pv_rules_decl.specs.BlockLists.{HasWrongArrayIn, MisplacesDateIn, DoublesNameIn}
 use Rattle.pv_rules_expr.proofs.ForCallers.{any_has, has_any, near_same, near_then, nearest_by}
 use Rattle.pv_rules_expr.proofs.ForCallers.{later_is, is_later}
@@ -29,33 +32,35 @@ some_each [] f h = absurd h
 some_each (x ∷ xs) f (inl p) = inl (f x p)
 some_each (x ∷ xs) f (inr h) = inr (some_each xs f h)
 
-pub names_same : (vars : List Var) → map name_of_var vars ≡ names_of_vars (var_trees vars)
+pub names_same : (vars : List Var) → map name_of_var vars ≡ names_of_vars (map var_tree vars)
 names_same [] = refl
-names_same (v ∷ vs) = ap (λ l. name_of_var v ∷ l) (names_same vs) ∙ ap (λ x. (name_of x, place_of x) ∷ names_of_vars (var_trees vs)) (sym (var_seen v))
+names_same (v ∷ vs) = ap (λ l. name_of_var v ∷ l) (names_same vs)
 
 pub blocks_same : (blocks : List Block) → map name_of_block blocks ≡ map (λ b. (b.name, b.place)) (map block_tree blocks)
 blocks_same [] = refl
 blocks_same (b ∷ bs) = ap (λ l. name_of_block b ∷ l) (blocks_same bs)
 
-pub near_vars : (vars : List Var) (old new : Option Place) → Nears (IsLaterBehind [] (map name_of_var vars)) old new
+pub near_vars : (vars : List Vars) (old new : Option Place) → Nears (IsLaterBehind [] (names_of_vars (var_trees vars))) old new
     → Nears (λ at. IsLater (names_of_vars (var_trees vars)) at) old new
 near_vars vars old new n =
-    near_same (IsLaterBehind [] (map name_of_var vars)) (λ at. IsLater (names_of_vars (var_trees vars)) at) old new
-    (λ at h. subst (λ l. IsLater l at) (names_same vars) (later_is (map name_of_var vars) at h))
-    (λ at h. is_later (map name_of_var vars) at (subst (λ l. IsLater l at) (sym (names_same vars)) h)) n
+    near_same (IsLaterBehind [] (names_of_vars (var_trees vars))) (λ at. IsLater (names_of_vars (var_trees vars)) at) old new
+    (λ at h. later_is (names_of_vars (var_trees vars)) at h)
+    (λ at h. is_later (names_of_vars (var_trees vars)) at h) n
 
-pub near_fields : (vars : List Var) (ty : TypeTree) (old new : Option Place) → ty ≡ structure (listed (var_trees vars))
+pub near_fields : (vars : List Vars) (ty : TypeTree) (old new : Option Place) → ty ≡ structure (listed (var_trees vars))
     → Nears (λ at. IsLater (names_of_vars (var_trees vars)) at) old new → Nears (λ at. DoublesField at ty) old new
 near_fields vars ty old new is n =
     subst (λ t. Nears (λ at. DoublesField at t) old new) (sym is)
     (subst (λ l. Nears (λ at. IsLater (names_of_vars l) at) old new) (sym (fields-of-listed (var_trees vars))) n)
 
-pub near_both : (b : BlockTree) (vars : List VarTree) (types : List TypeTree) (old mid new : Option Place) → vars ≡ b.vars → types ≡ all_types b.vars
+pub near_both : (b : BlockTree) (vars : List VarTree) (types : List TypeTree) (old mid new : Option Place) → vars ≡ b.vars → HaveTheSame types (all_types b.vars)
     → Nears (λ at. IsLater (names_of_vars vars) at) old mid → Nears (λ at. HasSome (DoublesField at) types) mid new → Nears (λ at. DoublesNameIn at b) old new
 near_both b vars types old mid new same all first second =
     near_then (λ at. IsLater (names_of_vars b.vars) at) (λ at. HasSome (DoublesField at) (all_types b.vars)) old mid new
     (subst (λ l. Nears (λ at. IsLater (names_of_vars l) at) old mid) same first)
-    (subst (λ l. Nears (λ at. HasSome (DoublesField at) l) mid new) all second)
+    (near_same (λ at. HasSome (DoublesField at) types) (λ at. HasSome (DoublesField at) (all_types b.vars)) mid new
+    (λ at. some_same (DoublesField at) types (all_types b.vars) all)
+    (λ at. some_same (DoublesField at) (all_types b.vars) types (same_back types (all_types b.vars) all)) second)
 
 pub if_ok : {T E : Type 0} (r : Result T E) {P Q : T → Type 0} → ((x : T) → P x → Q x) → IfOk r P → IfOk r Q
 if_ok (Ok x) f p = f x p

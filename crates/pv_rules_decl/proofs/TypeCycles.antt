@@ -22,9 +22,11 @@ use Rattle.pv_tree.specs.View.{block_tree}
 use Rattle.pv_tree.specs.declared.block.Block.{Block}
 use Rattle.pv_rules_expr.specs.Nearest.{Nears, IsNearest}
 use Rattle.pv_names.specs.Firsts.{number_in, first_number, FindsFirsts}
-use Rattle.pv_rules_decl.specs.TypeNames.{NumbersTypes}
+use Rattle.pv_rules_decl.specs.Declarations.{HaveTheSame}
+use Rattle.pv_rules_decl.specs.TypeNames.{NumbersTypes, LeadToTheSame}
+use Rattle.pv_rules_decl.proofs.Sharing.{some_same, same_back, same_count}
 use Rattle.pv_rules_decl.specs.declared.types.TypeNames.{TypeNames}
-use Rattle.pv_rules_expr.proofs.ForCallers.{any_has, has_any, nearest_by, near_then, all_taken}
+use Rattle.pv_rules_expr.proofs.ForCallers.{any_has, has_any, near_same, nearest_by, near_then, all_taken}
 use Rattle.pv_rules_expr.proofs.ForCallers.{has_contains, contains_has}
 use Rattle.pv_rules_decl.proofs.Projecting.{some_each}
 
@@ -370,10 +372,10 @@ number_found names bs key o r are is so =
     so ∙ ap (type_there names.kinds.items) (is ∙ are.numbers key) ∙ ap (λ k. type_there k (first_number (bytes_eq key) (map (λ b. b.name.key) bs))) are.types
     ∙ sym (there_is bs key)
 
-pub number_below : (bs : List BlockTree) (g : List (List ℕ)) (key : List ℕ) (i : ℕ) → g ≡ types_graph bs → Some i ≡ type_number bs key → i < length g
+pub number_below : (bs : List BlockTree) (g : List (List ℕ)) (key : List ℕ) (i : ℕ) → LeadToTheSame g (types_graph bs) → Some i ≡ type_number bs key → i < length g
 number_below bs g key i are is =
     let f = (found bs key i (sym is)).below in
-    let m : length g ≡ length (types_graph bs) = ap length are in
+    let m : length g ≡ length (types_graph bs) = same_count g (types_graph bs) are in
     let k = counted bs in omega (arith, f, m, k)
   where
     counted_map : {X Y : Type 0} (g : X → Y) (xs : List X) → length (map g xs) ≡ length xs
@@ -409,9 +411,11 @@ numbered_all names blocks n le finds are = record {
   types = are ∙ ap (map (λ b. is_type b.kind)) (all_taken blocks n le) ∙ kinds_mapped blocks;
 }
 
-pub near_types : (bs : List BlockTree) (b : BlockTree) (types : List TypeTree) (old mid new : Option Place) → types ≡ all_types b.vars
+pub near_types : (bs : List BlockTree) (b : BlockTree) (types : List TypeTree) (old mid new : Option Place) → HaveTheSame types (all_types b.vars)
     → Nears (λ at. HasSome (NamesWrongType bs at) types) old mid → Nears (λ at. HasSome (IsWrongName bs at) (name_of_kind b.kind)) mid new
     → Nears (λ at. HasWrongType bs at b) old new
 near_types bs b types old mid new are first second =
     near_then (λ at. HasSome (NamesWrongType bs at) (all_types b.vars)) (λ at. HasSome (IsWrongName bs at) (name_of_kind b.kind)) old mid new
-    (subst (λ l. Nears (λ at. HasSome (NamesWrongType bs at) l) old mid) are first) second
+    (near_same (λ at. HasSome (NamesWrongType bs at) types) (λ at. HasSome (NamesWrongType bs at) (all_types b.vars)) old mid
+    (λ at. some_same (NamesWrongType bs at) types (all_types b.vars) are)
+    (λ at. some_same (NamesWrongType bs at) (all_types b.vars) types (same_back types (all_types b.vars) are)) first) second

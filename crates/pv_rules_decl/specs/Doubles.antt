@@ -1,7 +1,7 @@
 -- Names that stand twice, name by name: those before one are known when it is met.
 use Rattle.std.specs.Prelude.{◌≡◌, ℕ, List, map, true, is_some, bytes_eq}
 use Rattle.std.specs.Map.{lookup}
-use Rattle.pv_types.specs.declared.declaration.Var.{Var}
+use Rattle.pv_types.specs.declared.var.Var.{Var}
 use Rattle.pv_tree.specs.declared.block.Block.{Block}
 use Rattle.pv_tree.specs.Tree.{PlacedName}
 use Rattle.pv_rules_expr.specs.Members.{Has}
@@ -20,4 +20,4 @@ abbrev pub name_of_block : Block → PlacedName
 name_of_block b = (b.name, b.place)
 
 abbrev pub name_of_var : Var → PlacedName
-name_of_var v = (v.name, v.place)
+name_of_var v = (v.name.now, v.place)

@@ -1,9 +1,10 @@
 -- The names of a project's types with their numbers.
-use Rattle.std.specs.Prelude.{◌≡◌, List, map}
+use Rattle.std.specs.Prelude.{◌≡◌, ℕ, List, [], ◌∷◌, map}
 use Rattle.pv_tree.specs.Tree.{BlockTree}
 use Rattle.pv_tree.specs.Scopes.{is_type}
 use Rattle.pv_names.specs.Firsts.{FindsFirsts}
 use Rattle.pv_graph.specs.Steps.{steps_of}
+use Rattle.pv_rules_decl.specs.Declarations.{HaveTheSame}
 use Rattle.pv_rules_decl.specs.TypeNumbers.{types_graph}
 use Rattle.pv_rules_decl.specs.declared.types.TypeNames.{TypeNames}
 use Rattle.pv_rules_decl.specs.declared.types.TypeGraph.{TypeGraph}
@@ -13,6 +14,13 @@ pub record NumbersTypes (names : TypeNames) (bs : List BlockTree) : Type 0 where
   pub numbers : FindsFirsts names.names (map (λ b. b.name.key) bs)
   pub types : names.kinds.items ≡ map (λ b. is_type b.kind) bs
 
+-- two graphs lead from each number to the same ones
+abbrev pub LeadToTheSame : List (List ℕ) → List (List ℕ) → Type 0
+LeadToTheSame [] [] = Unit {0}
+LeadToTheSame [] (y ∷ ys) = ⊥
+LeadToTheSame (x ∷ xs) [] = ⊥
+LeadToTheSame (x ∷ xs) (y ∷ ys) = HaveTheSame x y × LeadToTheSame xs ys
+
 pub record IsGraphOf (types : TypeGraph) (bs : List BlockTree) : Type 0 where
   pub names : NumbersTypes types.names bs
-  pub steps : steps_of types.graph ≡ types_graph bs
+  pub steps : LeadToTheSame (steps_of types.graph) (types_graph bs)

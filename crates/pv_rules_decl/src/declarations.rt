@@ -1,8 +1,8 @@
 //! Rules on single declarations: arrays that can't be laid out, variables of DATE_AND_TIME, start values out of range.
 //!
 //! Each function is given the nearest place so far and looks at one thing more; the lists of a block's types and variables come from `gathered`.
-ghost use Rattle.std.specs.Prelude.{◌≡◌, IsTrue, map};
-ghost use Rattle.pv_types.specs.View.{type_tree, var_tree};
+ghost use Rattle.std.specs.Prelude.{◌≡◌, ◌&&◌, not, IsTrue, flat_map, map};
+ghost use Rattle.pv_types.specs.View.{type_tree, vars_tree, place_of};
 ghost use Rattle.pv_tree.specs.LiteralTypes.{holds};
 ghost use Rattle.pv_tree.specs.Scopes.{is_ob};
 ghost use Rattle.pv_tree.specs.Things.{is_date};
@@ -16,7 +16,7 @@ use pv_names::is_date;
 use pv_place::Place;
 use pv_rules_expr::nearer;
 use pv_tree::BlockKind;
-use pv_types::{DeclType, Section, Var};
+use pv_types::{DeclType, Section, Vars};
 use pv_word::Ty;
 
 /// Whether the type holds the value.
@@ -87,12 +87,30 @@ fn is_temporary(section: Section) -> bool
     matches!(section, Section::Static | Section::Temp)
 }
 
-/// Looks at a variable.
-fn misplaced_date(kind: &BlockKind, var: &Var, nearest: Option<Place>) -> Option<Place>
-    ensures { Nears (λ at. IsMisplacedDate kind.now at (var_tree var.now)) nearest result }
+/// The nearest place, with those of the names of variables that are declared at once.
+fn nearest_name(of: &Vars, nearest: Option<Place>) -> Option<Place>
+    ensures { Nears (λ at. HasSome (λ v. place_of v ≡ at) (vars_tree of.now)) nearest result }
 {
-    if is_date(&var.ty) && !(is_ob(kind) && is_temporary(var.section)) {
-        return nearer(nearest, &var.place);
+    let mut nearest = nearest;
+    for word in &of.names {
+        nearest = nearer(nearest, &word.1);
+    }
+    nearest
+}
+
+/// Whether variables that are declared at once are of DATE_AND_TIME, where the block may not declare any.
+fn is_misplaced(kind: &BlockKind, of: &Vars) -> bool
+    ensures { result ≡ (is_date (type_tree of.now.ty) && not (is_ob kind.now && is_temporary of.now.section)) }
+{
+    is_date(&of.ty) && !(is_ob(kind) && is_temporary(of.section))
+}
+
+/// Looks at variables that are declared at once.
+fn misplaced_date(kind: &BlockKind, of: &Vars, nearest: Option<Place>) -> Option<Place>
+    ensures { Nears (λ at. HasSome (IsMisplacedDate kind.now at) (vars_tree of.now)) nearest result }
+{
+    if is_misplaced(kind, of) {
+        return nearest_name(of, nearest);
     }
     nearest
 }
@@ -100,14 +118,14 @@ fn misplaced_date(kind: &BlockKind, var: &Var, nearest: Option<Place>) -> Option
 /// Looks at variables.
 pub(crate) fn misplaced_dates(
     kind: &BlockKind,
-    vars: &[&Var],
+    vars: &[&Vars],
     nearest: Option<Place>,
 ) -> Option<Place>
-    ensures { Nears (λ at. HasSome (IsMisplacedDate kind.now at) (map (λ v. var_tree v.now) vars.now)) nearest result }
+    ensures { Nears (λ at. HasSome (IsMisplacedDate kind.now at) (flat_map (λ v. vars_tree v.now) vars.now)) nearest result }
 {
     let mut nearest = nearest;
-    for var in vars {
-        nearest = misplaced_date(kind, *var, nearest);
+    for of in vars {
+        nearest = misplaced_date(kind, *of, nearest);
     }
     nearest
 }

@@ -2,11 +2,9 @@
 //!
 //! A name is looked up among those before it, in a table by key, so that each is met once.
 ghost use Rattle.std.specs.Prelude.{◌≡◌, ◌++◌, ◌∷◌, List, [], IfOk, OnOk, map};
-ghost use Rattle.pv_types.specs.View.{type_tree, var_trees};
+ghost use Rattle.pv_types.specs.View.{var_trees};
 ghost use Rattle.pv_tree.specs.Tree.{PlacedName};
-ghost use Rattle.pv_tree.specs.Interfaces.{names_of_vars, IsLater};
-ghost use Rattle.pv_tree.specs.Rules.DoubledNames.{DoublesField};
-ghost use Rattle.pv_rules_expr.specs.Members.{HasSome};
+ghost use Rattle.pv_tree.specs.Interfaces.{names_of_vars};
 ghost use Rattle.pv_rules_expr.specs.Nearest.{Nears};
 ghost use Rattle.pv_rules_expr.specs.Members.{IsLaterBehind};
 ghost use Rattle.pv_rules_decl.specs.Doubles.{AreMet, IsMet, name_of_block, name_of_var};
@@ -16,7 +14,7 @@ use pv_edge::Text;
 use pv_place::Place;
 use pv_rules_expr::nearer;
 use pv_tree::Block;
-use pv_types::{DeclType, Name, Var};
+use pv_types::{Name, Var, Vars, one_by_one};
 use std::alloc::{AllocError, Global};
 
 /// The names that were met.
@@ -36,17 +34,18 @@ impl Names {
         ensures near { IfOk result (λ r. Nears (λ at. IsMet self.old name.now.key × (place.now ≡ at)) nearest r) }
         ensures met { (all : List PlacedName) → AreMet self.old all → OnOk result (AreMet self.new (all ++ (name.now, place.now) ∷ [])) }
     {
-        if self.seen.contains_key(&name.key) {
+        let own = name.key();
+        if self.seen.contains_key(own) {
             return Ok(nearer(nearest, place));
         }
-        let key = name.key.clone()?;
+        let key = own.clone()?;
         self.seen.insert(key, ())?;
         Ok(nearest)
     }
 }
 
-/// Looks at variables that are declared together.
-pub(crate) fn doubled_vars(
+/// Looks at variables one by one.
+fn doubled_in(
     alloc: Global,
     vars: &[Var],
     nearest: Option<Place>,
@@ -58,9 +57,21 @@ pub(crate) fn doubled_vars(
     };
     let mut nearest = nearest;
     for var in vars {
-        nearest = names.meet(&var.name, &var.place, nearest)?;
+        nearest = names.meet(var.name, &var.place, nearest)?;
     }
     Ok(nearest)
+}
+
+/// Looks at variables that are declared together.
+pub(crate) fn doubled_vars(
+    alloc: Global,
+    vars: &[Vars],
+    nearest: Option<Place>,
+) -> Result<Option<Place>, AllocError>
+    ensures { IfOk result (λ r. Nears (IsLaterBehind [] (names_of_vars (var_trees vars.now))) nearest r) }
+{
+    let each = one_by_one(alloc, vars)?;
+    doubled_in(alloc, each.as_slice(), nearest)
 }
 
 /// Looks at blocks.

@@ -17,7 +17,7 @@ use crate::doubled::{doubled_blocks, doubled_vars};
 use crate::gathered::Gathered;
 use pv_place::Place;
 use pv_tree::Block;
-use pv_types::{DeclType, Var};
+use pv_types::{DeclType, Vars};
 use std::alloc::{AllocError, Global};
 
 /// Looks at a block for arrays that can't be laid out.
@@ -71,7 +71,7 @@ pub fn misplaced_date(alloc: Global, blocks: &[Block]) -> Result<Option<Place>, 
 /// Looks at variables that are declared together.
 fn later_vars(
     alloc: Global,
-    vars: &[Var],
+    vars: &[Vars],
     nearest: Option<Place>,
 ) -> Result<Option<Place>, AllocError>
     ensures { IfOk result (λ r. Nears (λ at. IsLater (names_of_vars (var_trees vars.now)) at) nearest r) }

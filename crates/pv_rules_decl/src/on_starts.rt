@@ -1,12 +1,15 @@
 //! Start values and the values of data blocks, over the blocks of a project: each function gives the least place at which a rule is
 //! broken there.
 ghost use Rattle.std.specs.Prelude.{◌≡◌, IfOk, None};
+ghost use Rattle.pv_tree.specs.Interfaces.{all_vars};
 ghost use Rattle.pv_tree.specs.Parts.{starts_of};
 ghost use Rattle.pv_tree.specs.Rules.{missing_name, misfit, out_of_range, beyond_bounds, wrong_address};
 ghost use Rattle.pv_names.specs.InScope.{scope_of};
 ghost use Rattle.pv_rules_expr.specs.Looks.{near_parts};
 ghost use Rattle.pv_rules_expr.specs.Nearest.{IsNearest};
-ghost use Rattle.pv_rules_decl.specs.Starts.{near_starts};
+ghost use Rattle.pv_tree.specs.Rules.Misfits.{start_misfits_type};
+ghost use Rattle.pv_tree.specs.Rules.OutOfRange.{start_is_outside};
+ghost use Rattle.pv_rules_decl.specs.Starts.{near_starts, near_vars};
 ghost use Rattle.pv_rules_decl.specs.StartPieces.{piece_in, piece_place, parts_of_starts, InBlocks, MisfitsStart, HasOutsideStart, HasValue, BreaksInValues};
 ghost use Rattle.pv_names.specs.Tables.{project_of};
 
@@ -29,6 +32,24 @@ pub enum Piece {
     Value(StartLook),
     /// An expression in an index of such a part.
     Index(Look),
+}
+
+/// The nearest start value in the block's declarations that doesn't fit.
+fn misfit_in_block(scope: &Scope, alloc: Global) -> Result<Option<Place>, AllocError>
+    ensures { let scope = scope_of scope.now in IfOk result (λ o. o
+        ≡ near_vars (start_misfits_type scope) (all_vars scope.block.vars) None) }
+{
+    let gathered = Gathered::of(alloc, scope.entry.block.interface.vars.as_slice())?;
+    Ok(misfit_starts(scope, gathered.vars.as_slice(), None))
+}
+
+/// The nearest start value in the block's declarations that is outside its type.
+fn outside_in_block(scope: &Scope, alloc: Global) -> Result<Option<Place>, AllocError>
+    ensures { let scope = scope_of scope.now in IfOk result (λ o. o
+        ≡ near_vars start_is_outside (all_vars scope.block.vars) None) }
+{
+    let gathered = Gathered::of(alloc, scope.entry.block.interface.vars.as_slice())?;
+    Ok(outside_starts(gathered.vars.as_slice(), None))
 }
 
 /// The nearest place in the values that the block gives to its parts.
@@ -64,14 +85,8 @@ fn piece_in_block(scope: &Scope, alloc: Global, what: Piece) -> Result<Option<Pl
     ensures { IfOk result (λ o. o ≡ piece_in what (scope_of scope.now)) }
 {
     match what {
-        Piece::MisfitStart => {
-            let gathered = Gathered::of(alloc, scope.entry.block.interface.vars.as_slice())?;
-            Ok(misfit_starts(scope, gathered.vars.as_slice(), None))
-        }
-        Piece::OutsideStart => {
-            let gathered = Gathered::of(alloc, scope.entry.block.interface.vars.as_slice())?;
-            Ok(outside_starts(gathered.vars.as_slice(), None))
-        }
+        Piece::MisfitStart => misfit_in_block(scope, alloc),
+        Piece::OutsideStart => outside_in_block(scope, alloc),
         Piece::Value(look) => value_in_block(scope, alloc, look),
         Piece::Index(look) => index_in_block(scope, alloc, look),
     }

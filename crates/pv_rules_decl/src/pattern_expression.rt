@@ -1,5 +1,5 @@
 //! The expressions of patterns: the type of one, or the first breach in it.
-ghost use Rattle.std.specs.Prelude.{◌≡◌, ◌<◌, IfOk, Some, Contains, Any, slice_get, length};
+ghost use Rattle.std.specs.Prelude.{◌≡◌, ◌<◌, IfOk, Some, Contains, Any, slice_get, length, map};
 ghost use Rattle.pv_tree.specs.LiteralTypes.{nothing};
 ghost use Rattle.pv_tree.specs.Sorts as sorts;
 ghost use Rattle.pv_tree.specs.Tree.{BlockTree};
@@ -7,10 +7,12 @@ ghost use Rattle.pv_tree.specs.Things.{first_place};
 ghost use Rattle.pv_tree.specs.Types.{sort_of};
 ghost use Rattle.pv_tree.specs.Parts.{parts_of};
 ghost use Rattle.pv_tree.specs.Projects.{project_tree};
-ghost use Rattle.pv_tree.specs.View.{expr_tree};
+ghost use Rattle.pv_tree.specs.View.{block_tree, expr_tree};
 ghost use Rattle.pv_tree.specs.Rules.{BreaksInParts, BreaksInPattern, KeepsRules, misfit, beyond_bounds};
 ghost use Rattle.pv_tree.specs.Rules.PatternRule.{IsNoPattern};
+ghost use Rattle.pv_names.specs.Entries.{block_of};
 ghost use Rattle.pv_names.specs.InScope.{scope_of};
+ghost use Rattle.pv_names.specs.Tables.{blocks_of, project_of};
 ghost use Rattle.pv_names.specs.Sorts.{want_tree};
 ghost use Rattle.pv_rules_expr.specs.Places.{place_where};
 ghost use Rattle.pv_rules_expr.specs.Nearest.{IsNearest};
@@ -19,7 +21,7 @@ ghost use Rattle.pv_rules_decl.specs.Patterns.{AnswersPattern};
 
 use crate::fault::{Breach, Rule, RuleFault};
 use crate::least::{least_of, make_found};
-use pv_names::{Scope, Tables, Want, entries, first_place};
+use pv_names::{Entry, Scope, Tables, Want, entries, first_place};
 use pv_place::Place;
 use pv_rules_expr::{
     Look, is_whole, look_in, missing_in, nearer_of, outside_in, void_in, where_is, wrong_address_in,
@@ -124,6 +126,44 @@ fn pattern_type(scope: &Scope, alloc: Global, e: &Expr) -> Result<Ty, RuleFault>
     }
 }
 
+/// The type of a pattern's expression over the names of the block of this number, or the first breach in it.
+fn type_in_block(alloc: Global, e: &Expr, tables: &Tables, number: u32) -> Result<Ty, RuleFault>
+    requires number { number < length (blocks_of tables.now) }
+    requires keeps { KeepsRules (project_of tables.now) }
+    ensures { (block : BlockTree) → slice_get (blocks_of tables.now) number ≡ Some block
+        → AnswersPattern (record { project = project_of tables.now; block = block })
+        (expr_tree e.now) result }
+{
+    match tables.entries().get(number as usize) {
+        Some(entered) => {
+            let scope = Scope {
+                tables,
+                entry: entered,
+            };
+            pattern_type(&scope, alloc, e)
+        }
+        None => unreachable!(),
+    }
+}
+
+/// The same of the project's block of this number, where each block has its table.
+fn type_among(
+    alloc: Global,
+    e: &Expr,
+    all: &[Entry],
+    project: &Project,
+    number: u32,
+) -> Result<Ty, RuleFault>
+    requires tables { map block_of all.now ≡ map block_tree project.now.blocks.list.items }
+    requires number { number < length project.now.blocks.list.items }
+    ensures { let tree = project_tree project.now.blocks.list.items project.now.symbols.items in
+        (block : BlockTree) → slice_get tree.blocks number ≡ Some block
+        → AnswersPattern (record { project = tree; block = block }) (expr_tree e.now) result }
+{
+    let tables = Tables::of(alloc, all, project.symbols())?;
+    type_in_block(alloc, e, &tables, number)
+}
+
 /// The type of a pattern's expression over the names of a block of the project, given by its number in their order; else the first
 /// breach in it, the one on patterns included: the least place, and of the rules that are broken there the least.
 pub fn check_expression(
@@ -138,15 +178,5 @@ pub fn check_expression(
         → AnswersPattern (record { project = tree; block = block }) (expr_tree e.now) result }
 {
     let all = entries(alloc, project.blocks().list.as_slice())?;
-    let tables = Tables::of(alloc, all.as_slice(), project.symbols())?;
-    match all.as_slice().get(entry as usize) {
-        Some(entered) => {
-            let scope = Scope {
-                tables: &tables,
-                entry: entered,
-            };
-            pattern_type(&scope, alloc, e)
-        }
-        None => unreachable!(),
-    }
+    type_among(alloc, e, all.as_slice(), project, entry)
 }

@@ -1,6 +1,8 @@
 //! Start values of declarations, and the values that a data block gives to its parts.
-ghost use Rattle.std.specs.Prelude.{◌≡◌, IfOk, map, flat_map, false};
-ghost use Rattle.pv_types.specs.View.{type_tree, var_tree};
+ghost use Rattle.std.specs.Prelude.{◌≡◌, IfOk, map, flat_map, false, Option};
+ghost use Rattle.pv_place.specs.declared.place.Place.{Place};
+ghost use Rattle.pv_rules_expr.specs.Nearest.{nearer_of};
+ghost use Rattle.pv_types.specs.View.{vars_tree};
 ghost use Rattle.pv_tree.specs.Fits as fits;
 ghost use Rattle.pv_tree.specs.Things as things;
 ghost use Rattle.pv_tree.specs.Parts as parts;
@@ -11,7 +13,7 @@ ghost use Rattle.pv_names.specs.InScope.{scope_of};
 ghost use Rattle.pv_names.specs.Views.{held_tree, thing_tree};
 ghost use Rattle.pv_rules_expr.specs.Looks.{near_parts};
 ghost use Rattle.pv_rules_expr.specs.Operands.{name_at};
-ghost use Rattle.pv_rules_decl.specs.Starts.{start_at, near_vars, misfit_at, is_thing_outside, start_place, near_starts};
+ghost use Rattle.pv_rules_decl.specs.Starts.{near_vars, misfit_at, is_thing_outside, start_place, near_starts};
 
 use pv_names::{
     Held, Number, Scope, Thing, Want, Written, holds, is_outside, is_whole_number, level_of,
@@ -23,7 +25,7 @@ use pv_rules_expr::{
     where_is,
 };
 use pv_tree::{Operand, Root};
-use pv_types::{Literal, Var};
+use pv_types::{Literal, Vars};
 use pv_word::Ty;
 use std::alloc::{AllocError, Global};
 
@@ -113,23 +115,27 @@ fn missing_of(thing: Thing) -> Option<Place>
     }
 }
 
-/// The place of a start value that is outside its type.
-fn outside_start(var: &Var) -> Option<Place>
-    ensures { result ≡ start_at range.start_is_outside (var_tree var.now) }
+/// The place of the start value of variables that are declared at once, if it is outside its type.
+fn outside_start(of: &Vars) -> Option<Place>
+    ensures { (nearest : Option Place)
+        → near_vars range.start_is_outside (vars_tree of.now) nearest ≡ nearer_of nearest result }
 {
-    match &var.start {
-        Some(literal) => where_is(is_start_outside(level_of(&var.ty), literal), literal.place),
+    if of.names.is_empty() {
+        return None;
+    }
+    match &of.start {
+        Some(literal) => where_is(is_start_outside(level_of(&of.ty), literal), literal.place),
         None => None,
     }
 }
 
 /// The nearest start value that is outside its type.
-pub(crate) fn outside_starts(vars: &[&Var], nearest: Option<Place>) -> Option<Place>
-    ensures { result ≡ near_vars range.start_is_outside (map (λ v. var_tree v.now) vars.now) nearest }
+pub(crate) fn outside_starts(vars: &[&Vars], nearest: Option<Place>) -> Option<Place>
+    ensures { result ≡ near_vars range.start_is_outside (flat_map (λ v. vars_tree v.now) vars.now) nearest }
 {
     let mut best = nearest;
-    for var in vars {
-        best = nearer_of(best, outside_start(*var));
+    for of in vars {
+        best = nearer_of(best, outside_start(*of));
     }
     best
 }
@@ -150,13 +156,18 @@ fn misfits_held(scope: &Scope, ty: Held, literal: &Literal) -> bool
     }
 }
 
-/// The place of a start value that doesn't fit.
-fn misfit_start(scope: &Scope, var: &Var) -> Option<Place>
-    ensures { result ≡ start_at (start_misfits_type (scope_of scope.now)) (var_tree var.now) }
+/// The place of the start value of variables that are declared at once, if it doesn't fit.
+fn misfit_start(scope: &Scope, of: &Vars) -> Option<Place>
+    ensures { (nearest : Option Place)
+        → near_vars (start_misfits_type (scope_of scope.now)) (vars_tree of.now) nearest
+        ≡ nearer_of nearest result }
 {
-    match &var.start {
+    if of.names.is_empty() {
+        return None;
+    }
+    match &of.start {
         Some(literal) => where_is(
-            misfits_held(scope, level_of(&var.ty), literal),
+            misfits_held(scope, level_of(&of.ty), literal),
             literal.place,
         ),
         None => None,
@@ -164,13 +175,13 @@ fn misfit_start(scope: &Scope, var: &Var) -> Option<Place>
 }
 
 /// The nearest start value that doesn't fit.
-pub(crate) fn misfit_starts(scope: &Scope, vars: &[&Var], nearest: Option<Place>) -> Option<Place>
+pub(crate) fn misfit_starts(scope: &Scope, vars: &[&Vars], nearest: Option<Place>) -> Option<Place>
     ensures { result ≡ near_vars (start_misfits_type (scope_of scope.now))
-        (map (λ v. var_tree v.now) vars.now) nearest }
+        (flat_map (λ v. vars_tree v.now) vars.now) nearest }
 {
     let mut best = nearest;
-    for var in vars {
-        best = nearer_of(best, misfit_start(scope, *var));
+    for of in vars {
+        best = nearer_of(best, misfit_start(scope, *of));
     }
     best
 }

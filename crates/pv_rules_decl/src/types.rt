@@ -12,7 +12,8 @@ ghost use Rattle.pv_rules_expr.specs.Members.{HasSome};
 ghost use Rattle.pv_rules_expr.specs.Nearest.{Nears, IsNearest};
 ghost use Rattle.pv_graph.specs.Graphs.{lists_of};
 ghost use Rattle.pv_rules_decl.specs.TypeNumbers.{type_number, numbers_of_type, targets_in, types_graph, IsWrongNumber, IsWrongName, NamesWrongType, HasWrongType};
-ghost use Rattle.pv_rules_decl.specs.TypeNames.{NumbersTypes, IsGraphOf};
+ghost use Rattle.pv_rules_decl.specs.Declarations.{HaveTheSame};
+ghost use Rattle.pv_rules_decl.specs.TypeNames.{NumbersTypes, LeadToTheSame, IsGraphOf};
 
 use crate::gathered::Gathered;
 use pv_graph::{Graph, Targets};
@@ -107,7 +108,7 @@ impl TypeNames {
     /// The types that a block names, if it is a type.
     fn targets_in(&self, alloc: Global, block: &Block) -> Result<Targets, AllocError>
         ensures { (bs : List BlockTree) → NumbersTypes self.now bs → IfOk result
-            (λ t. t.list.items ≡ targets_in bs (block_tree block.now)) }
+            (λ t. HaveTheSame t.list.items (targets_in bs (block_tree block.now))) }
     {
         if !is_type(&block.kind) {
             return Ok(Targets {
@@ -122,7 +123,7 @@ impl TypeNames {
     /// The types that each block names.
     fn all_targets(&self, alloc: Global, blocks: &[Block]) -> Result<Vec<Targets>, AllocError>
         ensures { (bs : List BlockTree) → NumbersTypes self.now bs → IfOk result
-            (λ next. lists_of next.items ≡ map (targets_in bs) (map block_tree blocks.now)) }
+            (λ next. LeadToTheSame (lists_of next.items) (map (targets_in bs) (map block_tree blocks.now))) }
     {
         let mut next = Vec::new(alloc);
         for block in blocks {

@@ -29,7 +29,7 @@ pub fn operand_of(e: &Expr) -> Option<&Operand>
 pub fn wrong_address(operand: &Operand) -> Option<Place>
     ensures { result ≡ address_at (operand_tree operand.now) }
 {
-    match &operand.root {
+    match &*operand.root {
         Root::Local { .. } => None,
         Root::Named(_) => None,
         Root::Area {

@@ -12,6 +12,7 @@ use Rattle.pv_names.specs.declared.firsts.Firsts.{Firsts}
 use Rattle.pv_rules_expr.specs.Nearest.{nearer_of}
 use Rattle.pv_rules_expr.specs.Places.{place_where}
 use Rattle.pv_rules_expr.proofs.ForCallers.{taken_one}
+use Rattle.pv_rules_instr.specs.AtRanges.{RangeNumbers, range_at, range_from}
 use Rattle.pv_rules_instr.specs.AtLabels.{FindsLabels, is_labelled, is_named, number_of_label, missing_of, missing_at, later_at, later_of, later_from}
 
 -- ---- the first number of a label
@@ -104,6 +105,14 @@ module _ {X : Type 0} (g : X → InstrTree) (xs : List X) (i j : ℕ) (x : X) (i
       ap (later_from (map g (take j xs)) (map g (drop j xs))) looked
       ∙ ap (λ b. later_from b (map g (drop j xs)) (nearer_of n (later_at (map g (take i xs)) (g x)))) (sym taken_so)
       ∙ ap (λ l. later_from (map g (take i xs)) l n) (sym left_so) ∙ left
+
+  pub ranged_next : (r : RangeNumbers) (n m total : Option Place) → m ≡ nearer_of n (range_at r i (g x))
+      → range_from r i (map g (drop i xs)) n ≡ total → range_from r j (map g (drop j xs)) m ≡ total
+  ranged_next r n m total looked left =
+      let k : suc i ≡ j = omega (arith, next) in
+      ap (range_from r j (map g (drop j xs))) looked
+      ∙ ap (λ y. range_from r y (map g (drop j xs)) (nearer_of n (range_at r i (g x)))) (sym k)
+      ∙ ap (λ l. range_from r i l n) (sym left_so) ∙ left
 
   pub more_mapped : (f : InstrTree → Option ℕ) (had now : List (Option ℕ)) (o : Option ℕ) → now ≡ had ++ o ∷ [] → o ≡ f (g x)
       → had ≡ map f (map g (take i xs)) → now ≡ map f (map g (take j xs))

@@ -14,7 +14,7 @@ pub fn operand_of_instruction(instr: &Instr) -> Option<&Operand>
 {
     match group_of(instr.op) {
         Group::Jump => None,
-        _ => instr.operand.as_ref(),
+        _ => instr.operand(),
     }
 }
 
@@ -25,6 +25,6 @@ pub fn read_operand(instr: &Instr) -> Option<&Operand>
 {
     match group_of(instr.op) {
         Group::BitWritten | Group::Transfer | Group::Jump => None,
-        _ => instr.operand.as_ref(),
+        _ => instr.operand(),
     }
 }

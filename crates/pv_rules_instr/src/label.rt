@@ -27,7 +27,7 @@ pub(crate) fn label_of_jump(instr: &Instr) -> Option<Label>
     ensures { option_map label_tree result ≡ groups.label_of_jump (instr_tree instr.now) }
 {
     match group_of(instr.op) {
-        Group::Jump => match &instr.operand {
+        Group::Jump => match instr.operand() {
             Some(operand) => label_of_operand(operand),
             None => None,
         },
@@ -47,10 +47,10 @@ fn meet(
     ensures met { (before : List InstrTree) → FindsLabels table.old before → number ≡ length before
         → OnOk result (FindsLabels table.new (before ++ instr_tree instr.now ∷ [])) }
 {
-    match &instr.label {
-        Some((name, place)) => {
-            let found = where_is(table.find(name).is_some(), *place);
-            table.push(name, number)?;
+    match instr.label() {
+        Some(label) => {
+            let found = where_is(table.find(&label.0).is_some(), label.1);
+            table.push(&label.0, number)?;
             Ok(nearer_of(nearest, found))
         }
         None => Ok(nearest),

@@ -18,8 +18,8 @@ use std::alloc::{AllocError, Global};
 fn first_place(instr: &Instr) -> Place
     ensures { result ≡ groups.first_place_of (instr_tree instr.now) }
 {
-    match &instr.label {
-        Some((_, place)) => *place,
+    match instr.label() {
+        Some(label) => label.1,
         None => instr.place,
     }
 }
@@ -47,7 +47,7 @@ fn inside_place(group: Group, pending: &[Place], instr: &Instr) -> Option<Place>
     requires { group_tree group ≡ groups.group_of instr.now.op }
     ensures { result ≡ inside_at (reverse pending.now) (instr_tree instr.now) }
 {
-    let kept_outside = is_kept_outside(group) || instr.label.is_some();
+    let kept_outside = is_kept_outside(group) || instr.label().is_some();
     where_is(kept_outside && !pending.is_empty(), first_place(instr))
 }
 

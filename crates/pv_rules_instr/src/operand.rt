@@ -96,7 +96,7 @@ fn ends_here(operand: &Operand) -> bool
 pub(crate) fn label_of_operand(operand: &Operand) -> Option<Label>
     ensures { option_map label_tree result ≡ groups.label_of_operand (operand_tree operand.now) }
 {
-    match &operand.root {
+    match &*operand.root {
         Root::Local { name, hash, place } => {
             if !*hash && ends_here(operand) {
                 Some(Label {

@@ -73,9 +73,12 @@ fn cross_at(ranges: &Ranges, n: usize, instr: &Instr) -> Option<Place>
         → result ≡ cross_at r n (instr_tree instr.now) }
 {
     match number_at(ranges.lasts.as_slice(), n) {
-        Some(last) => match &instr.label {
-            Some((_, place)) => {
-                where_is(is_under(last, number_at(ranges.ends.as_slice(), n)), *place)
+        Some(last) => match instr.label() {
+            Some(label) => {
+                where_is(
+                    is_under(last, number_at(ranges.ends.as_slice(), n)),
+                    label.1,
+                )
             }
             None => None,
         },

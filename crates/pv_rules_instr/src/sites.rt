@@ -49,7 +49,7 @@ fn refused_operand(scope: &Scope, alloc: Global, instr: &Instr) -> Result<Option
     ensures { let i = instr_tree instr.now in IfOk result (λ o. o ≡ option_and_then
         (operand_at (scope_of scope.now) (groups.group_of i.op)) i.operand) }
 {
-    match &instr.operand {
+    match instr.operand() {
         Some(operand) => operand_place(scope, alloc, group_of(instr.op), operand),
         None => Ok(None),
     }
@@ -60,7 +60,7 @@ fn refused_literal(instr: &Instr) -> Option<Place>
     ensures { let i = instr_tree instr.now in result
         ≡ option_and_then (literal_at (groups.group_of i.op)) i.literal }
 {
-    match &instr.literal {
+    match instr.literal() {
         Some(literal) => literal_place(group_of(instr.op), literal),
         None => None,
     }
@@ -70,7 +70,7 @@ fn refused_literal(instr: &Instr) -> Option<Place>
 fn outside_place(instr: &Instr) -> Option<Place>
     ensures { result ≡ outside_at (instr_tree instr.now) }
 {
-    match &instr.literal {
+    match instr.literal() {
         Some(literal) => outside_literal(group_of(instr.op), literal),
         None => None,
     }

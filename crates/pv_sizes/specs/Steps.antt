@@ -1,6 +1,6 @@
 -- What the code adds up, step by step: the arms of an IF and the branches of a CASE, and the checks of an instruction by where
 -- they come from.
-use Rattle.std.specs.Prelude.{ℕ, ◌+◌, List, [], ◌∷◌, Vec, map, Option, Some, None, option_map}
+use Rattle.std.specs.Prelude.{ℕ, ◌+◌, List, [], ◌∷◌, Vec, Box, map, Option, Some, None, option_map}
 use Rattle.std.specs.declared.alloc.Global.{Global}
 use Rattle.pv_types.specs.declared.declaration.Literal.{Literal}
 use Rattle.pv_tree.specs.declared.expr.Expr.{Expr}
@@ -21,8 +21,8 @@ arm_trees list = arms_of (map (λ a. (expr_tree a.0, stmts_of (map stmt_tree a.1
 abbrev pub branch_trees : List (Vec (Choice × Option Choice) Global × Vec Stmt Global) → BranchTrees
 branch_trees list = branches_of (map (λ b. (b.0.items, stmts_of (map stmt_tree b.1.items))) list)
 
-abbrev pub other_tree : Option (Vec Stmt Global) → ElseTree
-other_tree other = else_of (option_map (λ o. stmts_of (map stmt_tree o.items)) other)
+abbrev pub other_tree : Option (Box (Vec Stmt Global) Global) → ElseTree
+other_tree other = else_of (option_map (λ o. stmts_of (map stmt_tree o.value.items)) other)
 
 -- ---- an instruction's checks: those of its operand, and those of what else it reads
 

@@ -25,7 +25,7 @@ fn is_brief_word(entry: &Entry, name: &Name, hash: bool) -> bool
     ensures { result ≡ checks.is_brief_word (block_of entry.now) name.now.key hash }
 {
     match entry.find(name) {
-        Some(var) => is_brief_in(entry.block, var.section),
+        Some(var) => is_brief_in(entry.block, var.of.section),
         None => own_value(entry.block, name, hash).is_some(),
     }
 }

@@ -18,7 +18,7 @@ use pv_tree::{Instr, Op};
 fn joined_size(instr: &Instr) -> u64
     ensures { result ≡ joined_edges (instr_tree instr.now).literal }
 {
-    match &instr.literal {
+    match instr.literal() {
         None => 3,
         Some(_) => 2,
     }
@@ -58,7 +58,7 @@ fn apart_size(instr: &Instr) -> u64
 fn found_size(scope: &Scope, instr: &Instr) -> u64
     ensures { result ≡ capped (checks.checks_of_found (scope_of scope.now) (instr_tree instr.now)) }
 {
-    match &instr.operand {
+    match instr.operand() {
         Some(operand) => target_size(scope, operand),
         None => 0,
     }
@@ -68,7 +68,7 @@ fn found_size(scope: &Scope, instr: &Instr) -> u64
 fn value_size(scope: &Scope, instr: &Instr) -> u64
     ensures { result ≡ capped (checks.checks_of_value (scope_of scope.now) (instr_tree instr.now)) }
 {
-    match &instr.operand {
+    match instr.operand() {
         Some(operand) => {
             let found = target_size(scope, operand);
             sum(found, one_if(is_brief(scope, operand)))
@@ -81,7 +81,7 @@ fn value_size(scope: &Scope, instr: &Instr) -> u64
 fn load_size(scope: &Scope, instr: &Instr) -> u64
     ensures { result ≡ capped (checks_of_load (scope_of scope.now) (instr_tree instr.now)) }
 {
-    match &instr.literal {
+    match instr.literal() {
         None => value_size(scope, instr),
         Some(_) => 0,
     }
@@ -116,7 +116,7 @@ fn behind_size(scope: &Scope, instr: &Instr) -> u64
 fn instr_size(scope: &Scope, instr: &Instr) -> u64
     ensures { result ≡ capped (sizes.size_of_instr (scope_of scope.now) (instr_tree instr.now)) }
 {
-    match &instr.call {
+    match instr.call() {
         Some(call) => call_size(scope, how_of(instr.op), call),
         None => {
             let operand = behind_size(scope, instr);

@@ -14,7 +14,7 @@ use crate::checks::{expr_size, target_size};
 use crate::count::sum;
 use crate::instructions::instrs_size;
 use pv_names::{How, Scope};
-use pv_tree::{Body, Choice, Expr, Stmt};
+use pv_tree::{Body, Choice, Expr, ForHead, Stmt};
 
 /// The size of the arms of an IF.
 #[cycle(sizing)]
@@ -44,7 +44,7 @@ fn branches_size(scope: &Scope, branches: &Vec<(Vec<(Choice, Option<Choice>)>, V
 
 /// The size of what stands behind ELSE; 0 where it isn't there.
 #[cycle(sizing)]
-fn other_size(scope: &Scope, other: &Option<Vec<Stmt>>) -> u64
+fn other_size(scope: &Scope, other: &Option<Box<Vec<Stmt>>>) -> u64
     ensures { result ≡ capped (sizes.size_of_else (scope_of scope.now) (other_tree other.now)) }
 {
     match other {
@@ -63,6 +63,14 @@ fn turns_size(scope: &Scope, cond: &Expr, body: &Vec<Stmt>) -> u64
         sum(expr_size(scope, cond), 2),
         stmt_size(scope, body.as_slice()),
     )
+}
+
+/// How many checks the start and the end of a FOR make.
+fn bounds_size(scope: &Scope, head: &ForHead) -> u64
+    ensures { result ≡ capped (checks_of (scope_of scope.now) (expr_tree head.now.first)
+        + checks_of (scope_of scope.now) (expr_tree head.now.last)) }
+{
+    sum(expr_size(scope, &head.first), expr_size(scope, &head.last))
 }
 
 /// The size of a statement.
@@ -89,14 +97,11 @@ fn one_size(scope: &Scope, stmt: &Stmt) -> u64
             let chosen = sum(test, branches_size(scope, branches));
             sum(chosen, other_size(scope, other))
         }
-        Stmt::For {
-            first,
-            last,
-            body,
-            ..
-        } => {
-            let bounds = sum(expr_size(scope, first), expr_size(scope, last));
-            sum(sum(bounds, stmt_size(scope, body.as_slice())), 5)
+        Stmt::For { head, body, .. } => {
+            sum(
+                sum(bounds_size(scope, head), stmt_size(scope, body.as_slice())),
+                5,
+            )
         }
         Stmt::While { cond, body, .. } => turns_size(scope, cond, body),
         Stmt::Repeat { body, cond, .. } => turns_size(scope, cond, body),

@@ -18,7 +18,7 @@ use Rattle.pv_tree.specs.declared.expr.UnaryOp.{UnaryOp}
 use Rattle.pv_tree.specs.declared.expr.BinaryOp.{BinaryOp}
 use Rattle.pv_tree.specs.declared.expr.StdFunction.{StdFunction}
 
-pub operand_seen : (o : Operand) → operand_tree o ≡ operand o.root (steps_of (map step_tree o.steps.items)) o.place
+pub operand_seen : (o : Operand) → operand_tree o ≡ operand o.root.value (steps_of (map step_tree o.steps.items)) o.place
 operand_seen o = fold_out-Operand ExprTree StepTree OperandTree expr_step step_step operand_step o
 
 pub place_seen : (o : Operand) → o.place ≡ place_of_operand (operand_tree o)

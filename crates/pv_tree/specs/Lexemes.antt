@@ -7,6 +7,7 @@ use Rattle.pv_place.specs.declared.place.Place.{Place}
 use Rattle.pv_lex.specs.declared.token.Kind.{Kind}
 use Rattle.pv_lex.specs.declared.token.Kind.TheVariants as k
 use Rattle.pv_lex.specs.declared.token.Token.{Token}
+use Rattle.pv_lex.specs.Values.{token_value}
 
 -- a token with its bytes
 pub record Lexeme : Type 0 where
@@ -21,7 +22,7 @@ lexeme_of text token =
     record {
       kind = token.kind;
       bytes = take token.len (drop token.place.offset text);
-      value = token.value;
+      value = token_value token.kind (take token.len (drop token.place.offset text));
       place = token.place;
     }
 

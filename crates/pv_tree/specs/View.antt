@@ -12,6 +12,8 @@ use Rattle.pv_tree.specs.declared.stmt.CallTree.{CallTree}
 use Rattle.pv_tree.specs.declared.stmt.Stmt.{Stmt, fold-Stmt}
 use Rattle.pv_tree.specs.declared.stmt.Stmt.TheOpen.{Stmt-F}
 use Rattle.pv_tree.specs.declared.instr.Instr.{Instr}
+use Rattle.pv_tree.specs.declared.instr.Behind.{Behind}
+use Rattle.pv_tree.specs.declared.instr.Behind.TheVariants as behind
 use Rattle.pv_tree.specs.declared.block.Body.{Body}
 use Rattle.pv_tree.specs.declared.block.Body.TheVariants as body
 use Rattle.pv_tree.specs.declared.block.Block.{Block}
@@ -66,7 +68,7 @@ expr_step (Expr-F.Std function place args) = std function place (exprs_of args.i
 expr_step (Expr-F.Paren place inner) = paren place inner.value
 
 abbrev pub operand_step : Operand-F ExprTree StepTree OperandTree → OperandTree
-operand_step o = operand o.root (steps_of o.steps.items) o.place
+operand_step o = operand o.root.value (steps_of o.steps.items) o.place
 
 abbrev pub step_step : Step-F ExprTree StepTree OperandTree → StepTree
 step_step (Step-F.Field name place) = field name place
@@ -101,23 +103,24 @@ abbrev pub choices_of : List (Choice × Option Choice) → Choices
 choices_of list = list
 
 abbrev pub stmt_step : Stmt-F StmtTree → StmtTree
-stmt_step (Stmt-F.Assign target place value) = assign (operand_tree target) place (expr_tree value)
+stmt_step (Stmt-F.Assign target place value) = assign (operand_tree target) place (expr_tree value.value)
 stmt_step (Stmt-F.AssignCall target place call) = assign_call (operand_tree target) place
-    (call_tree call)
+    (call_tree call.value)
 stmt_step (Stmt-F.If all other place) =
     if_ (arms_of (map (λ a. (expr_tree a.0, stmts_of a.1.items)) all.items))
-    (else_of (option_map (λ o. stmts_of o.items) other)) place
+    (else_of (option_map (λ o. stmts_of o.value.items) other)) place
 stmt_step (Stmt-F.Case selector all other place) =
-    case_ (expr_tree selector) (branches_of (map (λ b. (b.0.items, stmts_of b.1.items)) all.items))
-    (else_of (option_map (λ o. stmts_of o.items) other)) place
-stmt_step (Stmt-F.For var var_place first last by body place) =
-    for_ var var_place (expr_tree first) (expr_tree last) by (stmts_of body.items) place
-stmt_step (Stmt-F.While cond body place) = while_ (expr_tree cond) (stmts_of body.items) place
-stmt_step (Stmt-F.Repeat body cond place) = repeat_ (stmts_of body.items) (expr_tree cond) place
+    case_ (expr_tree selector.value) (branches_of (map (λ b. (b.0.items, stmts_of b.1.items)) all.items))
+    (else_of (option_map (λ o. stmts_of o.value.items) other)) place
+stmt_step (Stmt-F.For head body place) =
+    for_ head.value.var head.value.var_place (expr_tree head.value.first) (expr_tree head.value.last) head.value.by
+    (stmts_of body.items) place
+stmt_step (Stmt-F.While cond body place) = while_ (expr_tree cond.value) (stmts_of body.items) place
+stmt_step (Stmt-F.Repeat body cond place) = repeat_ (stmts_of body.items) (expr_tree cond.value) place
 stmt_step (Stmt-F.Exit place) = exit_ place
 stmt_step (Stmt-F.Continue place) = continue_ place
 stmt_step (Stmt-F.Return place) = return_ place
-stmt_step (Stmt-F.Call call) = call_ (call_tree call)
+stmt_step (Stmt-F.Call call) = call_ (call_tree call.value)
 stmt_step (Stmt-F.Empty place) = empty_ place
 
 abbrev pub stmt_tree : Stmt → StmtTree
@@ -128,13 +131,31 @@ stmt_trees list = stmts_of (map stmt_tree list)
 
 -- ---- instructions and blocks
 
+abbrev pub operand_behind : Behind → Option OperandTree
+operand_behind behind.Nothing = None
+operand_behind (behind.Operand o) = Some (operand_tree o.value)
+operand_behind (behind.Literal l) = None
+operand_behind (behind.Call c) = None
+
+abbrev pub literal_behind : Behind → Option Literal
+literal_behind behind.Nothing = None
+literal_behind (behind.Operand o) = None
+literal_behind (behind.Literal l) = Some l.value
+literal_behind (behind.Call c) = None
+
+abbrev pub call_behind : Behind → Option CallPlain
+call_behind behind.Nothing = None
+call_behind (behind.Operand o) = None
+call_behind (behind.Literal l) = None
+call_behind (behind.Call c) = Some (call_tree c.value)
+
 abbrev pub instr_tree : Instr → InstrTree
 instr_tree instr = record {
-  label = instr.label;
+  label = option_map (λ l. l.value) instr.label;
   op = instr.op;
-  operand = option_map operand_tree instr.operand;
-  literal = instr.literal;
-  call = option_map call_tree instr.call;
+  operand = operand_behind instr.behind;
+  literal = literal_behind instr.behind;
+  call = call_behind instr.behind;
   place = instr.place;
 }
 

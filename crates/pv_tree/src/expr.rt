@@ -41,12 +41,16 @@ pub enum Expr {
     Paren(Place, Box<Expr>),
 }
 
+// An expression's bytes.
+const _: () = prove!(size_of::<Expr>() <= 48);
+
 /// What is read or assigned: where it begins, the steps from there, and the place of its first
-/// token.
+/// token. A box holds where it begins, so that an operand lies in an expression or a statement
+/// without making them large.
 #[derive(Drop)]
 #[cycle(expression)]
 pub struct Operand {
-    pub root: Root,
+    pub root: Box<Root>,
     pub steps: Vec<Step>,
     pub place: Place,
 }

@@ -5,16 +5,26 @@ use crate::stmt::CallTree;
 use pv_place::Place;
 use pv_types::{Literal, Name};
 
-/// An instruction: its label with the label's place, what it does, its operand, literal or call,
-/// and the place of its word or sign.
+/// An instruction: its label with the label's place, what stands behind its word or sign, the
+/// word's place, and what it does.
 #[derive(Drop)]
 pub struct Instr {
-    pub label: Option<(Name, Place)>,
-    pub op: Op,
-    pub operand: Option<Operand>,
-    pub literal: Option<Literal>,
-    pub call: Option<CallTree>,
+    pub label: Option<Box<(Name, Place)>>,
+    pub behind: Behind,
     pub place: Place,
+    pub op: Op,
+}
+
+// An instruction's bytes.
+const _: () = prove!(size_of::<Instr>() <= 64);
+
+/// What stands behind an instruction's word or sign.
+#[derive(Drop)]
+pub enum Behind {
+    Nothing,
+    Operand(Box<Operand>),
+    Literal(Box<Literal>),
+    Call(Box<CallTree>),
 }
 
 /// An instruction's word or sign.

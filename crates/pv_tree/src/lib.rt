@@ -6,6 +6,7 @@
 //! nests.
 #![tactic(auto)]
 
+mod behind;
 mod block;
 mod expr;
 mod instr;
@@ -18,7 +19,7 @@ mod stmt;
 
 pub use block::{Block, BlockKind, Blocks, Body};
 pub use expr::{Area, BinaryOp, Expr, Operand, Root, StdFunction, Step, UnaryOp};
-pub use instr::{Instr, Op};
+pub use instr::{Behind, Instr, Op};
 pub use kept::Project;
 pub use laws::{
     deepest_place_is_one, first_outside_is_one, first_tokens_are_kept, levels_and_parts_agree,
@@ -31,4 +32,4 @@ pub use rule_laws::{
     literal_indexes_lie_in_bounds, named_types_are_grounded, parts_of_typed_expressions_have_types,
     patterns_have_types,
 };
-pub use stmt::{Arg, CallTree, Choice, Stmt};
+pub use stmt::{Arg, CallTree, Choice, ForHead, Stmt};

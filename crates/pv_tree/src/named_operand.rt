@@ -36,6 +36,6 @@ pub fn operand_of_instruction(instr: &Instr) -> Option<&Operand>
     if is_jump(instr.op) {
         None
     } else {
-        instr.operand.as_ref()
+        instr.operand()
     }
 }

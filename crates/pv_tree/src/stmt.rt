@@ -4,63 +4,72 @@ use crate::expr::{Expr, Operand};
 use pv_place::Place;
 use pv_types::{Literal, Name};
 
-/// A statement.
+/// A statement. What is large in one form lies in a box, so that no other form takes its room.
 #[derive(Drop)]
 pub enum Stmt {
     /// An assignment of a value to a target, with the place of `:=`.
     Assign {
         target: Operand,
         place: Place,
-        value: Expr,
+        value: Box<Expr>,
     },
     /// An assignment of a called function's value to a target, with the place of `:=`.
     AssignCall {
         target: Operand,
         place: Place,
-        call: CallTree,
+        call: Box<CallTree>,
     },
     /// IF: its conditions with their statements, those behind ELSE where it stands, and the place
     /// of IF.
     If {
         arms: Vec<(Expr, Vec<Stmt>)>,
-        other: Option<Vec<Stmt>>,
+        other: Option<Box<Vec<Stmt>>>,
         place: Place,
     },
     /// CASE: its branches with their values, each alone or as the lower end of a range, the
     /// statements behind ELSE where it stands, and the place of CASE.
     Case {
-        selector: Expr,
+        selector: Box<Expr>,
         branches: Vec<(Vec<(Choice, Option<Choice>)>, Vec<Stmt>)>,
-        other: Option<Vec<Stmt>>,
+        other: Option<Box<Vec<Stmt>>>,
         place: Place,
     },
-    /// FOR: its variable, the variable's start and end, the step where BY stands, and the place of
-    /// FOR.
+    /// FOR: what stands before DO, the statements behind it, and the place of FOR.
     For {
-        var: Name,
-        var_place: Place,
-        first: Expr,
-        last: Expr,
-        by: Option<Literal>,
+        head: Box<ForHead>,
         body: Vec<Stmt>,
         place: Place,
     },
     While {
-        cond: Expr,
+        cond: Box<Expr>,
         body: Vec<Stmt>,
         place: Place,
     },
     Repeat {
         body: Vec<Stmt>,
-        cond: Expr,
+        cond: Box<Expr>,
         place: Place,
     },
     Exit(Place),
     Continue(Place),
     Return(Place),
-    Call(CallTree),
+    Call(Box<CallTree>),
     /// Nothing, with the place of the `;` behind it.
     Empty(Place),
+}
+
+// A statement's bytes.
+const _: () = prove!(size_of::<Stmt>() <= 64);
+
+/// What stands before the statements of a FOR: its variable with the variable's place, the
+/// variable's start and end, and the step where BY stands.
+#[derive(Drop)]
+pub struct ForHead {
+    pub var: Name,
+    pub var_place: Place,
+    pub first: Expr,
+    pub last: Expr,
+    pub by: Option<Literal>,
 }
 
 /// A value of a branch of CASE.

@@ -4,7 +4,9 @@ use Rattle.std.proofs.Common.{ap}
 use Rattle.pv_types.specs.Tree.{VarTree, VarTrees, no_vars, _then_}
 use Rattle.pv_types.specs.View.{listed, fields_of}
 -- what a type, and a variable, of the code is as plain data, form by form
-pub use Rattle.pv_types.proofs.Trees.{tree-array, tree-structure, array_seen, structure_seen, var_seen}
+pub use Rattle.pv_types.proofs.Trees.{tree-array, tree-structure, array_seen, structure_seen, var_seen, vars_seen}
+-- variables that are declared at once, one by one, and how many they are
+pub use Rattle.pv_types.proofs.Words.{vars_from, mapped_from, counted, nameless, has_names, pushed, alike, word_in}
 -- leaves: how many there are, what they start with, that their paths differ, and those of a named type
 pub use Rattle.pv_types.proofs.Counting.{counted_leaves}
 pub use Rattle.pv_types.proofs.Starting.{leaves_start}

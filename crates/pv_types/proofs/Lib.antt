@@ -2,6 +2,7 @@ pub mod ForCallers
 mod LookUps
 mod Stack
 pub mod Trees
+pub mod Words
 mod Walking
 mod Elements
 pub mod Counting

@@ -1,33 +1,5 @@
 -- A search for a leaf: nothing is left to be searched and no leaf was found, so there is none.
-use Rattle.std.specs.Prelude.{
-  ◌≡◌,
-  ℤ,
-  ℕ,
-  zero,
-  suc,
-  ◌+◌,
-  ◌*◌,
-  ◌≤◌,
-  true,
-  false,
-  List,
-  [],
-  ◌∷◌,
-  ◌++◌,
-  Option,
-  Some,
-  None,
-  is_some,
-  bytes_eq,
-  cond,
-  length,
-  unwrap_or,
-  refl,
-  Result,
-  Ok,
-  Err,
-  IfOk,
-}
+use Rattle.std.specs.Prelude.{◌≡◌, ℤ, ℕ, zero, suc, ◌+◌, ◌*◌, ◌≤◌, true, false, List, [], ◌∷◌, ◌++◌, Option, Some, None, is_some, bytes_eq, cond, map, length, unwrap_or, refl, Result, Ok, Err, IfOk}
 use Rattle.std.specs.Map.{lookup}
 use Rattle.std.proofs.Common.{ap, sym, ◌∙◌, inl, inr, arith, true≢false}
 use Rattle.std.proofs.lemmas.Bool.{cases_Bool}
@@ -36,20 +8,20 @@ use Rattle.std.proofs.Math.Nat.{suc-mul}
 use Rattle.indexmap.specs.IndexMap.{insert_entry}
 use Rattle.pv_types.specs.declared.declaration.Section.{Section}
 use Rattle.pv_types.specs.declared.declaration.Section.TheVariants.{Static}
-use Rattle.pv_types.specs.declared.declaration.Var.{Var}
+use Rattle.pv_types.specs.declared.declaration.Vars.{Vars}
 use Rattle.pv_types.specs.declared.leaf.Leaf.{Leaf}
 use Rattle.pv_types.specs.declared.search.Sought.{Sought}
 use Rattle.pv_types.specs.declared.search.Search.{Search}
 use Rattle.pv_types.specs.declared.walk.Walk.{Walk}
 use Rattle.pv_types.specs.Tree.{TypeTree, VarTree, var, VarTrees, no_vars, _then_}
-use Rattle.pv_types.specs.View.{type_tree, var_trees, listed}
+use Rattle.pv_types.specs.View.{type_tree, vars_tree, word_tree, listed}
 use Rattle.pv_types.specs.Named.{NamedType, look_up}
 use Rattle.pv_types.specs.Leaves.{Around, instance, fields, section_within, leaves_of_type, leaves_of_named}
 use Rattle.pv_types.specs.Sizes.{number_where, size_of_type, size_of_fields, size_of_vars, size_of_named, HasNoLeaf}
 use Rattle.pv_types.specs.Search.{size_of_sought, size_of_all, size_of_met, Covers, IsSearch}
 use Rattle.pv_types.specs.Walk.{IsSound, Adds, pending}
 use Rattle.pv_types.proofs.Counting.{counted_type_of}
-use Rattle.pv_types.proofs.Trees.{var_seen}
+use Rattle.pv_types.proofs.Trees.{vars_seen}
 
 all_push : (size : List ℕ → ℕ) (xs : List Sought) (x : Sought)
     → size_of_all size (xs ++ x ∷ []) ≡ size_of_all size xs + size_of_sought size x
@@ -196,15 +168,49 @@ pub fields_sized : (size : List ℕ → ℕ) (s : Section) (vars : VarTrees) →
 fields_sized size s no_vars = refl
 fields_sized size s (_then_ (var name section ty start place) xs) = ap (λ r. size_of_type size ty + r) (fields_sized size s xs)
 
--- the number of leaves of variables, by the first of them
-pub vars_sized : (size : List ℕ → ℕ) (around : Around) (v : Var) (vs all : List Var) (o : Option Section) → all ≡ v ∷ vs
-    → o ≡ section_within around v.section
-    → size_of_vars size around (listed (var_trees all))
-    ≡ number_where o (size_of_type size (type_tree v.ty)) + size_of_vars size around (listed (var_trees vs))
-vars_sized size around v vs all o are is =
-    ap (λ l. size_of_vars size around (listed (var_trees l))) are
-    ∙ ap (λ x. size_of_vars size around (_then_ x (listed (var_trees vs)))) (var_seen v)
-    ∙ ap (λ s. number_where s (size_of_type size (type_tree v.ty)) + size_of_vars size around (listed (var_trees vs))) (sym is)
+where_none : (o : Option Section) (n : ℕ) → n ≡ 0 → number_where o n ≡ 0
+where_none None n none = refl
+where_none (Some s) n none = none
+
+-- the number of leaves of variables, by those in front and those behind
+pub vars_parted : (size : List ℕ → ℕ) (around : Around) (xs ys : List VarTree)
+    → size_of_vars size around (listed (xs ++ ys)) ≡ size_of_vars size around (listed xs) + size_of_vars size around (listed ys)
+vars_parted size around [] ys = omega arith
+vars_parted size around (var name section ty start place ∷ xs) ys =
+    let rest = vars_parted size around xs ys in omega (arith, rest)
+
+words_none : (size : List ℕ → ℕ) (around : Around) (s : Section) (t : TypeTree) (start : _) (ws : List _)
+    → number_where (section_within around s) (size_of_type size t) ≡ 0
+    → size_of_vars size around (listed (map (word_tree s t start) ws)) ≡ 0
+words_none size around s t start [] none = refl
+words_none size around s t start (w ∷ ws) none =
+    let rest = words_none size around s t start ws none in omega (arith, rest, none)
+
+-- variables that share a type without a leaf have none
+pub shared_none : (size : List ℕ → ℕ) (around : Around) (v : Vars) → size_of_type size (type_tree v.ty) ≡ 0
+    → size_of_vars size around (listed (vars_tree v)) ≡ 0
+shared_none size around v none =
+    ap (λ l. size_of_vars size around (listed l)) (vars_seen v)
+    ∙ words_none size around v.section (type_tree v.ty) v.start v.names.items (where_none (section_within around v.section) _ none)
+
+-- nor have those that have no section
+pub passed_none : (size : List ℕ → ℕ) (around : Around) (v : Vars) (o : Option Section) → o ≡ None → o ≡ section_within around v.section
+    → size_of_vars size around (listed (vars_tree v)) ≡ 0
+passed_none size around v o none is =
+    ap (λ l. size_of_vars size around (listed l)) (vars_seen v)
+    ∙ words_none size around v.section (type_tree v.ty) v.start v.names.items
+    (ap (λ s. number_where s (size_of_type size (type_tree v.ty))) (sym is ∙ none))
+
+-- nor has a declaration without names
+pub nameless_none : (size : List ℕ → ℕ) (around : Around) (v : Vars) → v.names.items ≡ [] → size_of_vars size around (listed (vars_tree v)) ≡ 0
+nameless_none size around v none =
+    ap (λ l. size_of_vars size around (listed l)) (vars_seen v)
+    ∙ ap (λ l. size_of_vars size around (listed (map (word_tree v.section (type_tree v.ty) v.start) l))) none
+
+pub implied_covered : (types : List NamedType) (old new : Search) (a b : ℕ → ℕ) → ((n : ℕ) → a n ≡ 0 → b n ≡ 0) → Covers types old new a
+    → Covers types old new b
+implied_covered types old new a b implies covers = λ n all met.
+    let c = covers n all met in record { sought = c.sought; none = implies n c.none; met = c.met; deeper = c.deeper }
 
 -- ---- what has no leaf adds nothing to a walk
 

@@ -28,7 +28,7 @@ use Rattle.std.proofs.Common.{ap, subst, sym, ◌∙◌, append_assoc, arith, le
 use Rattle.std.specs.Fmt.{signed_decimal}
 use Rattle.std.proofs.lemmas.List.{append_cancel_left, length-append, take-append-drop}
 use Rattle.pv_types.specs.declared.declaration.Section.{Section}
-use Rattle.pv_types.specs.declared.declaration.Var.{Var}
+use Rattle.pv_types.specs.declared.var.Var.{Var}
 use Rattle.pv_types.specs.declared.name.Name.{Name}
 use Rattle.pv_types.specs.declared.leaf.Leaf.{Leaf}
 use Rattle.pv_types.specs.declared.walk.Walk.{Walk}
@@ -36,8 +36,8 @@ use Rattle.pv_types.specs.declared.layout.TheConstants.{MAX_LEAVES}
 use Rattle.pv_types.specs.declared.walk.Frame.{Frame}
 use Rattle.pv_types.specs.declared.walk.Rest.{Rest}
 use Rattle.pv_types.specs.declared.walk.Rest.TheVariants.{Vars, Elements}
-use Rattle.pv_types.specs.Tree.{var, VarTrees, no_vars, _then_}
-use Rattle.pv_types.specs.View.{type_tree, var_trees, listed}
+use Rattle.pv_types.specs.Tree.{VarTree, var, VarTrees, no_vars, _then_}
+use Rattle.pv_types.specs.View.{type_tree, var_tree, trees_from, listed}
 use Rattle.pv_types.specs.Named.{NamedType}
 use Rattle.pv_types.specs.Leaves.{Around, section_within, field_path, start_value, leaves_where, leaves_of_type, leaves_of_vars}
 use Rattle.pv_types.specs.Walk.{
@@ -56,7 +56,6 @@ use Rattle.pv_types.specs.Walk.{
   all_leaves,
 }
 use Rattle.pv_types.proofs.Stack.{pending_front, pending_push, work_push, low_raise, low_pop}
-use Rattle.pv_types.proofs.Trees.{var_seen}
 
 pub on_ok : {T E : Type 0} (r : Result T E) {P Q : Type 0} → (P → Q) → OnOk r P → OnOk r Q
 on_ok (Ok x) f p = f p
@@ -110,32 +109,29 @@ re_adds types old new more now m n same le a = record {
 }
 
 -- the leaves of variables, by the first of them
-pub leaves_first : (expand : List ℕ → List ℕ → Section → List Leaf) (around : Around) (path : List ℕ) (v : Var) (vs all : List Var)
-    (s : Section) → all ≡ v ∷ vs
-    → Some s ≡ section_within around v.section
-    → leaves_of_type expand (field_path path v.name) (start_value v.start) s (type_tree v.ty)
-    ++ leaves_of_vars expand around path (listed (var_trees vs))
-    ≡ leaves_of_vars expand around path (listed (var_trees all))
+pub leaves_first : (expand : List ℕ → List ℕ → Section → List Leaf) (around : Around) (path : List ℕ) (v : Var) (vs all : List VarTree)
+    (s : Section) → all ≡ var_tree v ∷ vs
+    → Some s ≡ section_within around v.of.now.section
+    → leaves_of_type expand (field_path path v.name.now) (start_value v.of.now.start) s (type_tree v.of.now.ty)
+    ++ leaves_of_vars expand around path (listed vs)
+    ≡ leaves_of_vars expand around path (listed all)
 leaves_first expand around path v vs all s are some =
-    ap (λ o. leaves_where o (λ s. leaves_of_type expand (field_path path v.name) (start_value v.start) s (type_tree v.ty))
-    ++ leaves_of_vars expand around path (listed (var_trees vs))) some
-    ∙ ap (λ x. leaves_of_vars expand around path (_then_ x (listed (var_trees vs)))) (sym (var_seen v))
-    ∙ ap (λ l. leaves_of_vars expand around path (listed (var_trees l))) (sym are)
+    ap (λ o. leaves_where o (λ s. leaves_of_type expand (field_path path v.name.now) (start_value v.of.now.start) s (type_tree v.of.now.ty))
+    ++ leaves_of_vars expand around path (listed vs)) some
+    ∙ ap (λ l. leaves_of_vars expand around path (listed l)) (sym are)
 
-pub leaves_passed : (expand : List ℕ → List ℕ → Section → List Leaf) (around : Around) (path : List ℕ) (v : Var) (vs all : List Var)
-    → all ≡ v ∷ vs
-    → None ≡ section_within around v.section
-    → leaves_of_vars expand around path (listed (var_trees vs)) ≡ leaves_of_vars expand around path (listed (var_trees all))
+pub leaves_passed : (expand : List ℕ → List ℕ → Section → List Leaf) (around : Around) (path : List ℕ) (v : Var) (vs all : List VarTree)
+    → all ≡ var_tree v ∷ vs
+    → None ≡ section_within around v.of.now.section
+    → leaves_of_vars expand around path (listed vs) ≡ leaves_of_vars expand around path (listed all)
 leaves_passed expand around path v vs all are none =
-    ap (λ o. leaves_where o (λ s. leaves_of_type expand (field_path path v.name) (start_value v.start) s (type_tree v.ty))
-    ++ leaves_of_vars expand around path (listed (var_trees vs))) none
-    ∙ ap (λ x. leaves_of_vars expand around path (_then_ x (listed (var_trees vs)))) (sym (var_seen v))
-    ∙ ap (λ l. leaves_of_vars expand around path (listed (var_trees l))) (sym are)
+    ap (λ o. leaves_where o (λ s. leaves_of_type expand (field_path path v.name.now) (start_value v.of.now.start) s (type_tree v.of.now.ty))
+    ++ leaves_of_vars expand around path (listed vs)) none
+    ∙ ap (λ l. leaves_of_vars expand around path (listed l)) (sym are)
 
-pub work_first : (work : List ℕ → ℕ) (v : Var) (vs all : List Var) → all ≡ v ∷ vs
-    → work_of_vars work (listed (var_trees all)) ≡ 1 + work_of_type work (type_tree v.ty) + work_of_vars work (listed (var_trees vs))
-work_first work v vs all are =
-    ap (λ l. work_of_vars work (listed (var_trees l))) are ∙ ap (λ x. work_of_vars work (_then_ x (listed (var_trees vs)))) (var_seen v)
+pub work_first : (work : List ℕ → ℕ) (v : Var) (vs all : List VarTree) → all ≡ var_tree v ∷ vs
+    → work_of_vars work (listed all) ≡ 1 + work_of_type work (type_tree v.of.now.ty) + work_of_vars work (listed vs)
+work_first work v vs all are = ap (λ l. work_of_vars work (listed l)) are
 
 -- what an index puts behind a path
 abbrev pub element_behind : ℤ → List ℕ
@@ -173,7 +169,7 @@ vars_take_steps work no_vars = omega arith
 vars_take_steps work (_then_ (var name section ty start place) xs) = omega arith
 
 rest_takes_steps : (types : List NamedType) (n : ℕ) (rest : Rest) → 1 ≤ work_of_rest types n rest
-rest_takes_steps types n (Vars vars around) = vars_take_steps (work_of_named types n) (listed (var_trees vars.now))
+rest_takes_steps types n (Vars vars from around) = vars_take_steps (work_of_named types n) (listed (trees_from vars.now from))
 rest_takes_steps types n (Elements of span section) = omega arith
 
 pub stepped : (types : List NamedType) (old mid new : Walk) (f : Frame) → Pops types old mid f

@@ -1,4 +1,5 @@
 pub mod Names
+pub mod Written
 pub mod Tree
 pub mod View
 pub mod Named

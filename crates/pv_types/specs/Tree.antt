@@ -15,12 +15,15 @@ mutual
     structure : VarTrees → TypeTree
     named : Name → Place → TypeTree
     unread : TypeTree
+    deriving IsSet as TypeTree-set
 
   -- a variable: its name, its section, its type, its start value and the place of its name
   pub data VarTree : Type 0 where
     var : Name → Section → TypeTree → Option Literal → Place → VarTree
+    deriving IsSet as VarTree-set
 
   -- the fields of a structure
   pub data VarTrees : Type 0 where
     no_vars : VarTrees
     _then_ : VarTree → VarTrees → VarTrees
+    deriving IsSet as VarTrees-set

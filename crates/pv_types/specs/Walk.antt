@@ -40,7 +40,7 @@ use Rattle.pv_types.specs.Tree.{
   no_vars,
   _then_,
 }
-use Rattle.pv_types.specs.View.{type_tree, var_trees, listed}
+use Rattle.pv_types.specs.View.{type_tree, trees_from, listed}
 use Rattle.pv_types.specs.Named.{NamedType, look_up}
 use Rattle.pv_types.specs.Leaves.{
   Around,
@@ -63,8 +63,8 @@ around_view (around.Fields section) = fields section
 -- the leaves of what is still to be laid out beneath a path, where at most n named types stand
 -- inside each other
 abbrev pub leaves_of_rest : List NamedType → ℕ → List ℕ → Rest → List Leaf
-leaves_of_rest types n path (Vars vars around) = leaves_of_vars (leaves_of_named types n)
-    (around_view around) path (listed (var_trees vars.now))
+leaves_of_rest types n path (Vars vars from around) = leaves_of_vars (leaves_of_named types n)
+    (around_view around) path (listed (trees_from vars.now from))
 leaves_of_rest types n path (Elements of span section) =
     leaves_of_elements (λ i. leaves_of_type (leaves_of_named types n) (element_path path i)
     (pos 0) section (type_tree of.now)) span.index (count_between span.index span.high)
@@ -106,8 +106,8 @@ work_of_named types (suc n) key =
     work_of_vars (work_of_named types n) (listed (unwrap_or (look_up types key) []))
 
 abbrev pub work_of_rest : List NamedType → ℕ → Rest → ℕ
-work_of_rest types n (Vars vars around) =
-    work_of_vars (work_of_named types n) (listed (var_trees vars.now))
+work_of_rest types n (Vars vars from around) =
+    work_of_vars (work_of_named types n) (listed (trees_from vars.now from))
 work_of_rest types n (Elements of span section) = 1 + count_between span.index span.high *
     (1 + work_of_type (work_of_named types n) (type_tree of.now))
 

@@ -19,24 +19,27 @@ pub enum DeclType {
         place: Place,
     },
     /// A structure with its fields.
-    Struct(Vec<Var>),
+    Struct(Vec<Vars>),
     /// A function block's or a named structure's type, with the place of its name.
     Named(Name, Place),
     /// DATE_AND_TIME, whose variables nothing reads.
     Unread,
 }
 
-/// A declared variable, with its start value where one is written, and the place of its name.
+/// Variables that are declared at once: their names, each with its place, share the type, and the
+/// start value where one is written.
+///
+/// So what is declared is never larger than its text times a constant, however many names share a
+/// structure in which others share one. Definitions list the variables one by one.
 #[derive(Drop)]
 #[cycle(declaration)]
-pub struct Var {
-    pub name: Name,
+pub struct Vars {
+    pub names: Vec<(Name, Place)>,
     /// The section of the declaration; a structure's fields have that of the declaration around
     /// them.
     pub section: Section,
     pub ty: DeclType,
     pub start: Option<Literal>,
-    pub place: Place,
 }
 
 /// The kind of a variable.
@@ -68,6 +71,6 @@ pub struct Literal {
 /// function has.
 #[derive(Drop)]
 pub struct Interface {
-    pub vars: Vec<Var>,
+    pub vars: Vec<Vars>,
     pub value: Option<Ty>,
 }

@@ -5,7 +5,7 @@ ghost use Rattle.pv_types.specs.Named.{types_of};
 ghost use Rattle.pv_types.specs.Leaves.{leaves_of, leaves_beneath};
 ghost use Rattle.pv_types.specs.View.{var_trees};
 
-use crate::declaration::Var;
+use crate::declaration::Vars;
 use crate::fault::FlattenFault;
 use crate::leaf::Leaves;
 use crate::named::Types;
@@ -23,7 +23,7 @@ pub const MAX_LEAVES: usize = 20_000;
 /// 0.
 ///
 /// `TooLarge` where there are more than [`MAX_LEAVES`].
-pub fn flatten(alloc: Global, vars: &[Var], named: &Types) -> Result<Leaves, FlattenFault>
+pub fn flatten(alloc: Global, vars: &[Vars], named: &Types) -> Result<Leaves, FlattenFault>
     ensures leaves { IfOk result (λ leaves. leaves
         ≡ leaves_of (types_of named.now) (var_trees vars.now)) }
     ensures within { OnOk result (length (leaves_of (types_of named.now) (var_trees vars.now)) ≤
@@ -38,7 +38,7 @@ pub fn flatten(alloc: Global, vars: &[Var], named: &Types) -> Result<Leaves, Fla
 pub fn flatten_beneath(
     alloc: Global,
     path: &[u8],
-    vars: &[Var],
+    vars: &[Vars],
     named: &Types,
 ) -> Result<Leaves, FlattenFault>
     ensures leaves { IfOk result (λ leaves. leaves

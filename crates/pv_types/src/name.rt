@@ -6,23 +6,33 @@ ghost use Rattle.std.specs.Prelude.{◌≡◌, ◌↔◌, IfOk, IsTrue, true, fa
 ghost use Rattle.std.specs.Str.{str_to_ascii_lowercase};
 ghost use Rattle.pv_types.specs.Names.{between_quotes};
 
+use crate::written::{Written, copy, is_pair, spelled_by, written_of};
 use pv_edge::Text;
 use std::alloc::{AllocError, Global};
 use std::cmp::Ordering;
 use std::hash::{Hash, Hasher};
+use std::marker::Model;
 
-/// A name. Two names are the same where their keys are.
+/// A name, which contracts see as its key, its text as it was written, and whether that was in two
+/// words. Two names are the same where their keys are.
 #[derive(Drop)]
 pub struct Name {
-    /// The name's text with ASCII letters in lower case, and all other bytes as they stand.
-    pub key: Text,
-    /// The name as it was written: a quoted one with its quotes, a numbered one without the blank
-    /// in it.
-    pub spelled: Text,
-    /// Whether the name was written as two words, a letter of a kind of block and a number behind
-    /// it (`FB 1_0`). Such a name is that block's, whatever its number looks like; names are the
-    /// same without a look at this.
-    pub paired: bool,
+    key: Text,
+    written: Written,
+}
+
+impl Model for Name {
+    ghost use Rattle.pv_types.specs.Names.{NameText};
+
+    ghost Value = { NameText };
+
+    ghost use Rattle.pv_types.specs.Written.{spelled_by, is_pair};
+
+    ghost view = { λ n. record {
+      key = n.key;
+      spelled = spelled_by n.key n.written;
+      paired = is_pair n.written;
+    } };
 }
 
 impl Name {
@@ -54,11 +64,35 @@ impl Name {
         name_of(alloc, within_quotes(text), text, false)
     }
 
+    /// The name's text with ASCII letters in lower case, and all other bytes as they stand.
+    pub fn key(&self) -> &Text
+        ensures { result.now ≡ self.now.key }
+    {
+        &self.key
+    }
+
+    /// The name as it was written: a quoted one with its quotes, a numbered one without the blank
+    /// in it.
+    pub fn spelled(&self) -> &[u8]
+        ensures { result.now ≡ self.now.spelled }
+    {
+        spelled_by(self.key.bytes(), &self.written)
+    }
+
+    /// Whether the name was written as two words, a letter of a kind of block and a number behind
+    /// it (`FB 1_0`). Such a name is that block's, whatever its number looks like; names are the
+    /// same without a look at this.
+    pub fn paired(&self) -> bool
+        ensures { result ≡ self.now.paired }
+    {
+        is_pair(&self.written)
+    }
+
     /// Whether the two names are the same.
     pub fn same(&self, other: &Name) -> bool
         ensures { IsTrue result ↔ (self.now.key ≡ other.now.key) }
     {
-        self.key == other.key
+        self.key() == other.key()
     }
 }
 
@@ -72,6 +106,16 @@ fn within_quotes(text: &[u8]) -> &[u8]
     &text[1..text.len() - 1]
 }
 
+/// The name of this key that is written as `spelled`, in two words where it is paired.
+fn name_of_key(alloc: Global, key: Text, spelled: &[u8], paired: bool) -> Result<Name, AllocError>
+    ensures key { IfOk result (λ name. name.key ≡ key) }
+    ensures spelled { IfOk result (λ name. name.spelled ≡ spelled.now) }
+    ensures paired { IfOk result (λ name. name.paired ≡ paired) }
+{
+    let written = written_of(alloc, key.bytes(), spelled, paired)?;
+    Ok(Name { key, written })
+}
+
 /// The name of this text that is written as `spelled`, in two words where it is paired.
 fn name_of(alloc: Global, text: &[u8], spelled: &[u8], paired: bool) -> Result<Name, AllocError>
     ensures key { IfOk result (λ name. name.key ≡ str_to_ascii_lowercase text.now) }
@@ -80,12 +124,7 @@ fn name_of(alloc: Global, text: &[u8], spelled: &[u8], paired: bool) -> Result<N
 {
     let mut key = Vec::from_slice(alloc, text)?;
     key.as_mut_slice().make_ascii_lowercase();
-    let spelled = Vec::from_slice(alloc, spelled)?;
-    Ok(Name {
-        key: Text::from(key),
-        spelled: Text::from(spelled),
-        paired,
-    })
+    name_of_key(alloc, Text::from(key), spelled, paired)
 }
 
 impl Clone for Name {
@@ -93,12 +132,8 @@ impl Clone for Name {
 
     fn clone(&self) -> Result<Name, AllocError> {
         let key = self.key.clone()?;
-        let spelled = self.spelled.clone()?;
-        Ok(Name {
-            key,
-            spelled,
-            paired: self.paired,
-        })
+        let written = copy(&self.written)?;
+        Ok(Name { key, written })
     }
 }
 
@@ -112,7 +147,7 @@ impl PartialEq for Name {
     ghost laws = { partial_equiv_from_equiv (on_texts_equal (λ name. name.key)) };
 
     fn eq(&self, other: &Name) -> bool {
-        self.key == other.key
+        self.key() == other.key()
     }
 }
 
@@ -155,7 +190,7 @@ impl Ord for Name {
     ghost matches_eq = { λ a b. texts_ties a.key b.key };
 
     fn cmp(&self, other: &Name) -> Ordering {
-        self.key.cmp(&other.key)
+        self.key().cmp(other.key())
     }
 }
 
@@ -170,6 +205,6 @@ impl Hash for Name {
         ((bytes_eq-Decides x.key y.key).0 same) };
 
     fn hash<H: Hasher>(&self, state: &mut H) {
-        self.key.hash(state);
+        self.key().hash(state);
     }
 }

@@ -3,7 +3,7 @@ ghost use Rattle.std.specs.Prelude.{◌≡◌, [], IfOk, OnErr, option_map, leng
 ghost use Rattle.pv_types.specs.Named.{look_up, types_of, with_type};
 ghost use Rattle.pv_types.specs.View.{var_trees};
 
-use crate::declaration::Var;
+use crate::declaration::Vars;
 use crate::name::Name;
 use indexmap::IndexMap;
 use pv_edge::Text;
@@ -12,7 +12,7 @@ use std::alloc::{AllocError, Global};
 /// The named types with their variables, which contracts see as their list.
 #[derive(Drop)]
 pub struct Types<'p> {
-    types: IndexMap<Text, &'p [Var]>,
+    types: IndexMap<Text, &'p [Vars]>,
 }
 
 impl<'p> Types<'p> {
@@ -33,25 +33,26 @@ impl<'p> Types<'p> {
     }
 
     /// Puts a type behind the others, unless there is one of its name.
-    pub fn push(&mut self, name: &Name, vars: &'p [Var]) -> Result<(), AllocError>
+    pub fn push(&mut self, name: &Name, vars: &'p [Vars]) -> Result<(), AllocError>
         ensures pushed { IfOk result (λ _. types_of self.new ≡ with_type (types_of self.old)
             (record { key = name.now.key; vars = var_trees vars.now })) }
         ensures unchanged { OnErr result (types_of self.new ≡ types_of self.old) }
     {
-        if self.types.contains_key(&name.key) {
+        let own = name.key();
+        if self.types.contains_key(own) {
             return Ok(());
         }
-        let key = name.key.clone()?;
+        let key = own.clone()?;
         self.types.insert(key, vars)?;
         Ok(())
     }
 
     /// The variables of the type of this name.
-    pub fn find(&self, name: &Name) -> Option<&'p [Var]>
+    pub fn find(&self, name: &Name) -> Option<&'p [Vars]>
         ensures { option_map (λ vars. var_trees vars.now) result
             ≡ look_up (types_of self.now) name.now.key }
     {
-        match self.types.get(&name.key) {
+        match self.types.get(name.key()) {
             Some(vars) => Some(*vars),
             None => None,
         }

@@ -7,12 +7,12 @@
 //! and so none at all.
 ghost use Rattle.std.specs.Prelude.{◌≡◌, [], false, ℕ, IfOk, OnOk};
 ghost use Rattle.pv_types.specs.Named.{types_of};
-ghost use Rattle.pv_types.specs.View.{type_tree, var_trees, listed};
+ghost use Rattle.pv_types.specs.View.{type_tree, vars_tree, var_trees, listed};
 ghost use Rattle.pv_types.specs.Walk.{around_view};
 ghost use Rattle.pv_types.specs.Sizes.{size_of_type, size_of_vars, size_of_named, HasNoLeaf};
 ghost use Rattle.pv_types.specs.Search.{size_of_sought, IsSearch, Covers};
 
-use crate::declaration::{DeclType, Section, Var};
+use crate::declaration::{DeclType, Section, Vars};
 use crate::name::Name;
 use crate::named::Types;
 use crate::walk::Around;
@@ -27,7 +27,7 @@ const MAX_STEPS: u32 = u32::MAX;
 #[derive(Drop)]
 pub(crate) enum Sought<'p> {
     Element(&'p DeclType),
-    Vars { vars: &'p [Var], around: Around },
+    Vars { vars: &'p [Vars], around: Around },
 }
 
 /// A search: what is still to be searched, and the keys of the named types that were met.
@@ -43,13 +43,14 @@ impl<'p> Search<'p> {
         ensures { let types = types_of named.now in OnOk result (Covers types self.old self.new
             (λ n. size_of_named types n name.now.key)) }
     {
-        if self.met.contains_key(&name.key) {
+        let own = name.key();
+        if self.met.contains_key(own) {
             return Ok(());
         }
         let Some(vars) = named.find(name) else {
             return Ok(());
         };
-        let key = name.key.clone()?;
+        let key = own.clone()?;
         self.met.insert(key, ())?;
         let around = Around::Instance(Section::Static);
         self.sought.push(Sought::Vars { vars, around })?;
@@ -82,11 +83,33 @@ impl<'p> Search<'p> {
         }
     }
 
-    /// Whether the first of the variables is a leaf; else what it has inside is to be searched, and
-    /// so are the others.
+    /// Whether variables that are declared at once are leaves; else what their type has inside is to
+    /// be searched, once for all of them.
+    fn add_shared(
+        &mut self,
+        of: &'p Vars,
+        around: Around,
+        named: &Types<'p>,
+    ) -> Result<bool, AllocError>
+        ensures { let types = types_of named.now in IfOk result
+            (λ found. found ≡ false → Covers types self.old self.new
+            (λ n. size_of_vars (size_of_named types n) (around_view around)
+            (listed (vars_tree of.now)))) }
+    {
+        if of.names.is_empty() {
+            return Ok(false);
+        }
+        match around.section_of(of.section) {
+            None => Ok(false),
+            Some(_) => self.add_type(&of.ty, named),
+        }
+    }
+
+    /// Whether a variable of the first declaration is a leaf; else what its type has inside is to be
+    /// searched, once for all that share it, and so are the other declarations.
     fn add_vars(
         &mut self,
-        vars: &'p [Var],
+        vars: &'p [Vars],
         around: Around,
         named: &Types<'p>,
     ) -> Result<bool, AllocError>
@@ -95,14 +118,11 @@ impl<'p> Search<'p> {
             (λ n. size_of_vars (size_of_named types n) (around_view around)
             (listed (var_trees vars.now)))) }
     {
-        let Some((var, vars)) = vars.split_first() else {
+        let Some((of, vars)) = vars.split_first() else {
             return Ok(false);
         };
         self.sought.push(Sought::Vars { vars, around })?;
-        match around.section_of(var.section) {
-            None => Ok(false),
-            Some(_) => self.add_type(&var.ty, named),
-        }
+        self.add_shared(of, around, named)
     }
 
     /// Whether there is a leaf at the front of what is sought; else the rest is to be searched.

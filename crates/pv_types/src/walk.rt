@@ -41,7 +41,7 @@ ghost use Rattle.pv_types.specs.Leaves.{
   count_between,
   block,
 };
-ghost use Rattle.pv_types.specs.View.{type_tree, var_trees, listed};
+ghost use Rattle.pv_types.specs.View.{type_tree, var_trees, trees_from, listed};
 ghost use Rattle.pv_types.specs.Leaves as spec;
 ghost use Rattle.pv_types.specs.Walk.{
   around_view,
@@ -60,13 +60,14 @@ ghost use Rattle.pv_types.specs.Walk.{
 };
 ghost use Rattle.pv_types.specs.Named.{NamedType, types_of};
 
-use crate::declaration::{DeclType, Literal, Section, Var};
+use crate::declaration::{DeclType, Literal, Section, Vars};
 use crate::fault::FlattenFault;
 use crate::layout::MAX_LEAVES;
 use crate::leaf::{Leaf, Leaves};
 use crate::name::Name;
 use crate::named::Types;
 use crate::search::has_leaf;
+use crate::var::first_from;
 use itoa::Buffer;
 use pv_edge::Text;
 use pv_word::Ty;
@@ -139,7 +140,7 @@ fn append_name(path: &mut Vec<u8>, name: &Name) -> Result<(), AllocError>
     if !path.is_empty() {
         path.push(b'.')?;
     }
-    path.extend_from_slice(name.spelled.bytes())?;
+    path.extend_from_slice(name.spelled())?;
     Ok(())
 }
 
@@ -188,8 +189,10 @@ impl Span {
 /// What is still to be laid out beneath a path.
 #[derive(Drop)]
 pub(crate) enum Rest<'p> {
+    /// Variables; of the first declaration only the names from this number on.
     Vars {
-        vars: &'p [Var],
+        vars: &'p [Vars],
+        from: usize,
         around: Around,
     },
     Elements {
@@ -274,6 +277,26 @@ impl<'p> Walk<'p> {
         Ok(())
     }
 
+    /// Puts variables on the stack.
+    fn add_vars(
+        &mut self,
+        vars: &'p [Vars],
+        around: Around,
+        levels: usize,
+    ) -> Result<(), FlattenFault>
+        requires { IsSound self.old }
+        ensures adds { (types : List NamedType) → OnOk result (Adds types self.old self.new
+            (leaves_of_vars (leaves_of_named types levels) (around_view around)
+            self.old.path.items (listed (var_trees vars.now)))
+            (work_of_vars (work_of_named types levels) (listed (var_trees vars.now)))) }
+        ensures path { self.new.path.items ≡ self.old.path.items }
+        ensures leaves { self.new.leaves.items ≡ self.old.leaves.items }
+        ensures memory { IsErrOf result FlattenFault.TooLarge → ⊥ }
+    {
+        let from = 0;
+        self.add_frame(Rest::Vars { vars, from, around }, levels)
+    }
+
     /// Lays out a type beneath the path: its one leaf, or what it has inside, which goes on the
     /// stack.
     fn lay_out_type(
@@ -308,7 +331,7 @@ impl<'p> Walk<'p> {
             DeclType::Struct(vars) => {
                 let vars = vars.as_slice();
                 let around = Around::Fields(section);
-                self.add_frame(Rest::Vars { vars, around }, levels)
+                self.add_vars(vars, around, levels)
             }
             DeclType::Named(name, _) => self.lay_out_named(name, section, levels, named),
             DeclType::Unread => Ok(()),
@@ -337,7 +360,7 @@ impl<'p> Walk<'p> {
             return Ok(());
         };
         let around = Around::Instance(section);
-        self.add_frame(Rest::Vars { vars, around }, below)
+        self.add_vars(vars, around, below)
     }
 
     /// Lays out a type beneath the path, unless it has no leaf, however many elements it may have.
@@ -371,7 +394,8 @@ impl<'p> Walk<'p> {
     fn lay_out_vars(
         &mut self,
         alloc: Global,
-        vars: &'p [Var],
+        vars: &'p [Vars],
+        from: usize,
         around: Around,
         levels: usize,
         named: &Types<'p>,
@@ -380,22 +404,28 @@ impl<'p> Walk<'p> {
         ensures adds { let types = types_of named.now in
             OnOk result (Adds types self.old self.new
             (leaves_of_vars (leaves_of_named types levels) (around_view around)
-            self.old.path.items (listed (var_trees vars.now)))
-            (work_of_vars (work_of_named types levels) (listed (var_trees vars.now)) - 1)) }
+            self.old.path.items (listed (trees_from vars.now from)))
+            (work_of_vars (work_of_named types levels) (listed (trees_from vars.now from)) - 1)) }
         ensures too_large { let types = types_of named.now in
             IsErrOf result FlattenFault.TooLarge → MAX_LEAVES < length self.old.leaves.items
             + length (leaves_of_vars (leaves_of_named types levels) (around_view around)
-            self.old.path.items (listed (var_trees vars.now))) }
+            self.old.path.items (listed (trees_from vars.now from))) }
     {
-        let Some((var, vars)) = vars.split_first() else {
+        let Some(first) = first_from(vars, from) else {
             return Ok(());
         };
-        self.add_frame(Rest::Vars { vars, around }, levels)?;
-        match around.section_of(var.section) {
+        let behind = Rest::Vars {
+            vars: first.vars,
+            from: first.from,
+            around,
+        };
+        self.add_frame(behind, levels)?;
+        match around.section_of(first.var.of.section) {
             None => Ok(()),
             Some(section) => {
-                append_name(&mut self.path, &var.name)?;
-                self.lay_out(alloc, &var.ty, var.start, section, levels, named)
+                let var = first.var;
+                append_name(&mut self.path, var.name)?;
+                self.lay_out(alloc, &var.of.ty, var.of.start, section, levels, named)
             }
         }
     }
@@ -474,7 +504,9 @@ impl<'p> Walk<'p> {
             + length (leaves_of_rest types levels self.old.path.items rest.entry) }
     {
         match rest {
-            Rest::Vars { vars, around } => self.lay_out_vars(alloc, vars, around, levels, named),
+            Rest::Vars { vars, from, around } => self.lay_out_vars(
+                alloc, vars, from, around, levels, named,
+            ),
             Rest::Elements { of, span, section } => self.lay_out_elements(
                 alloc, of, &span, section, levels, named,
             ),
@@ -516,7 +548,7 @@ impl<'p> Walk<'p> {
     pub(crate) fn new(
         alloc: Global,
         path: &[u8],
-        vars: &'p [Var],
+        vars: &'p [Vars],
         levels: usize,
     ) -> Result<Walk<'p>, FlattenFault>
         ensures sound { IfOk result (λ walk. IsSound walk) }
@@ -530,8 +562,7 @@ impl<'p> Walk<'p> {
             path: Vec::from_slice(alloc, path)?,
             leaves: Vec::new(alloc),
         };
-        let around = Around::Block;
-        walk.add_frame(Rest::Vars { vars, around }, levels)?;
+        walk.add_vars(vars, Around::Block, levels)?;
         Ok(walk)
     }
 

@@ -1,13 +1,13 @@
 -- No number of a block's variables passes 32 bits, where the block has room and its table as few cells as one may have.
-use Rattle.std.proofs.Common.{◌≡◌, ℕ, zero, suc, ◌+◌, ◌*◌, ◌<◌, ◌≤◌, List, [], ◌∷◌, length, drop, get_or, Bool, true, false, cond, refl, sym, ap, subst, ◌∙◌, arith}
+use Rattle.std.proofs.Common.{map, ◌≡◌, ℕ, zero, suc, ◌+◌, ◌*◌, ◌<◌, ◌≤◌, List, [], ◌∷◌, length, drop, get_or, Bool, true, false, cond, refl, sym, ap, subst, ◌∙◌, arith}
 use Rattle.std.specs.Prelude.{◌^◌, ◌&&◌, not, is_some, if◌then◌else◌}
 use Rattle.std.proofs.lemmas.Bool.{true≢false, false≢true}
 use Rattle.std.proofs.lemmas.List.{length-drop}
 use Rattle.pv_types.specs.declared.declaration.Section.{Section}
 use Rattle.pv_types.specs.declared.declaration.Section.TheVariants.{Input, Output, InOut, Static, Temp, Const}
-use Rattle.pv_types.specs.declared.declaration.Var.{Var}
+use Rattle.pv_types.specs.declared.var.Var.{Var}
 use Rattle.pv_types.specs.Tree.{VarTree, var}
-use Rattle.pv_types.specs.View.{type_tree, var_tree, var_trees}
+use Rattle.pv_types.specs.View.{type_tree, var_tree}
 use Rattle.pv_types.proofs.ForCallers.{var_seen}
 use Rattle.pv_tree.specs.declared.block.BlockKind.{BlockKind}
 use Rattle.pv_tree.specs.declared.block.BlockKind.TheVariants.{Fb, Fc, Ob, Db, Udt}
@@ -106,13 +106,13 @@ own_few source block h few =
 -- ---- one of the variables that are left
 
 pub first_near : (project : ProjectTree) (test : Section → Bool) (vars : List Var) (i n : ℕ) (v : Var) → i < length vars → v ≡ get_or vars i v
-    → n + size_among project test (var_trees (drop i vars)) < BEYOND → (if test v.section then size_in project (type_tree v.ty) else 0) < BEYOND
+    → n + size_among project test (map var_tree (drop i vars)) < BEYOND → (if test v.of.now.section then size_in project (type_tree v.of.now.ty) else 0) < BEYOND
 first_near project test vars i n v inside is near =
-    lead (test v.section) (ap (size_among project test) (variables_from vars i v inside is))
+    lead (test v.of.now.section) (ap (size_among project test) (variables_from vars i v inside is))
   where
-    lead : (b : Bool) → size_among project test (var_trees (drop i vars)) ≡ (if b then size_in project (type_tree v.ty)
-        + size_among project test (var_trees (drop (i + 1) vars)) else size_among project test (var_trees (drop (i + 1) vars)))
-        → (if b then size_in project (type_tree v.ty) else 0) < BEYOND
+    lead : (b : Bool) → size_among project test (map var_tree (drop i vars)) ≡ (if b then size_in project (type_tree v.of.now.ty)
+        + size_among project test (map var_tree (drop (i + 1) vars)) else size_among project test (map var_tree (drop (i + 1) vars)))
+        → (if b then size_in project (type_tree v.of.now.ty) else 0) < BEYOND
     lead true e = omega (arith, near, e)
     lead false e = omega arith
 
@@ -125,16 +125,16 @@ one_fewer project test (var name section ty start place) more = lead (test secti
     lead false = omega arith
 
 left_fewer : (project : ProjectTree) (test : Section → Bool) (vars : List Var) (i : ℕ)
-    → size_among project test (var_trees (drop i vars)) ≤ size_among project test (var_trees vars)
+    → size_among project test (map var_tree (drop i vars)) ≤ size_among project test (map var_tree vars)
 left_fewer project test [] zero = omega arith
 left_fewer project test [] (suc i) = omega arith
 left_fewer project test (v ∷ vars) zero = omega arith
 left_fewer project test (v ∷ vars) (suc i) =
     let rest = left_fewer project test vars i in
-    let whole = one_fewer project test (var_tree v) (var_trees vars) in omega (arith, rest, whole)
+    let whole = one_fewer project test (var_tree v) (map var_tree vars) in omega (arith, rest, whole)
 
 pub left_near : (project : ProjectTree) (test : Section → Bool) (vars : List Var) (i : ℕ) (v : Var) → i < length vars → v ≡ get_or vars i v
-    → size_among project test (var_trees vars) < BEYOND → (if test v.section then size_in project (type_tree v.ty) else 0) < BEYOND
+    → size_among project test (map var_tree vars) < BEYOND → (if test v.of.now.section then size_in project (type_tree v.of.now.ty) else 0) < BEYOND
 left_near project test vars i v inside is near =
     first_near project test vars i 0 v inside is (let rest = left_fewer project test vars i in omega (arith, rest, near))
 
@@ -168,11 +168,11 @@ next_before project block (v ∷ more) f h =
 
 -- of the first of those that are left
 pub first_next : (project : ProjectTree) (block : BlockTree) (vars : List Var) (i : ℕ) (v : Var) (f whole : Found) → i < length vars
-    → v ≡ get_or vars i v → with_variables project block (var_trees (drop i vars)) f ≡ whole → HasNext whole
+    → v ≡ get_or vars i v → with_variables project block (map var_tree (drop i vars)) f ≡ whole → HasNext whole
     → HasNext (with_variable project block (var_tree v) f)
 first_next project block vars i v f whole inside is e h =
     subst (λ t. HasNext (with_variable project block t f)) (sym (var_seen v))
-    (next_before project block (var_trees (drop (i + 1) vars)) (with_variable project block (var v.name v.section (type_tree v.ty) v.start v.place) f)
+    (next_before project block (map var_tree (drop (i + 1) vars)) (with_variable project block (var v.name.now v.of.now.section (type_tree v.of.now.ty) v.of.now.start v.place) f)
     (subst HasNext (sym (ap (λ l. with_variables project block l f) (sym (variables_from vars i v inside is)) ∙ e)) h))
 
 -- they are so many at most

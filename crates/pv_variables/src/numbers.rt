@@ -1,6 +1,6 @@
 //! Where the variables of a block's automaton lie.
-ghost use Rattle.std.specs.Prelude.{◌≡◌, ◌<◌, ◌+◌, ◌-◌, ℕ, ◌*◌, ◌^◌, ◌∷◌, [], ◌++◌, length, IfOk, IfErr, IsOk, OnOk, Some, slice_get, is_some, if◌then◌else◌};
-ghost use Rattle.pv_types.specs.View.{type_tree, var_tree, var_trees};
+ghost use Rattle.std.specs.Prelude.{◌≡◌, ◌<◌, ◌+◌, ◌-◌, ℕ, ◌*◌, ◌^◌, ◌∷◌, [], ◌++◌, length, IfOk, IfErr, IsOk, OnOk, Some, map, slice_get, is_some, if◌then◌else◌};
+ghost use Rattle.pv_types.specs.View.{type_tree, var_tree};
 ghost use Rattle.pv_tree.specs.View.{block_tree};
 ghost use Rattle.pv_mean.specs.declared.count.TheConstants.{BEYOND};
 ghost use Rattle.pv_mean.specs.Layout.{size_in, size_among, is_brief_in};
@@ -52,14 +52,14 @@ pub(crate) fn is_bound_in(block: &Block, section: Section) -> bool
 /// How many cells a variable has that lies where its caller puts it.
 fn bound_in(context: &Context, block: &Block, var: &Var) -> Result<u32, ResolveFault>
     ensures value { (source : Source) → IsContext context.now source
-        → IfOk result (λ n. n ≡ (if variables.is_bound_in (block_tree block.now) var.now.section
-        then size_in source.project (type_tree var.now.ty) else 0)) }
+        → IfOk result (λ n. n ≡ (if variables.is_bound_in (block_tree block.now) var.now.of.now.section
+        then size_in source.project (type_tree var.now.of.now.ty) else 0)) }
     ensures room { (source : Source) → IsContext context.now source
-        → (if variables.is_bound_in (block_tree block.now) var.now.section
-        then size_in source.project (type_tree var.now.ty) else 0) < BEYOND → IsOk result }
+        → (if variables.is_bound_in (block_tree block.now) var.now.of.now.section
+        then size_in source.project (type_tree var.now.of.now.ty) else 0) < BEYOND → IsOk result }
 {
-    if is_bound_in(block, var.section) {
-        size_of(context, &var.ty)
+    if is_bound_in(block, var.of.section) {
+        size_of(context, &var.of.ty)
     } else {
         Ok(0)
     }
@@ -68,9 +68,9 @@ fn bound_in(context: &Context, block: &Block, var: &Var) -> Result<u32, ResolveF
 /// How many cells those of these variables have.
 fn bound_among(context: &Context, block: &Block, vars: &[Var]) -> Result<u32, ResolveFault>
     ensures value { (source : Source) → IsContext context.now source
-        → IfOk result (λ n. n ≡ size_among source.project (variables.is_bound_in (block_tree block.now)) (var_trees vars.now)) }
+        → IfOk result (λ n. n ≡ size_among source.project (variables.is_bound_in (block_tree block.now)) (map var_tree vars.now)) }
     ensures room { (source : Source) → IsContext context.now source
-        → size_among source.project (variables.is_bound_in (block_tree block.now)) (var_trees vars.now) < BEYOND
+        → size_among source.project (variables.is_bound_in (block_tree block.now)) (map var_tree vars.now) < BEYOND
         → IsOk result }
 {
     let mut cells = 0;
@@ -91,14 +91,15 @@ fn value_count(block: &Block) -> u32
 }
 
 /// How many variables of the block are bound.
-fn bound_count(context: &Context, block: &Block) -> Result<u32, ResolveFault>
+fn bound_count(context: &Context, block: &Block, vars: &[Var]) -> Result<u32, ResolveFault>
+    requires { map var_tree vars.now ≡ (block_tree block.now).vars }
     ensures value { (source : Source) → IsContext context.now source
         → IfOk result (λ n. n ≡ variables.bound_count source (block_tree block.now)) }
     ensures room { (source : Source) → IsContext context.now source
         → HasRoom source (block_tree block.now) → IsOk result }
 {
     let own = entry_size(context, block)?;
-    let params = bound_among(context, block, block.interface.vars.as_slice())?;
+    let params = bound_among(context, block, vars)?;
     let brief = added(params, value_count(block))?;
     behind(own, brief)
 }
@@ -154,16 +155,16 @@ fn push_brief(
 ) -> Result<Next, ResolveFault>
     ensures value { (source : Source) → IsContext context.now source
         → IfOk result (λ n. found_so_far briefs.new.items n
-        ≡ with_cells (variables.is_bound_in (block_tree block.now) var.now.section) (size_in source.project (type_tree var.now.ty))
+        ≡ with_cells (variables.is_bound_in (block_tree block.now) var.now.of.now.section) (size_in source.project (type_tree var.now.of.now.ty))
         (found_so_far briefs.old.items next)) }
     ensures room { (source : Source) → IsContext context.now source
-        → size_in source.project (type_tree var.now.ty) < BEYOND
-        → HasNext (with_cells (variables.is_bound_in (block_tree block.now) var.now.section)
-        (size_in source.project (type_tree var.now.ty)) (found_so_far briefs.old.items next))
+        → size_in source.project (type_tree var.now.of.now.ty) < BEYOND
+        → HasNext (with_cells (variables.is_bound_in (block_tree block.now) var.now.of.now.section)
+        (size_in source.project (type_tree var.now.of.now.ty)) (found_so_far briefs.old.items next))
         → IfErr result (λ e. e ≡ NoMemory) }
 {
-    let count = size_of(context, &var.ty)?;
-    push_sized(briefs, is_bound_in(block, var.section), count, next)
+    let count = size_of(context, &var.of.ty)?;
+    push_sized(briefs, is_bound_in(block, var.of.section), count, next)
 }
 
 /// The same of a variable that may live elsewhere.
@@ -178,12 +179,12 @@ fn push_variable(
         → IfOk result (λ n. found_so_far briefs.new.items n
         ≡ with_variable source.project (block_tree block.now) (var_tree var.now) (found_so_far briefs.old.items next)) }
     ensures room { (source : Source) → IsContext context.now source
-        → (if is_brief_in (block_tree block.now) var.now.section
-        then size_in source.project (type_tree var.now.ty) else 0) < BEYOND
+        → (if is_brief_in (block_tree block.now) var.now.of.now.section
+        then size_in source.project (type_tree var.now.of.now.ty) else 0) < BEYOND
         → HasNext (with_variable source.project (block_tree block.now) (var_tree var.now) (found_so_far briefs.old.items next))
         → IfErr result (λ e. e ≡ NoMemory) }
 {
-    if activation_part(&block.kind).has(var.section) {
+    if activation_part(&block.kind).has(var.of.section) {
         push_brief(context, block, briefs, next, var)
     } else {
         Ok(next)
@@ -200,10 +201,10 @@ fn push_variables(
 ) -> Result<Next, ResolveFault>
     ensures value { (source : Source) → IsContext context.now source
         → IfOk result (λ n. found_so_far briefs.new.items n
-        ≡ with_variables source.project (block_tree block.now) (var_trees vars.now) (found_so_far briefs.old.items next)) }
+        ≡ with_variables source.project (block_tree block.now) (map var_tree vars.now) (found_so_far briefs.old.items next)) }
     ensures room { (source : Source) → IsContext context.now source
-        → size_among source.project (is_brief_in (block_tree block.now)) (var_trees vars.now) < BEYOND
-        → HasNext (with_variables source.project (block_tree block.now) (var_trees vars.now) (found_so_far briefs.old.items next))
+        → size_among source.project (is_brief_in (block_tree block.now)) (map var_tree vars.now) < BEYOND
+        → HasNext (with_variables source.project (block_tree block.now) (map var_tree vars.now) (found_so_far briefs.old.items next))
         → IfErr result (λ e. e ≡ NoMemory) }
 {
     let mut so_far = next;
@@ -253,17 +254,12 @@ pub fn numbers_of(alloc: Global, context: &Context, cells: &[Cell]) -> Result<Nu
         → IfErr result (λ e. e ≡ NoMemory) }
 {
     let block = context.scope.entry.block();
-    let bound = bound_count(context, block)?;
+    let vars = context.scope.entry.vars();
+    let bound = bound_count(context, block, vars)?;
     let shared = visible_in(cells)?.saturating_sub(context.data_first);
     let own = added(bound, shared)?;
     let mut briefs = Vec::new(alloc);
-    let next = push_variables(
-        context,
-        block,
-        &mut briefs,
-        Next { bound: 0, own },
-        block.interface.vars.as_slice(),
-    )?;
+    let next = push_variables(context, block, &mut briefs, Next { bound: 0, own }, vars)?;
     push_value(&mut briefs, block, next.bound)?;
     Ok(Numbers {
         bound,

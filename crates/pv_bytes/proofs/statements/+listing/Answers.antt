@@ -18,7 +18,7 @@ push_statements-loop-stmt-preserved t c =
 pub push_within-loop-arm-init : goal.push_within-loop-arm-init
 push_within-loop-arm-init t c =
     let old = map (λ s. stmt_tree s.now) c.args.list.now.items in
-    let other = else_of (option_map (λ o. stmts_of (map stmt_tree o.items)) c.in-If.other) in
+    let other = else_of (option_map (λ o. stmts_of (map stmt_tree o.value.items)) c.in-If.other) in
     ap (λ l. within_else (within_arms old (arms_of (map (λ a. (expr_tree a.0, stmts_of (map stmt_tree a.1.items))) l))) other)
     c.deref-arm-items.ensures.value
     ∙ ap (within old) (sym (ap stmt_tree c.in-If.is ∙ stmt-if c.in-If.arms c.in-If.other c.in-If.place))
@@ -28,14 +28,14 @@ push_within-loop-arm-preserved t c =
     let old = map (λ s. stmt_tree s.now) c.loop-arm.list.items in
     next_arm c.deref-arm-items.result.now c.loop-arm.arm-index _ c.arm-item.result old
     (map (λ s. stmt_tree s.now) c.push_statements.new.list.items) _ (λ a. (expr_tree a.0, stmts_of (map stmt_tree a.1.items)))
-    (else_of (option_map (λ o. stmts_of (map stmt_tree o.items)) c.in-If.other)) c.loop-arm-test.true c.arm-item.is refl
+    (else_of (option_map (λ o. stmts_of (map stmt_tree o.value.items)) c.in-If.other)) c.loop-arm-test.true c.arm-item.is refl
     (c.in_ok-push_statements-in-If.ensures ∙ ap (λ l. listed old (stmts_of (map stmt_tree l))) c.as_slice.ensures.value)
     c.loop-arm.invariant
 
 pub push_within-loop-branch-init : goal.push_within-loop-branch-init
 push_within-loop-branch-init t c =
     let old = map (λ s. stmt_tree s.now) c.args.list.now.items in
-    let other = else_of (option_map (λ o. stmts_of (map stmt_tree o.items)) c.in-Case.other) in
+    let other = else_of (option_map (λ o. stmts_of (map stmt_tree o.value.items)) c.in-Case.other) in
     ap (λ l. within_else (within_branches old (branches_of (map (λ b. (b.0.items, stmts_of (map stmt_tree b.1.items))) l))) other)
     c.deref-branch-items.ensures.value
     ∙ ap (within old)
@@ -46,7 +46,7 @@ push_within-loop-branch-preserved t c =
     let old = map (λ s. stmt_tree s.now) c.loop-branch.list.items in
     next_branch c.deref-branch-items.result.now c.loop-branch.branch-index _ c.branch-item.result old
     (map (λ s. stmt_tree s.now) c.push_statements-in-loop-branch.new.list.items) _
-    (λ b. (b.0.items, stmts_of (map stmt_tree b.1.items))) (else_of (option_map (λ o. stmts_of (map stmt_tree o.items)) c.in-Case.other))
+    (λ b. (b.0.items, stmts_of (map stmt_tree b.1.items))) (else_of (option_map (λ o. stmts_of (map stmt_tree o.value.items)) c.in-Case.other))
     c.loop-branch-test.true c.branch-item.is refl
     (c.in_ok-push_statements-in-Case.ensures
     ∙ ap (λ l. listed old (stmts_of (map stmt_tree l))) c.as_slice-in-loop-branch.ensures.value)

@@ -21,7 +21,7 @@ returns-then-not-branch-clause-bad c = λ b is.
       told.1,
       λ good. met_before c.args.symbols.now.seen.keys (c.args.name.now, view c.args.symbol.now) c.in_ok-key.key
           c.in_ok-insert.field-0
-          (c.in_ok-key.ensures.cases ∙ c.in_ok-name_of.ensures.key ∙ ap str_to_ascii_lowercase c.as_bytes.ensures.value)
+          (c.in_ok-key.ensures.cases ∙ c.key.ensures ∙ c.in_ok-name_of.ensures.key ∙ ap str_to_ascii_lowercase c.as_bytes.ensures.value)
           c.in_ok-insert.ensures.added c.if-not-branch.true good,
     )
 
@@ -35,5 +35,5 @@ returns-clause-added c =
     (typed_as c.in_ok-typed.field-0 c.in-Some.typed c.text_in.result.now c.text_in-2.result.now
     c.in_ok-typed.ensures.found c.in-Some.is)
     c.text_in.ensures c.text_in-2.ensures c.as_bytes.ensures.value
-    c.in_ok-name_of.ensures.key c.in_ok-name_of.ensures.spelled c.in_ok-name_of.ensures.paired c.in_ok-key.ensures.cases c.in_ok-insert.ensures.added
+    c.in_ok-name_of.ensures.key c.in_ok-name_of.ensures.spelled c.in_ok-name_of.ensures.paired (c.in_ok-key.ensures.cases ∙ c.key.ensures) c.in_ok-insert.ensures.added
     c.if-not-branch.false c.in_ok-insert.ensures.keys pushed

@@ -5,9 +5,15 @@ use Rattle.pv_command_load.proofs.ForCallers.{none_unread}
 use Rattle.pv_command_replay.specs.Replays.{StopsReplay, stop_unread}
 use Rattle.pv_command_replay.specs.declared.replay.ReplayStop.TheVariants.{Trace as AtTrace, NoMemory}
 use Rattle.pv_command_replay.proofs.Starts.{subject_starts}
+use Rattle.pv_command_replay.proofs.Runs.{subject_runs}
 use Rattle.pv_command_replay.proofs.TraceLaws.{err_passed}
 use Rattle.pv_command_replay.proofs.Saying.{says_ran, says_stopped, err_counted, all_read}
 use Rattle.pv_command_replay.proofs.running.run_in.Goals as goal
+
+pub end_of-requires : goal.end_of-requires
+end_of-requires g c =
+    let found = c.in_ok-subject.ensures.found in
+    subject_runs c.views_keep_paths_types_and_starts.ensures.types _ c.args.case_file.now found.0 c.in_ok-subject.subject found.1 found.2
 
 pub returns-clause-ran : goal.returns-clause-ran
 returns-clause-ran g c =

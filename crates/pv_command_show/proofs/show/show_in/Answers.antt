@@ -1,4 +1,4 @@
-use Rattle.pv_command_replay.proofs.ForCallers.{none_unread, subject_starts, ran_lies, all_read}
+use Rattle.pv_command_replay.proofs.ForCallers.{none_unread, subject_starts, subject_runs, ran_lies, all_read}
 use Rattle.pv_command_replay.specs.declared.replay.ReplayStop.TheVariants.{NoMemory}
 use Rattle.pv_command_show.proofs.Showing.{ran_values, says_shown, err_said, err_kept, err_told}
 use Rattle.pv_command_show.proofs.show.show_in.Goals as goal
@@ -7,6 +7,12 @@ pub reported-requires : goal.reported-requires
 reported-requires g c =
     let found = c.in_ok-ran.ensures.ran in
     ran_lies _ c.args.case_file.now c.args.trace_file.now found.0 c.in_ok-ran.ran found.1
+
+pub scans_of-requires : goal.scans_of-requires
+scans_of-requires g c =
+    let found = c.in_ok-ran.ensures.ran in
+    subject_runs c.views_keep_paths_types_and_starts.ensures.types _ c.args.case_file.now found.0 c.in_ok-ran.ran.subject
+    found.1.replayed.reads found.1.subject
 
 pub returns-clause-says : goal.returns-clause-says
 returns-clause-says g c =

@@ -8,3 +8,6 @@ returns-clause-lent c = c.make.ensures.lent
 
 pub returns-clause-ready : goal.returns-clause-ready
 returns-clause-ready c = c.make.ensures.ready
+
+pub returns-clause-room : goal.returns-clause-room
+returns-clause-room c = c.make.ensures.room

@@ -8,3 +8,6 @@ returns-clause-entry c = c.program_of.ensures.entry
 
 pub returns-clause-is : goal.returns-clause-is
 returns-clause-is c = c.program_of.ensures.is
+
+pub returns-clause-room : goal.returns-clause-room
+returns-clause-room c = c.program_of.ensures.room

@@ -12,7 +12,7 @@ pub returns-in-Some : goal.returns-in-Some
 returns-in-Some c =
     let key = c.args.name.now.key in
     let vars = var_trees c.args.entry.now.block.now.interface.vars.items in
-    let v = c.in-Some.var.now in
+    let v = c.in-Some.var in
     param_seen v
     ∙ sym (append_found key (params_of_vars vars) (value_param (how_tree c.args.how) (block_of c.args.entry.now)) (param_of (var_tree v))
     (param_among key vars ∙ ap (option_map param_of) (sym c.in-Some.ensures)))

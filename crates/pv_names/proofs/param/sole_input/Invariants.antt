@@ -6,4 +6,4 @@ use Rattle.pv_names.proofs.param.sole_input.Given as goal
 
 abbrev pub invariant-loop-var : goal.invariant-loop-var
 invariant-loop-var l =
-    sole_input (option_map (λ v. var_tree v.now) l.found) (map var_tree (drop l.var-index l.vars)) ≡ sole_input None (map var_tree l.vars)
+    sole_input (option_map var_tree l.found) (map var_tree (drop l.var-index l.vars)) ≡ sole_input None (map var_tree l.vars)

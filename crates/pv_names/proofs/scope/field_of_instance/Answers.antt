@@ -1,4 +1,4 @@
-use Rattle.std.proofs.Common.{sym, ap, ◌∙◌, map, false}
+use Rattle.std.proofs.Common.{sym, ap, ◌∙◌, false}
 use Rattle.std.specs.Prelude.{find}
 use Rattle.pv_types.specs.View.{var_tree, var_trees}
 use Rattle.pv_names.specs.InScope.{is_sought}
@@ -11,12 +11,12 @@ returns-in-None c =
 
 pub returns-then-is_of_instance : goal.returns-then-is_of_instance
 returns-then-is_of_instance c =
-    sym (first_kept c.args.name.now.key (var_trees c.args.entry.now.block.now.interface.vars.items) (var_tree c.in-Some.var.now)
+    sym (first_kept c.args.name.now.key (var_trees c.args.entry.now.block.now.interface.vars.items) (var_tree c.in-Some.var)
     (sym c.in-Some.ensures)
-    (kept_seen c.in-Some.var.now ∙ sym c.is_of_instance.ensures ∙ c.if-is_of_instance.true))
+    (kept_seen c.in-Some.var ∙ sym c.is_of_instance.ensures ∙ c.if-is_of_instance.true))
 
 pub returns-else-is_of_instance : goal.returns-else-is_of_instance
 returns-else-is_of_instance c =
     c.first_among.ensures
-    ∙ ap (λ l. find (is_sought false c.args.name.now.key) (map var_tree l)) c.as_slice.ensures.value
+    ∙ ap (λ l. find (is_sought false c.args.name.now.key) (var_trees l)) c.as_slice.ensures.value
     ∙ filtered c.args.name.now.key (var_trees c.args.entry.now.block.now.interface.vars.items)

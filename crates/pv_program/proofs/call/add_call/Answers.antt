@@ -14,6 +14,16 @@ returns-in-Runs c = record {
   means = λ source is. c.add_running.ensures.means source is (c.context_in-inner.ensures.is source is)
       (callee-seen (project_of c.args.context.now.scope.tables.now) source.project (block_in c.args.context.now)
       (site (how_tree c.args.how) (call_tree c.args.call.now)) _ is.project c.in-Runs.ensures ∙ ap runs (sym c.context_in-inner.ensures.block));
+  room = λ source is h fits led.
+      let inner = c.context_in-inner.ensures.is source is in
+      let called = callee-seen (project_of c.args.context.now.scope.tables.now) source.project (block_in c.args.context.now)
+      (site (how_tree c.args.how) (call_tree c.args.call.now)) _ is.project c.in-Runs.ensures ∙ ap runs (sym c.context_in-inner.ensures.block) in
+      c.add_running.ensures.room source is inner h.own (h.led _ (led _ called)) fits;
+  led = λ source is led before.
+      c.add_running.ensures.led source is
+      (callee-seen (project_of c.args.context.now.scope.tables.now) source.project (block_in c.args.context.now)
+      (site (how_tree c.args.how) (call_tree c.args.call.now)) _ is.project c.in-Runs.ensures ∙ ap runs (sym c.context_in-inner.ensures.block))
+      led before;
 }
 
 pub returns-in-NotDeclared : goal.returns-in-NotDeclared
@@ -22,6 +32,8 @@ returns-in-NotDeclared c = record {
   means = λ source is. c.add_idle.ensures.means source (block_in c.args.context.now) (site (how_tree c.args.how) (call_tree c.args.call.now))
       (ap block_of_callee (callee-seen (project_of c.args.context.now.scope.tables.now) source.project (block_in c.args.context.now)
       (site (how_tree c.args.how) (call_tree c.args.call.now)) _ is.project c.in-NotDeclared.ensures));
+  room = λ source is h fits led. c.add_idle.ensures.memory;
+  led = λ source is led before. c.add_idle.ensures.led source before;
 }
 
 pub returns-in-NotCallable : goal.returns-in-NotCallable
@@ -30,6 +42,8 @@ returns-in-NotCallable c = record {
   means = λ source is. c.add_idle-in-NotCallable.ensures.means source (block_in c.args.context.now) (site (how_tree c.args.how) (call_tree c.args.call.now))
       (ap block_of_callee (callee-seen (project_of c.args.context.now.scope.tables.now) source.project (block_in c.args.context.now)
       (site (how_tree c.args.how) (call_tree c.args.call.now)) _ is.project c.in-NotCallable.ensures));
+  room = λ source is h fits led. c.add_idle-in-NotCallable.ensures.memory;
+  led = λ source is led before. c.add_idle-in-NotCallable.ensures.led source before;
 }
 
 pub returns-in-Unknown : goal.returns-in-Unknown
@@ -38,4 +52,6 @@ returns-in-Unknown c = record {
   means = λ source is. c.add_idle-in-Unknown.ensures.means source (block_in c.args.context.now) (site (how_tree c.args.how) (call_tree c.args.call.now))
       (ap block_of_callee (callee-seen (project_of c.args.context.now.scope.tables.now) source.project (block_in c.args.context.now)
       (site (how_tree c.args.how) (call_tree c.args.call.now)) _ is.project c.in-Unknown.ensures));
+  room = λ source is h fits led. c.add_idle-in-Unknown.ensures.memory;
+  led = λ source is led before. c.add_idle-in-Unknown.ensures.led source before;
 }

@@ -1,4 +1,4 @@
-use Rattle.std.proofs.Common.{map, take}
+use Rattle.std.proofs.Common.{◌≡◌, map, take}
 use Rattle.pv_types.specs.View.{var_tree}
 use Rattle.pv_tree.specs.View.{call_tree}
 use Rattle.pv_tree.specs.Parts.{site}
@@ -12,6 +12,7 @@ use Rattle.pv_program.proofs.call.add_inward.Given as goal
 abbrev pub invariant-loop-var : goal.invariant-loop-var
 invariant-loop-var l = record {
   grows : Extends l.fn.program l.program;
+  calls : l.program.calls ≡ l.fn.program.calls;
   are : (source : Source) → IsContext l.context source → IsContext l.inner source
       → AreGiven source (block_in l.context) l.program (site (how_tree l.how) (call_tree l.call)) (block_in l.inner) l.made.items
       (handed_of source (block_in l.inner) goes_in (map var_tree (take l.var-index l.vars)));

@@ -1,5 +1,6 @@
-use Rattle.std.proofs.Common.{arith, length-append, ap, length}
+use Rattle.std.proofs.Common.{refl, arith, length-append, ap, length}
 use Rattle.pv_program.proofs.Growing.{part-behind, with-instrs}
+use Rattle.pv_resolve.proofs.ForCallers.{failed}
 use Rattle.pv_program.proofs.grow.append_instrs.Goals as goal
 
 pub returns : goal.returns
@@ -15,4 +16,9 @@ returns c = record {
   within = omega (arith, c.in_ok-span.ensures.end);
   are = part-behind c.args.program.now.instrs.items c.args.more.now c.append.new.all.items _ _ c.in_ok-span.ensures.items
       c.in_ok-span.ensures.first c.in_ok-span.ensures.end;
+  memory = tt;
+  calls = refl;
 }
+
+pub returns-in_err-span-clause-memory : goal.returns-in_err-span-clause-memory
+returns-in_err-span-clause-memory c = failed _ _ c.from_residual.ensures.1 c.in_err-span.ensures.memory

@@ -1,4 +1,6 @@
+use Rattle.std.proofs.Common.{refl}
 use Rattle.pv_program.proofs.Growing.{keeps-more, with-inward}
+use Rattle.pv_resolve.proofs.ForCallers.{failed}
 use Rattle.pv_program.proofs.grow.append_inward.Goals as goal
 
 pub returns : goal.returns
@@ -6,4 +8,9 @@ returns c = record {
   grows = with-inward c.args.program.now c.append.new.all
       (keeps-more c.args.program.now.inward.items c.append.new.all.items c.args.more.now c.in_ok-span.ensures.items);
   stands = c.in_ok-span.ensures.stands;
+  memory = tt;
+  calls = refl;
 }
+
+pub returns-in_err-span-clause-memory : goal.returns-in_err-span-clause-memory
+returns-in_err-span-clause-memory c = failed _ _ c.from_residual.ensures.1 c.in_err-span.ensures.memory

@@ -1,5 +1,6 @@
-use Rattle.std.proofs.Common.{arith, ap, length, length-append}
+use Rattle.std.proofs.Common.{refl, arith, ap, length, length-append}
 use Rattle.pv_program.proofs.Growing.{keeps-more, with-stmts}
+use Rattle.pv_resolve.proofs.ForCallers.{failed}
 use Rattle.pv_program.proofs.grow.append_stmts.Goals as goal
 
 pub returns : goal.returns
@@ -10,4 +11,9 @@ returns c = record {
   stands = c.in_ok-span.ensures.stands;
   first = c.in_ok-span.ensures.first;
   end = c.in_ok-span.ensures.end;
+  memory = tt;
+  calls = refl;
 }
+
+pub returns-in_err-span-clause-memory : goal.returns-in_err-span-clause-memory
+returns-in_err-span-clause-memory c = failed _ _ c.from_residual.ensures.1 c.in_err-span.ensures.memory

@@ -8,4 +8,5 @@ returns c = record {
   room = omega arith;
   values = refl;
   targets = refl;
+  calls = refl;
 }

@@ -5,6 +5,8 @@ use Rattle.pv_stl_run.specs.Going.{nested_behind}
 use Rattle.pv_resolve.specs.Contexts.{IsContext, block_in}
 use Rattle.pv_program.specs.Growth.{Extends}
 use Rattle.pv_program.specs.Bodies.{AreMadeInstrs}
+use Rattle.pv_program.specs.Led.{AreLed}
+use Rattle.pv_program.specs.Ready.{AreReady, IsOpenAt}
 use Rattle.pv_program.proofs.instr.add_instrs.Given as goal
 
 abbrev pub invariant-loop-k : goal.invariant-loop-k
@@ -14,4 +16,7 @@ invariant-loop-k l = record {
   nested : l.depth ≡ nested_behind l.made.items 0;
   are : (source : Source) → IsContext l.context source
       → AreMadeInstrs source (block_in l.context) l.program (map instr_tree l.instrs) l.made.items;
+  depth : (source : Source) → AreReady source (block_in l.context) (map instr_tree l.instrs) → IsOpenAt (map instr_tree l.instrs) l.k l.depth;
+  led : (source : Source) → IsContext l.context source → AreReady source (block_in l.context) (map instr_tree l.instrs)
+      → AreLed source l.fn.program.calls.items → AreLed source l.program.calls.items;
 }

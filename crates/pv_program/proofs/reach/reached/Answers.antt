@@ -6,6 +6,8 @@ use Rattle.pv_names.specs.Tables.{blocks_of}
 use Rattle.pv_run.specs.declared.program.Code.{Code}
 use Rattle.pv_program.specs.Reached.{AreCodes}
 use Rattle.pv_program.proofs.Growing.{extends-then}
+use Rattle.pv_program.proofs.Failing.{passed}
+use Rattle.pv_program.proofs.Leading.{called_led}
 use Rattle.pv_program.proofs.Reaching.{no-codes, none-at-first, made-none, made-stepped, made-ended}
 use Rattle.pv_program.proofs.reach.reached.Goals as goal
 
@@ -23,6 +25,7 @@ loop-call-init c =
           (subst (AreCodes source c.args.program.now) (sym fresh) (no-codes _ (none-at-first (length c.entries.result.now))));
       entered = c.in_ok-add_block.ensures.adds.now;
       made = made-none _ _;
+      led = λ source is ready led before. c.in_ok-add_block.ensures.led source is ready led before;
     }
 
 pub add_block-requires-in-Some : goal.add_block-requires-in-Some
@@ -42,6 +45,9 @@ loop-call-preserved c = record {
   made = made-stepped c.loop-call.codes.items _ _ c.loop-call.program.calls.items _ _ c.loop-call.next c.in-Some.call c.in-Some.block
       c.as_slice-in-loop-call.ensures.value c.as_slice.ensures.value c.in-Some.ensures.inside c.in_ok-add_block-2.ensures.grows.calls
       c.in_ok-add_block-2.ensures.adds c.in-Some.ensures.some c.loop-call.invariant.made;
+  led = λ source is ready led before. c.in_ok-add_block-2.ensures.led source is ready
+      (called_led c.loop-call.program.calls.items _ c.in-Some.call c.in-Some.block c.as_slice.ensures.value c.in-Some.ensures.runs
+      (c.loop-call.invariant.led source is ready led before)) (c.loop-call.invariant.led source is ready led before);
 }
 
 pub returns : goal.returns
@@ -51,4 +57,15 @@ returns c = record {
   entered = c.loop-call.invariant.entered;
   made = made-ended _ c.loop-call.codes.items _ c.loop-call.program.calls.items c.loop-call.next c.as_slice-in-loop-call.ensures.value
       c.as_slice.ensures.value c.in_default.ensures.none c.loop-call.invariant.made;
+  room = λ source is ready led before. tt;
 }
+
+pub returns-in_err-add_block-clause-room : goal.returns-in_err-add_block-clause-room
+returns-in_err-add_block-clause-room c = λ source is ready led before.
+    passed _ _ c.from_residual-in_err-add_block.ensures.1 (c.in_err-add_block.ensures.room source is ready led)
+
+pub returns-in_err-add_block-2-clause-room : goal.returns-in_err-add_block-2-clause-room
+returns-in_err-add_block-2-clause-room c = λ source is ready led before.
+    passed _ _ c.from_residual-in_err-add_block-2.ensures.1 (c.in_err-add_block-2.ensures.room source is ready
+    (called_led c.loop-call.program.calls.items _ c.in-Some.call c.in-Some.block c.as_slice.ensures.value c.in-Some.ensures.runs
+    (c.loop-call.invariant.led source is ready led before)))

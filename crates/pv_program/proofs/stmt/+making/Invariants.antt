@@ -1,11 +1,12 @@
 use Rattle.std.proofs.Common.{◌+◌, ◌*◌, map, take, max}
 use Rattle.pv_program.proofs.Measuring.{of_list, of_arms, of_branches, of_other}
 use Rattle.pv_tree.specs.declared.stmt.Stmt.{size-Stmt}
-use Rattle.pv_tree.specs.View.{expr_tree, stmt_tree, stmt_trees}
+use Rattle.pv_tree.specs.View.{expr_tree, stmt_tree, stmt_trees, arms_of, branches_of}
 use Rattle.pv_mean.specs.Sources.{Source}
 use Rattle.pv_resolve.specs.Contexts.{IsContext, block_in}
 use Rattle.pv_program.specs.Growth.{Extends}
 use Rattle.pv_program.specs.Pairs.{Pairs}
+use Rattle.pv_program.specs.Led.{AreLed, AllLed, ArmsLed, BranchesLed}
 use Rattle.pv_program.specs.Made.{IsNext, IsArm, IsBranch}
 use Rattle.pv_program.proofs.stmt.+making.Given as goal
 
@@ -14,6 +15,9 @@ invariant-make_arms-loop-arm l = record {
   grows : Extends l.fn.program l.program;
   are : (source : Source) → IsContext l.context source → Pairs (IsArm source (block_in l.context) l.program) l.made.items
       (map (λ a. (expr_tree a.0, stmt_trees a.1.items)) (take l.arm-index l.arm-items));
+  led : (source : Source) → IsContext l.context source
+      → ArmsLed source (block_in l.context) (arms_of (map (λ a. (expr_tree a.0, stmt_trees a.1.items)) l.arms.items))
+      → AreLed source l.fn.program.calls.items → AreLed source l.program.calls.items;
 }
 
 abbrev pub invariant-make_branches-loop-branch : goal.invariant-make_branches-loop-branch
@@ -21,6 +25,9 @@ invariant-make_branches-loop-branch l = record {
   grows : Extends l.fn.program l.program;
   are : (source : Source) → IsContext l.context source → Pairs (IsBranch source (block_in l.context) l.program) l.made.items
       (map (λ b. (b.0.items, stmt_trees b.1.items)) (take l.branch-index l.branch-items));
+  led : (source : Source) → IsContext l.context source
+      → BranchesLed source (block_in l.context) (branches_of (map (λ b. (b.0.items, stmt_trees b.1.items)) l.branches.items))
+      → AreLed source l.fn.program.calls.items → AreLed source l.program.calls.items;
 }
 
 abbrev pub invariant-make_list-loop-stmt : goal.invariant-make_list-loop-stmt
@@ -28,6 +35,8 @@ invariant-make_list-loop-stmt l = record {
   grows : Extends l.fn.program l.program;
   are : (source : Source) → IsContext l.context source → Pairs (IsNext source (block_in l.context) l.program) l.made.items
       (map stmt_tree (take l.stmt-index l.list));
+  led : (source : Source) → IsContext l.context source → AllLed source (block_in l.context) (stmt_trees l.list)
+      → AreLed source l.fn.program.calls.items → AreLed source l.program.calls.items;
 }
 
 abbrev pub decreases-make_arms : goal.decreases-make_arms

@@ -1,3 +1,4 @@
+use Rattle.pv_resolve.proofs.ForCallers.{failed}
 use Rattle.pv_program.proofs.value.add_target.Goals as goal
 
 pub returns : goal.returns
@@ -9,4 +10,14 @@ returns c = record {
     fits = c.in_ok-n.ensures.fits;
     locates = c.in_ok-target.ensures.locates source is;
   };
+  calls = c.in_ok-n.ensures.calls;
+  room = λ source is h fits. tt;
 }
+
+pub returns-in_err-target-clause-room : goal.returns-in_err-target-clause-room
+returns-in_err-target-clause-room c =
+    λ source is h fits. failed _ _ c.from_residual.ensures.1 (c.in_err-target.ensures.room source is h fits)
+
+pub returns-in_err-n-clause-room : goal.returns-in_err-n-clause-room
+returns-in_err-n-clause-room c =
+    λ source is h fits. failed _ _ c.from_residual-in_err-n.ensures.1 c.in_err-n.ensures.memory

@@ -3,6 +3,7 @@ use Rattle.pv_mean.specs.Instructions.{effect}
 use Rattle.pv_eval.specs.Means.{activation}
 use Rattle.pv_tree.specs.InstructionGroups.{group_of}
 use Rattle.pv_stl_run.specs.Code.{ends, ends_where}
+use Rattle.pv_program.specs.Ready.{is_nesting}
 use Rattle.pv_program.specs.Rows.{is_end}
 use Rattle.pv_program.proofs.word.end.Goals as goal
 
@@ -12,6 +13,7 @@ returns-in-Be c = record {
       ends (λ first w. ap (λ o. effect source (activation block first) i o w) (sym e ∙ c.in-Be.is));
   each = ap (λ o. is_end (group_of o)) (sym c.in-Be.is);
   leads = λ all k i. tt;
+  suits = ap (λ o. is_nesting (group_of o)) c.in-Be.is;
 }
 
 pub returns-in-Beu : goal.returns-in-Beu
@@ -20,6 +22,7 @@ returns-in-Beu c = record {
       ends (λ first w. ap (λ o. effect source (activation block first) i o w) (sym e ∙ c.in-Beu.is));
   each = ap (λ o. is_end (group_of o)) (sym c.in-Beu.is);
   leads = λ all k i. tt;
+  suits = ap (λ o. is_nesting (group_of o)) c.in-Beu.is;
 }
 
 pub returns-in-Bec : goal.returns-in-Bec
@@ -28,4 +31,5 @@ returns-in-Bec c = record {
       ends_where (λ first w. ap (λ o. effect source (activation block first) i o w) (sym e ∙ c.in-Bec.is));
   each = ap (λ o. is_end (group_of o)) (sym c.in-Bec.is);
   leads = λ all k i. tt;
+  suits = ap (λ o. is_nesting (group_of o)) c.in-Bec.is;
 }

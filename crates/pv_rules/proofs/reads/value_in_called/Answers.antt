@@ -1,4 +1,4 @@
-use Rattle.std.proofs.Common.{refl, ap, ◌∙◌, map}
+use Rattle.std.proofs.Common.{ap, ◌∙◌, map}
 use Rattle.std.specs.Prelude.{flat_map}
 use Rattle.pv_tree.specs.View.{arg_tree, call_tree, instr_tree}
 use Rattle.pv_names.specs.InScope.{scope_of}
@@ -13,11 +13,11 @@ use Rattle.pv_rules.proofs.reads.value_in_called.Goals as goal
 pub returns-in-Some : goal.returns-in-Some
 returns-in-Some c =
     let f = value_at (scope_of c.args.scope.now) (calls_of_code c.args.code) in
-    near_each call_tree c.args.instr.now.call (instr_tree c.args.instr.now).call refl f reads_of_call c.in-Some.call c.args.nearest
+    near_each (λ x. call_tree x.now) c.call.result (instr_tree c.args.instr.now).call c.call.ensures f reads_of_call c.in-Some.call c.args.nearest
     c.value_in_args.result c.in-Some.is
     (c.value_in_args.ensures ∙ ap (λ l. nearest_in f (flat_map (λ a. operands_in a.value) (map arg_tree l)) c.args.nearest) c.as_slice.ensures.value)
 
 pub returns-in-None : goal.returns-in-None
 returns-in-None c =
-    near_nothing call_tree c.args.instr.now.call (instr_tree c.args.instr.now).call refl
+    near_nothing (λ x. call_tree x.now) c.call.result (instr_tree c.args.instr.now).call c.call.ensures
     (value_at (scope_of c.args.scope.now) (calls_of_code c.args.code)) reads_of_call c.args.nearest c.in-None.is

@@ -25,7 +25,7 @@ with_links-loop-branch-init t c =
     let old = map link_tree c.args.links.items in
     ap (λ l. with_spots here old (spots_of_branches [] (branch_trees l) ++ spots_of_else [] (other_tree c.in-Case.other)))
     c.deref-branch-items.ensures.value
-    ∙ case_begun here [] (stmt_tree c.args.stmt.now) (expr_tree c.in-Case.selector) (branch_trees c.in-Case.branches.items)
+    ∙ case_begun here [] (stmt_tree c.args.stmt.now) (expr_tree c.in-Case.selector.value) (branch_trees c.in-Case.branches.items)
     (other_tree c.in-Case.other) c.in-Case.place old
     (ap stmt_tree c.in-Case.is ∙ stmt-case c.in-Case.selector c.in-Case.branches c.in-Case.other c.in-Case.place)
 
@@ -58,10 +58,10 @@ with_links-returns-in-For t c =
     let here = scope_of c.args.scope.now in
     let old = map link_tree c.args.links.items in
     if_ok c.with_all_links-in-For.result
-    (λ new p. in_loop here (a_for c.in-For.var ∷ []) (stmt_tree c.args.stmt.now) c.as_slice-in-For.result.now c.in-For.body.items old
+    (λ new p. in_loop here (a_for c.in-For.head.value.var ∷ []) (stmt_tree c.args.stmt.now) c.as_slice-in-For.result.now c.in-For.body.items old
     (map link_tree new.items) p c.as_slice-in-For.ensures.value
     (ap (λ s. with_spots here old (spots_of [] s)) (sym (ap stmt_tree c.in-For.is
-    ∙ stmt-for c.in-For.var c.in-For.var_place c.in-For.first c.in-For.last c.in-For.by c.in-For.body c.in-For.place))))
+    ∙ stmt-for c.in-For.head c.in-For.body c.in-For.place))))
     c.with_all_links-in-For.ensures
 
 pub with_links-returns-in-While : goal.with_links-returns-in-While

@@ -1,7 +1,8 @@
 use Rattle.std.proofs.Common.{sym, ap, ◌∙◌, map, refl}
 use Rattle.std.specs.Prelude.{None}
 use Rattle.pv_tree.specs.Rules.MissingNames.{values_of_choices, values_of_branches}
-use Rattle.pv_tree.specs.View.{stmt_tree, stmts_of, branches_of}
+use Rattle.pv_tree.specs.Rules.OutOfRange.{want_of_selector}
+use Rattle.pv_tree.specs.View.{expr_tree, stmt_tree, stmts_of, branches_of}
 use Rattle.pv_names.specs.InScope.{scope_of}
 use Rattle.pv_names.specs.Sorts.{want_tree}
 use Rattle.pv_rules_expr.specs.NearestIn.{nearest_in}
@@ -16,7 +17,8 @@ loop-branch-init c =
     ap (λ l. nearest_in (value_at c.args.what scope (want_tree c.in_ok-want-in-Case.want)) (values_of_branches
     (branches_of (map (λ b. (b.0.items, stmts_of (map stmt_tree b.1.items))) l))) None) c.deref-branch-items.ensures.value
     ∙ ap (λ w. nearest_in (value_at c.args.what scope w) (values_of_branches
-    (branches_of (map (λ b. (b.0.items, stmts_of (map stmt_tree b.1.items))) c.in-Case.branches.items))) None) c.in_ok-want-in-Case.ensures
+    (branches_of (map (λ b. (b.0.items, stmts_of (map stmt_tree b.1.items))) c.in-Case.branches.items))) None)
+    (c.in_ok-want-in-Case.ensures ∙ ap (λ e. want_of_selector scope (expr_tree e)) c.deref.ensures)
     ∙ ap (values_place c.args.what scope)
     (sym (ap stmt_tree c.in-Case.is ∙ stmt-case c.in-Case.selector c.in-Case.branches c.in-Case.other c.in-Case.place))
 

@@ -22,7 +22,7 @@ pub returns-in-Some-only_var : goal.returns-in-Some-only_var
 returns-in-Some-only_var c =
     on_ok c.meet-in-Some-only_var.result
     (λ step key. step key ∙ ap (λ b. is_in c.args.table.now key || b) (gives_only (how_tree c.args.how) (block_of c.args.entry.now)
-    (arg_tree c.args.arg.now) c.in-Some-only_var.var.now key c.in-None.is c.in-Some-only_var.ensures)) c.meet-in-Some-only_var.ensures
+    (arg_tree c.args.arg.now) c.in-Some-only_var.var key c.in-None.is c.in-Some-only_var.ensures)) c.meet-in-Some-only_var.ensures
 
 pub returns-in-None-only_var : goal.returns-in-None-only_var
 returns-in-None-only_var c =

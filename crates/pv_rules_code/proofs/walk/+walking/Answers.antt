@@ -46,7 +46,7 @@ walk-returns-in_ok-in_arms-in-If t c =
     if_walked (site_place c.args.what (scope_of c.args.scope.now)) (map loop_tree c.args.loops.now) (stmt_tree c.args.stmt.now) c.args.nearest
     c.nearer_of-so_far.result c.in_ok-in_arms-in-If.in_arms c.walk_other.result
     (arms_of (map (λ a. (expr_tree a.0, stmts_of (map stmt_tree a.1.items))) c.in-If.arms.items))
-    (else_of (option_map (λ o. stmts_of (map stmt_tree o.items)) c.in-If.other)) c.in-If.place
+    (else_of (option_map (λ o. stmts_of (map stmt_tree o.value.items)) c.in-If.other)) c.in-If.place
     (ap stmt_tree c.in-If.is ∙ stmt-if c.in-If.arms c.in-If.other c.in-If.place)
     (c.nearer_of-so_far.ensures ∙ ap (nearer_of c.args.nearest) c.in_ok-found.ensures) c.in_ok-in_arms-in-If.ensures c.walk_other.ensures
 
@@ -60,9 +60,9 @@ walk-walk_branches-requires t c =
 pub walk-returns-in_ok-in_branches-in-Case : goal.walk-returns-in_ok-in_branches-in-Case
 walk-returns-in_ok-in_branches-in-Case t c =
     case_walked (site_place c.args.what (scope_of c.args.scope.now)) (map loop_tree c.args.loops.now) (stmt_tree c.args.stmt.now) c.args.nearest
-    c.nearer_of-so_far.result c.in_ok-in_branches-in-Case.in_branches c.walk_other-in-Case.result (expr_tree c.in-Case.selector)
+    c.nearer_of-so_far.result c.in_ok-in_branches-in-Case.in_branches c.walk_other-in-Case.result (expr_tree c.in-Case.selector.value)
     (branches_of (map (λ b. (b.0.items, stmts_of (map stmt_tree b.1.items))) c.in-Case.branches.items))
-    (else_of (option_map (λ o. stmts_of (map stmt_tree o.items)) c.in-Case.other)) c.in-Case.place
+    (else_of (option_map (λ o. stmts_of (map stmt_tree o.value.items)) c.in-Case.other)) c.in-Case.place
     (ap stmt_tree c.in-Case.is ∙ stmt-case c.in-Case.selector c.in-Case.branches c.in-Case.other c.in-Case.place)
     (c.nearer_of-so_far.ensures ∙ ap (nearer_of c.args.nearest) c.in_ok-found.ensures) c.in_ok-in_branches-in-Case.ensures c.walk_other-in-Case.ensures
 

@@ -1,10 +1,11 @@
-use Rattle.std.proofs.Common.{◌≡◌, map, drop}
-use Rattle.pv_types.specs.View.{var_tree}
+use Rattle.std.proofs.Common.{◌≡◌, drop}
+use Rattle.std.specs.Prelude.{flat_map}
+use Rattle.pv_types.specs.View.{vars_tree}
 use Rattle.pv_tree.specs.Rules.OutOfRange.{start_is_outside}
 use Rattle.pv_rules_decl.specs.Starts.{near_vars}
 use Rattle.pv_rules_decl.proofs.starts.outside_starts.Given as goal
 
-abbrev pub invariant-loop-var : goal.invariant-loop-var
-invariant-loop-var l =
-    near_vars start_is_outside (map (λ v. var_tree v.now) (drop l.var-index l.vars)) l.best
-    ≡ near_vars start_is_outside (map (λ v. var_tree v.now) l.vars) l.fn.nearest
+abbrev pub invariant-loop-of : goal.invariant-loop-of
+invariant-loop-of l =
+    near_vars start_is_outside (flat_map (λ v. vars_tree v.now) (drop l.of-index l.vars)) l.best
+    ≡ near_vars start_is_outside (flat_map (λ v. vars_tree v.now) l.vars) l.fn.nearest

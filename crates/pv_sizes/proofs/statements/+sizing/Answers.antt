@@ -43,9 +43,10 @@ pub one_size-returns-in-Case : goal.one_size-returns-in-Case
 one_size-returns-in-Case t c =
     let here = scope_of c.args.scope.now in
     let seen = ap stmt_tree c.in-Case.is ∙ stmt-case c.in-Case.selector c.in-Case.branches c.in-Case.other c.in-Case.place in
-    let checks = checks_of here (expr_tree c.in-Case.selector) in
+    let checks = checks_of here (expr_tree c.in-Case.selector.value) in
     let choices = size_of_branches here (branch_trees c.in-Case.branches.items) in
-    let test = sum_with c.sum-test.result c.expr_size-in-Case.result checks 1 c.sum-test.ensures c.expr_size-in-Case.ensures in
+    let asked = c.expr_size-in-Case.ensures ∙ ap (λ e. capped (checks_of here (expr_tree e))) c.deref-in-Case.ensures in
+    let test = sum_with c.sum-test.result c.expr_size-in-Case.result checks 1 c.sum-test.ensures asked in
     let chosen = sum_of c.sum-chosen.result c.sum-test.result c.branches_size.result (checks + 1) choices c.sum-chosen.ensures test c.branches_size.ensures in
     sum_of c.sum-in-Case.result c.sum-chosen.result c.other_size-in-Case.result (checks + 1 + choices)
     (size_of_else here (other_tree c.in-Case.other)) c.sum-in-Case.ensures chosen c.other_size-in-Case.ensures

@@ -1,5 +1,5 @@
 use Rattle.std.proofs.Common.{◌≡◌, ℕ, ◌+◌, ◌*◌, drop, Option, Some, None}
-use Rattle.std.specs.Prelude.{Vec}
+use Rattle.std.specs.Prelude.{Vec, Box}
 use Rattle.std.specs.declared.alloc.Global.{Global}
 use denote.Param.Weighed.{most}
 use Rattle.pv_tree.specs.declared.stmt.Stmt.{Stmt, size-Stmt}
@@ -11,9 +11,9 @@ use Rattle.pv_sizes.specs.Steps.{arm_trees, branch_trees}
 use Rattle.pv_sizes.proofs.statements.+sizing.Given as goal
 
 -- how deep statements stand behind ELSE at most
-abbrev of_other : Option (Vec Stmt Global) → ℕ
+abbrev of_other : Option (Box (Vec Stmt Global) Global) → ℕ
 of_other None = 0
-of_other (Some v) = most size-Stmt v.items
+of_other (Some v) = most size-Stmt v.value.items
 
 abbrev pub decreases-one_size : goal.decreases-one_size
 decreases-one_size l = 4 * size-Stmt l.stmt.now

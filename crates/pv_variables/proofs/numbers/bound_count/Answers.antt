@@ -1,6 +1,5 @@
 use Rattle.std.proofs.Common.{◌<◌, sym, subst, ap, ◌∙◌, arith}
 use Rattle.std.proofs.lemmas.Bool.{false≢true}
-use Rattle.pv_types.specs.View.{var_trees}
 use Rattle.pv_tree.specs.View.{block_tree}
 use Rattle.pv_mean.specs.declared.count.TheConstants.{BEYOND}
 use Rattle.pv_mean.specs.Layout.{size_among}
@@ -13,7 +12,7 @@ returns-clause-room c = λ source is h.
     let few = bound_few source (block_tree c.args.block.now) h in
     let own = c.in_ok-own.ensures.value source is in
     let params = c.in_ok-params.ensures.value source is
-    ∙ ap (λ l. size_among source.project (is_bound_in (block_tree c.args.block.now)) (var_trees l)) c.as_slice.ensures.value in
+    ∙ ap (size_among source.project (is_bound_in (block_tree c.args.block.now))) c.requires in
     let value = c.value_count.ensures in
     let brief = c.in_ok-brief.ensures.value in
     c.behind.ensures.room (omega (arith, few, own, params, value, brief))
@@ -25,13 +24,13 @@ returns-in_err-own-clause-room c = λ source is h.
 pub returns-in_err-params-clause-room : goal.returns-in_err-params-clause-room
 returns-in_err-params-clause-room c = λ source is h.
     absurd (false≢true (c.in_err-params.ensures.room source is
-    (subst (λ l. size_among source.project (is_bound_in (block_tree c.args.block.now)) (var_trees l) < BEYOND) (sym c.as_slice.ensures.value)
+    (subst (λ l. size_among source.project (is_bound_in (block_tree c.args.block.now)) l < BEYOND) (sym c.requires)
     (bound_near source (block_tree c.args.block.now) h))))
 
 pub returns-in_err-brief-clause-room : goal.returns-in_err-brief-clause-room
 returns-in_err-brief-clause-room c = λ source is h.
     let few = bound_few source (block_tree c.args.block.now) h in
     let params = c.in_ok-params.ensures.value source is
-    ∙ ap (λ l. size_among source.project (is_bound_in (block_tree c.args.block.now)) (var_trees l)) c.as_slice.ensures.value in
+    ∙ ap (size_among source.project (is_bound_in (block_tree c.args.block.now))) c.requires in
     let value = c.value_count.ensures in
     absurd (false≢true (c.in_err-brief.ensures.room (omega (arith, few, params, value))))

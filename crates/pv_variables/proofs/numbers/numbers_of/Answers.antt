@@ -1,5 +1,5 @@
 use Rattle.std.proofs.Common.{◌≡◌, ◌<◌, length, subst, sym, ap, ◌∙◌, refl, arith}
-use Rattle.pv_types.specs.View.{var_trees}
+use Rattle.pv_tree.specs.Tree.{BlockTree}
 use Rattle.pv_tree.specs.View.{block_tree}
 use Rattle.pv_resolve.specs.Contexts.{block_in}
 use Rattle.pv_variables.specs.declared.numbers.Next.{Next}
@@ -14,6 +14,9 @@ use Rattle.pv_resolve.proofs.ForCallers.{failed}
 use Rattle.pv_variables.proofs.Bounded.{visible_few, own_few, next_fits}
 use Rattle.pv_variables.proofs.numbers.numbers_of.Goals as goal
 
+pub bound_count-requires : goal.bound_count-requires
+bound_count-requires c = c.vars-vars.ensures ∙ ap (λ (b : BlockTree). b.vars) (sym c.block-block.ensures)
+
 pub returns-clause-numbers : goal.returns-clause-numbers
 returns-clause-numbers c = λ source is same.
     let start : Next = record { bound = 0; own = c.in_ok-own.own } in
@@ -22,8 +25,9 @@ returns-clause-numbers c = λ source is same.
     let shared = shared_is source c.args.cells.now c.in_ok-visible_in.field-0 c.args.context.now.data_first c.saturating_sub-shared.result same
     c.in_ok-visible_in.ensures.value is.data_blocks c.saturating_sub-shared.ensures in
     let own = c.in_ok-own.ensures.value in
+    let vars = c.vars-vars.ensures ∙ ap (λ (b : BlockTree). b.vars) (sym c.block-block.ensures) in
     let found = c.in_ok-next.ensures.value source is
-    ∙ ap (λ l. with_variables source.project block (var_trees l) (found_so_far c.new-briefs.result.items start)) c.as_slice.ensures.value
+    ∙ ap (λ l. with_variables source.project block l (found_so_far c.new-briefs.result.items start)) vars
     ∙ ap (λ l. with_variables source.project block block.vars (found_so_far l start)) c.new-briefs.ensures.items in
     record {
       bound = bound;
@@ -67,9 +71,10 @@ returns-in_err-next-clause-room c = λ source is same h few.
     c.in_ok-visible_in.ensures.value is.data_blocks c.saturating_sub-shared.ensures in
     let own = c.in_ok-own.ensures.value in
     failed _ _ c.from_residual-in_err-next.ensures.1 (c.in_err-next.ensures.room source is
-    (subst (λ l. size_among source.project (is_brief_in block) (var_trees l) < BEYOND) (sym c.as_slice.ensures.value) room.brief)
-    (subst (λ l. HasNext (with_variables source.project block (var_trees l) (found_so_far c.new-briefs.result.items start)))
-    (sym c.as_slice.ensures.value)
+    (subst (λ l. size_among source.project (is_brief_in block) l < BEYOND)
+    (sym (c.vars-vars.ensures ∙ ap (λ (b : BlockTree). b.vars) (sym c.block-block.ensures))) room.brief)
+    (subst (λ l. HasNext (with_variables source.project block l (found_so_far c.new-briefs.result.items start)))
+    (sym (c.vars-vars.ensures ∙ ap (λ (b : BlockTree). b.vars) (sym c.block-block.ensures)))
     (next_fits source block (found_so_far c.new-briefs.result.items start) room refl (omega (arith, near, bound, shared, own)))))
 
 pub returns-in_err-push_value-clause-room : goal.returns-in_err-push_value-clause-room

@@ -1,17 +1,13 @@
-use Rattle.std.proofs.Common.{ap, sym, ◌∙◌, refl, bytes_eq}
-use Rattle.pv_names.specs.Firsts.{or_number, number_in}
-use Rattle.pv_names.proofs.ForCallers.{grown}
-use Rattle.pv_bool_form.proofs.Places.{all_named}
+use Rattle.std.proofs.Common.{◌≡◌, ◌∙◌, ap, map, sym, arith, length}
+use Rattle.std.proofs.lemmas.List.{length-map}
+use Rattle.pv_types.specs.View.{var_tree, var_trees}
+use Rattle.pv_bool_form.specs.Numbering.{place_of_key}
 use Rattle.pv_bool_form.proofs.words.Words.of.Goals as goal
 
-pub loop-i-preserved : goal.loop-i-preserved
-loop-i-preserved c = λ key.
-    c.in_ok-push.ensures key
-    ∙ ap (λ o. or_number o (bytes_eq key c.index-vars-i.result.name.key) c.loop-i.i) (c.loop-i.invariant key)
-    ∙ sym (grown (λ v. v.name.key) key c.args.vars.now c.loop-i.i _ c.index-vars-i.result c.loop-i-test.true c.index-vars-i.is refl)
-
 pub invariant_of-result : goal.invariant_of-result
-invariant_of-result c = record {
-  few = c.requires;
-  by_name = λ key. all_named c.args.vars.now c.loop-i.i key (number_in c.loop-i.numbers key) c.loop-i-test.false c.loop-i.auto.i-end (c.loop-i.invariant key);
-}
+invariant_of-result c =
+    let many : length c.in_ok-vars.vars.items ≡ length (var_trees c.args.declared.now) =
+    sym (length-map c.in_ok-vars.vars.items var_tree) ∙ ap length c.in_ok-vars.ensures in record {
+      few = omega (arith, many, c.requires);
+      by_name = λ key. c.in_ok-numbers.ensures key ∙ ap (λ l. place_of_key (map var_tree l) key) c.as_slice.ensures.value;
+    }

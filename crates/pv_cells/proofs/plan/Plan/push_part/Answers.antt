@@ -9,20 +9,20 @@ use Rattle.pv_cells.proofs.Results.{on_ok}
 use Rattle.pv_cells.proofs.PlanParts.{part-same, part-few, part-none}
 use Rattle.pv_cells.proofs.plan.Plan.push_part.Goals as goal
 
-pub push_variable-requires : goal.push_variable-requires
-push_variable-requires c =
-    part-few (planned c.args.self.now) (types_of c.args.self.now.types) (test_of c.args.part) c.args.var.now c.requires.plan.typed MAX_LEAVES
+pub push_declared-requires : goal.push_declared-requires
+push_declared-requires c =
+    part-few (planned c.args.self.now) (types_of c.args.self.now.types) (test_of c.args.part) c.args.of.now c.requires.plan.typed MAX_LEAVES
     (sym c.has.ensures ∙ c.if-not-has.false) c.requires.few
 
 pub returns : goal.returns
 returns c =
-    on_ok c.push_variable.result _ _
+    on_ok c.push_declared.result _ _
     (λ e. e ∙ ap (λ l. c.args.cells.now.items ++ map (formed c.args.form) l) (part-same (planned c.args.self.now) (types_of c.args.self.now.types)
-    (test_of c.args.part) c.args.var.now c.requires.plan.typed (sym c.has.ensures ∙ c.if-not-has.false)))
-    c.push_variable.ensures
+    (test_of c.args.part) c.args.of.now c.requires.plan.typed (sym c.has.ensures ∙ c.if-not-has.false)))
+    c.push_declared.ensures
 
 pub returns-then-not-has : goal.returns-then-not-has
 returns-then-not-has c =
     sym (append-nil c.args.cells.now.items)
     ∙ ap (λ l. c.args.cells.now.items ++ map (formed c.args.form) l) (part-none (planned c.args.self.now) (types_of c.args.self.now.types)
-    (test_of c.args.part) c.args.var.now c.requires.plan.typed (sym c.has.ensures ∙ c.if-not-has.true))
+    (test_of c.args.part) c.args.of.now c.requires.plan.typed (sym c.has.ensures ∙ c.if-not-has.true))

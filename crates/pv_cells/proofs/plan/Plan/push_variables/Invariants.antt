@@ -6,9 +6,9 @@ use Rattle.pv_cells.specs.Forms.{formed, leaves_among}
 use Rattle.pv_cells.specs.Planned.{planned}
 use Rattle.pv_cells.proofs.plan.Plan.push_variables.Given as goal
 
-abbrev pub invariant-loop-var : goal.invariant-loop-var
-invariant-loop-var l = record {
-  grown : l.cells.items ++ map (formed l.form) (leaves_among (planned l.self) (test_of l.part) (var_trees (drop l.var-index l.vars)))
+abbrev pub invariant-loop-of : goal.invariant-loop-of
+invariant-loop-of l = record {
+  grown : l.cells.items ++ map (formed l.form) (leaves_among (planned l.self) (test_of l.part) (var_trees (drop l.of-index l.vars)))
       ≡ l.initial.cells.items ++ map (formed l.form) (leaves_among (planned l.self) (test_of l.part) (var_trees l.vars));
-  few : length (leaves_among (planned l.self) (test_of l.part) (var_trees (drop l.var-index l.vars))) ≤ MAX_LEAVES;
+  few : length (leaves_among (planned l.self) (test_of l.part) (var_trees (drop l.of-index l.vars))) ≤ MAX_LEAVES;
 }

@@ -8,6 +8,7 @@ use Rattle.pv_tree.proofs.ForCallers.{unary_seen, binary_seen, std_seen, read_se
 use Rattle.pv_names.specs.Sorts.{want_tree}
 use Rattle.pv_names.specs.Written.{written_tree}
 use Rattle.pv_resolve.specs.Contexts.{block_in}
+use Rattle.pv_variables.specs.Origins.{placed}
 use Rattle.pv_lower.specs.Lowered.{scope_of, part_type}
 use Rattle.pv_lower.specs.Lowering.{IsMeeting, IsWanted}
 use Rattle.pv_lower.proofs.Behind.{access_keeps}
@@ -98,12 +99,13 @@ expression-returns-in-Paren t c = λ source is table.
 
 pub operand-loop-step-init : goal.operand-loop-step-init
 operand-loop-step-init t c =
-    reached_none c.args.self.now c.args.nodes.now.items c.args.checks.now.items _ c.args.operand.now.root
-    (λ source is. c.in_ok-begin.ensures.value source is.context) c.new-moves.ensures.items
+    reached_none c.args.self.now c.args.nodes.now.items c.args.checks.now.items _ c.args.operand.now.root.value
+    (λ source is. c.in_ok-begin.ensures.value source is.context ∙ ap (placed source (block_in c.args.self.now.context)) c.deref.ensures)
+    c.new-moves.ensures.items
 
 pub operand-loop-step-preserved : goal.operand-loop-step-preserved
 operand-loop-step-preserved t c =
-    reached_next c.args.self.now c.args.nodes.now.items _ _ c.args.checks.now.items _ _ c.loop-step.access _ c.args.operand.now.root
+    reached_next c.args.self.now c.args.nodes.now.items _ _ c.args.checks.now.items _ _ c.loop-step.access _ c.args.operand.now.root.value
     c.deref-step-items.result.now c.loop-step.step-index c.step-item.result c.loop-step-test.true c.step-item.is c.loop-step.invariant
     (λ source a is table at. c.in_ok-step.ensures source a is table at)
 

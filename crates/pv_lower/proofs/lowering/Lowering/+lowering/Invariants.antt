@@ -9,5 +9,5 @@ invariant-expression-loop-arg l =
 
 abbrev pub invariant-operand-loop-step : goal.invariant-operand-loop-step
 invariant-operand-loop-step l =
-    HasReached l.self l.fn.nodes.items l.nodes.items l.fn.checks.items l.checks.items l.access l.operand.root
+    HasReached l.self l.fn.nodes.items l.nodes.items l.fn.checks.items l.checks.items l.access l.operand.root.value
     (map step_tree (take l.step-index l.step-items))

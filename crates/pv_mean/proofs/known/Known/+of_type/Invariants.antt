@@ -4,9 +4,9 @@ use Rattle.pv_types.specs.Sizes.{size_of_fields}
 use Rattle.pv_mean.specs.Counts.{capped, size_known}
 use Rattle.pv_mean.proofs.known.Known.+of_type.Given as goal
 
-abbrev pub invariant-loop-var : goal.invariant-loop-var
-invariant-loop-var l = record {
+abbrev pub invariant-loop-of : goal.invariant-loop-of
+invariant-loop-of l = record {
   within : capped l.total ≡ l.total;
-  total : capped (l.total + size_of_fields (size_known l.self) (listed (var_trees (drop l.var-index l.var-items))))
-      ≡ capped (size_of_fields (size_known l.self) (listed (var_trees l.var-items)));
+  total : capped (l.total + size_of_fields (size_known l.self) (listed (var_trees (drop l.of-index l.of-items))))
+      ≡ capped (size_of_fields (size_known l.self) (listed (var_trees l.of-items)));
 }

@@ -6,9 +6,9 @@ use Rattle.pv_types.specs.Sizes.{size_of_vars}
 use Rattle.pv_mean.specs.Counts.{capped, size_known}
 use Rattle.pv_mean.proofs.known.Known.of_instance.Given as goal
 
-abbrev pub invariant-loop-var : goal.invariant-loop-var
-invariant-loop-var l = record {
+abbrev pub invariant-loop-of : goal.invariant-loop-of
+invariant-loop-of l = record {
   within : capped l.total ≡ l.total;
-  total : capped (l.total + size_of_vars (size_known l.self) (instance Static) (listed (var_trees (drop l.var-index l.vars))))
+  total : capped (l.total + size_of_vars (size_known l.self) (instance Static) (listed (var_trees (drop l.of-index l.vars))))
       ≡ capped (size_of_vars (size_known l.self) (instance Static) (listed (var_trees l.vars)));
 }

@@ -6,14 +6,14 @@ use Rattle.pv_mean.proofs.Countings.{goes_on, stays_within}
 use Rattle.pv_mean.proofs.LaidVariables.{among_from}
 use Rattle.pv_mean.proofs.sizes.Sizes.of_variables.Goals as goal
 
-pub loop-var-preserved : goal.loop-var-preserved
-loop-var-preserved c =
+pub loop-of-preserved : goal.loop-of-preserved
+loop-of-preserved c =
     let project = sized_project c.args.self.now in
     let test = test_of c.args.part in
     let vars = c.args.vars.now in
-    let more = among_from project test vars c.loop-var.var-index c.var-item.result c.loop-var-test.true c.var-item.is in
+    let more = among_from project test vars c.loop-of.of-index c.of-item.result c.loop-of-test.true c.of-item.is in
     record {
       within = stays_within c.sum-total.result _ c.sum-total.ensures;
-      total = goes_on c.sum-total.result c.loop-var.total c.of_variable.result _ _ (size_among project test (var_trees vars)) _
-          c.sum-total.ensures c.of_variable.ensures more c.loop-var.invariant.total;
+      total = goes_on c.sum-total.result c.loop-of.total c.of_declared.result _ _ (size_among project test (var_trees vars)) _
+          c.sum-total.ensures c.of_declared.ensures more c.loop-of.invariant.total;
     }

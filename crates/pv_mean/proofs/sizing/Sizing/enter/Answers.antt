@@ -1,10 +1,10 @@
 use Rattle.std.proofs.Common.{◌≡◌, ◌<◌, ◌∷◌, [], ◌++◌, refl, ap, sym, ◌∙◌, subst, append_assoc, is_some}
 use Rattle.std.proofs.lemmas.Bool.{true≢false}
 use Rattle.std.proofs.lemmas.List.{map-append}
-use Rattle.pv_types.specs.View.{var_trees, listed}
+use Rattle.pv_types.specs.View.{var_trees}
 use Rattle.pv_types.specs.Named.{types_of}
 use Rattle.pv_mean.specs.Counts.{known_in}
-use Rattle.pv_mean.specs.Visits.{visit_of, visits_of, enter, leave, enters_in_vars, all_steps, IsOpen}
+use Rattle.pv_mean.specs.Visits.{visit_of, visits_of, enter, leave, all_steps, IsOpen}
 use Rattle.pv_mean.proofs.Visits.{known_popped, known_falls, enter_there, type_entered, entered_falls}
 use Rattle.pv_mean.proofs.sizing.Sizing.enter.Goals as goal
 
@@ -36,13 +36,14 @@ returns c =
     let key = c.args.name.now.key in
     let vars = var_trees c.in-Some.vars.now in
     let found = sym c.in-Some.ensures in
-    let same : xs ++ leave key vars ∷ enters_in_vars (listed vars) ≡ visits_of c.add_names_of.new.tasks.items =
-    sym (append_assoc xs (leave key vars ∷ []) (enters_in_vars (listed vars)))
-    ∙ ap (λ l. l ++ enters_in_vars (listed vars)) (sym (map-append visit_of old _) ∙ ap visits_of (sym c.in_ok-push.ensures.items))
-    ∙ sym c.in_ok-add_names_of.ensures in
+    let adds = c.in_ok-add_names_of.ensures in
+    let same : xs ++ leave key vars ∷ adds.more ≡ visits_of c.add_names_of.new.tasks.items =
+    sym (append_assoc xs (leave key vars ∷ []) adds.more)
+    ∙ ap (λ l. l ++ adds.more) (sym (map-append visit_of old _) ∙ ap visits_of (sym c.in_ok-push.ensures.items))
+    ∙ sym adds.behind in
     record {
-      open_still = subst (IsOpen types known) same (type_entered types known xs key c.requires.open c.requires.nest vars found);
+      open_still = subst (IsOpen types known) same (type_entered types known xs key c.requires.open c.requires.nest vars found adds.more adds.are);
       types = refl;
       falls = subst (λ vs. all_steps types vs < all_steps types (xs ++ enter key ∷ [])) same
-          (entered_falls types xs key vars c.requires.nest found);
+          (entered_falls types xs key vars c.requires.nest found adds.more adds.are);
     }

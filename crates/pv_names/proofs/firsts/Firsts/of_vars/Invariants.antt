@@ -3,4 +3,4 @@ use Rattle.pv_names.specs.Firsts.{FindsFirsts}
 use Rattle.pv_names.proofs.firsts.Firsts.of_vars.Given as goal
 
 abbrev pub invariant-loop-i : goal.invariant-loop-i
-invariant-loop-i l = FindsFirsts l.firsts (map (λ v. v.name.key) (take l.i l.vars))
+invariant-loop-i l = FindsFirsts l.firsts (map (λ v. v.name.now.key) (take l.i l.vars))

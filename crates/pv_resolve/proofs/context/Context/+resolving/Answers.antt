@@ -1,9 +1,11 @@
-use Rattle.std.proofs.Common.{[], pos, map, None, refl, sym, subst, arith}
+use Rattle.std.proofs.Common.{[], pos, map, None, refl, sym, ap, ◌∙◌, subst, arith}
+use Rattle.pv_eval.specs.Means.{activation}
+use Rattle.pv_mean.specs.Activations.{root_begins}
 use Rattle.std.proofs.lemmas.Result.{IfOk-weaker, on_ok_weaker}
 use Rattle.pv_tree.specs.View.{expr_tree, operand_tree, step_tree, exprs_of, steps_of}
 use Rattle.pv_resolve.specs.Begins.{begin_at}
 use Rattle.std.proofs.lemmas.Bool.{false≢true}
-use Rattle.pv_resolve.specs.Rooms.{FitsExpr, FitsOperand, FitsSteps, FitsStep, BeginsRoomy}
+use Rattle.pv_resolve.specs.Rooms.{FitsExpr, FitsOperand, FitsSteps, FitsStep, BeginsRoomy, FitsRoot}
 use Rattle.pv_resolve.proofs.Rooms.{begins_field}
 use Rattle.pv_resolve.proofs.Roots.{root_roomy}
 use Rattle.pv_resolve.proofs.Fits.{literal_fits, lit_seen, no_lit, unary_fits, each_arg_fits, each_step_fits, failed, failed_both}
@@ -100,22 +102,24 @@ expr-returns-in-Paren t c =
 pub operand-loop-step-init : goal.operand-loop-step-init
 operand-loop-step-init t c =
     record {
-      walked = walked_none c.args.self.now c.args.nodes.now.items c.in_ok-begin.begin c.args.operand.now.root c.requires c.in_ok-begin.ensures.spot
-          (λ source first is. c.in_ok-begin.ensures.value source first is);
+      walked = walked_none c.args.self.now c.args.nodes.now.items c.in_ok-begin.begin c.args.operand.now.root.value c.requires c.in_ok-begin.ensures.spot
+          (λ source first is. c.in_ok-begin.ensures.value source first is
+          ∙ ap (root_begins source (activation (block_in c.args.self.now) first)) c.deref.ensures);
       room = λ source is h fits. record {
         most = 0;
         is_most = refl;
-        roomy = subst (BeginsRoomy source.project 0) (sym (c.in_ok-begin.ensures.value source 0 is))
-            (root_roomy source (block_in c.args.self.now) h c.args.operand.now.root);
+        roomy = subst (BeginsRoomy source.project 0) (sym (c.in_ok-begin.ensures.value source 0 is
+            ∙ ap (root_begins source (activation (block_in c.args.self.now) 0)) c.deref.ensures))
+            (root_roomy source (block_in c.args.self.now) h c.args.operand.now.root.value);
       };
     }
 
 pub operand-loop-step-preserved : goal.operand-loop-step-preserved
 operand-loop-step-preserved t c =
     record {
-      walked = walked_next c.args.self.now c.args.nodes.now.items _ _ c.loop-step.walk c.in_ok-walk.walk c.args.operand.now.root c.deref-step-items.result.now
+      walked = walked_next c.args.self.now c.args.nodes.now.items _ _ c.loop-step.walk c.in_ok-walk.walk c.args.operand.now.root.value c.deref-step-items.result.now
           c.loop-step.step-index c.step-item.result c.loop-step-test.true c.step-item.is c.loop-step.invariant.walked c.in_ok-walk.ensures.grows
-          c.in_ok-walk.ensures.spot c.in_ok-walk.ensures.address (λ source is w. c.in_ok-walk.ensures.leads source _ c.args.operand.now.root _ is w);
+          c.in_ok-walk.ensures.spot c.in_ok-walk.ensures.address (λ source is w. c.in_ok-walk.ensures.leads source _ c.args.operand.now.root.value _ is w);
       room = λ source is h fits. (c.in_ok-walk.ensures.room source is h
           (each_step_fits c.deref-step-items.result.now c.loop-step.step-index c.step-item.result c.loop-step-test.true c.step-item.is
           (subst (λ l. FitsSteps (steps_of (map step_tree l))) (sym c.deref-step-items.ensures.value)
@@ -211,7 +215,8 @@ expr-returns-in_err-number-in-Std-clause-room t c =
 
 pub operand-returns-in_err-begin-clause-room : goal.operand-returns-in_err-begin-clause-room
 operand-returns-in_err-begin-clause-room t c =
-    λ source is h fits. absurd (false≢true (c.in_err-begin.ensures.room source is h (subst FitsOperand (operand_seen c.args.operand.now) fits).0))
+    λ source is h fits. absurd (false≢true (c.in_err-begin.ensures.room source is h
+    (subst FitsRoot (sym c.deref.ensures) (subst FitsOperand (operand_seen c.args.operand.now) fits).0)))
 
 pub operand-returns-in_err-walk-clause-room : goal.operand-returns-in_err-walk-clause-room
 operand-returns-in_err-walk-clause-room t c =

@@ -12,7 +12,7 @@ invariant-expr-loop-arg l =
 
 abbrev pub invariant-operand-loop-step : goal.invariant-operand-loop-step
 invariant-operand-loop-step l = record {
-  walked : HasWalked l.self l.fn.nodes.items l.nodes.items l.walk l.operand.root (map step_tree (take l.step-index l.step-items));
+  walked : HasWalked l.self l.fn.nodes.items l.nodes.items l.walk l.operand.root.value (map step_tree (take l.step-index l.step-items));
   room : (source : Source) → IsContext l.self source → HasRoom source (block_in l.self) → FitsOperand (operand_tree l.operand)
       → WalkRoomy source.project l.nodes.items l.walk;
 }

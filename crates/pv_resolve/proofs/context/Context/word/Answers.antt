@@ -10,7 +10,7 @@ use Rattle.pv_resolve.proofs.context.Context.word.Goals as goal
 pub returns-in-Some-clause-value : goal.returns-in-Some-clause-value
 returns-in-Some-clause-value c =
     λ source first is. IfOk-weaker c.variable.result _ _ (λ b e.
-    word_declared source (activation (block_in c.args.self.now) first) c.args.name.now.key c.args.hash (var_tree c.in-Some.var.now) (begin_at b first)
+    word_declared source (activation (block_in c.args.self.now) first) c.args.name.now.key c.args.hash (var_tree c.in-Some.var) (begin_at b first)
     c.in-Some.ensures e)
     (c.variable.ensures.value source first is)
 
@@ -22,7 +22,7 @@ returns-in-None-clause-value c =
 
 pub returns-in-Some-clause-room : goal.returns-in-Some-clause-room
 returns-in-Some-clause-room c =
-    λ source is h. c.variable.ensures.room source is h (declared_fits source (block_in c.args.self.now) h c.args.name.now.key c.in-Some.var.now c.in-Some.ensures)
+    λ source is h. c.variable.ensures.room source is h (declared_fits source (block_in c.args.self.now) h c.args.name.now.key c.in-Some.var c.in-Some.ensures)
 
 pub returns-in-None-clause-room : goal.returns-in-None-clause-room
 returns-in-None-clause-room c =

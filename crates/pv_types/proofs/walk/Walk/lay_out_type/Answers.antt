@@ -32,8 +32,8 @@ returns-in-Array-clause-adds c =
 pub returns-in-Struct-clause-adds : goal.returns-in-Struct-clause-adds
 returns-in-Struct-clause-adds c =
     let types = types_of c.args.named.now in
-    subst (λ (t : TypeTree). OnOk c.add_frame-in-Struct.result (Adds types c.args.self.now c.add_frame-in-Struct.new.self
+    subst (λ (t : TypeTree). OnOk c.add_vars.result (Adds types c.args.self.now c.add_vars.new.self
     (leaves_of_type (leaves_of_named types c.args.levels) c.args.self.now.path.items (start_value c.args.start) c.args.section t)
     (work_of_type (work_of_named types c.args.levels) t)))
     (sym (structure_seen c.args.ty.now c.in-Struct.vars c.as_slice-vars.result.now c.in-Struct.is c.as_slice-vars.ensures.value))
-    (c.add_frame-in-Struct.ensures.adds types)
+    (c.add_vars.ensures.adds types)

@@ -1,6 +1,0 @@
-use Rattle.std.proofs.Common.{map, take}
-use Rattle.pv_names.specs.Firsts.{FindsFirsts}
-use Rattle.pv_bool_form.proofs.words.Words.of.Given as goal
-
-abbrev pub invariant-loop-i : goal.invariant-loop-i
-invariant-loop-i l = FindsFirsts l.numbers (map (λ v. v.name.key) (take l.i l.vars))

@@ -1,0 +1,6 @@
+use Rattle.std.proofs.Common.{map, take}
+use Rattle.pv_names.specs.Firsts.{FindsFirsts}
+use Rattle.pv_bool_form.proofs.words.numbered.Given as goal
+
+abbrev pub invariant-loop-i : goal.invariant-loop-i
+invariant-loop-i l = FindsFirsts l.numbers (map (λ v. v.name.now.key) (take l.i l.vars))
