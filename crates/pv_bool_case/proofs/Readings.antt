@@ -1,18 +1,24 @@
--- The pattern that texts are, by the expressions that the code read of them.
-use Rattle.std.proofs.Common.{◌≡◌, ◌↔◌, ℕ, List, [], ◌∷◌, Option, Result, Ok, Err, IfOk, All, ap, subst, ◌∙◌}
-use Rattle.std.specs.Prelude.{IsSome, IfSome}
+-- The pattern that texts are, by the expressions that the code read of them; and that a text of a pattern has no fault.
+use Rattle.std.proofs.Common.{◌≡◌, ◌↔◌, ℕ, List, [], ◌∷◌, zero, length, Option, None, Result, Ok, Err, IfOk, All, true≢false, refl, sym, ap, subst, ◌∙◌}
+use Rattle.std.specs.Prelude.{IsSome, IfSome, IfErr}
 use Rattle.std.specs.declared.alloc.AllocError.{AllocError}
+use Rattle.pv_types.specs.Tree.{VarTree}
+use Rattle.pv_tree.specs.declared.expr.Expr.{Expr}
 use Rattle.pv_tree.specs.Tree.{ExprTree, OperandTree, BlockTree}
-use Rattle.pv_tree.specs.Scopes.{Scope}
+use Rattle.pv_tree.specs.Scopes.{ProjectTree, Scope}
 use Rattle.pv_bool.specs.declared.program.Program.{Program}
 use Rattle.pv_bool.specs.Programs.{program_tree}
 use Rattle.pv_bool_form.specs.FirstForm.{IsFirstBlock, IsFirstOperand, IsFirstPattern}
 use Rattle.pv_bool_form.specs.Programs.{first_source, pattern_program}
 use Rattle.pv_pattern.specs.Patterns.{Pattern, invariant, forbidden, implication, within, between, reach, expressions_of}
-use Rattle.pv_pattern.specs.Texts.{IsTextOf, Say, Says}
-use Rattle.pv_pattern_read.specs.Kinds.{kind_of}
+use Rattle.pv_pattern.specs.Texts.{IsTextOf, Fault, unread, broken, brief_cell, no_bool, Say, Says, FailsAt}
+use Rattle.pv_pattern_read.specs.Kinds.{kind_of, IsReadPattern}
+use Rattle.pv_pattern_read.specs.Answers.{AnswersText}
+use Rattle.pv_pattern_read.specs.declared.fault.TextFault.{TextFault}
+use Rattle.pv_pattern_read.specs.declared.fault.TextFault.TheVariants as text_fault
+use Rattle.pv_case.specs.declared.case.PatternKind.{PatternKind}
 use Rattle.pv_case.specs.declared.case.PatternKind.TheVariants.{Invariant, Forbidden, Implication, Within, Between, Reach}
-use Rattle.pv_bool_case.specs.Programs.{IsMadeOf}
+use Rattle.pv_bool_case.specs.Programs.{AreAPattern, IsSaid, IsMadeOf}
 use Rattle.pv_bool_case.proofs.OneBlock.{OneReading}
 
 -- ---- the expressions of texts
@@ -40,6 +46,77 @@ two_texts scope text other (e ∷ b ∷ c ∷ more) a one say is = absurd say.1.
 pub both_are : (es : List ExprTree) (text : List ℕ) (a b c : ExprTree) → OneReading → es ≡ a ∷ b ∷ [] → IsTextOf text b → IsTextOf text c
     → es ≡ a ∷ c ∷ []
 both_are es text a b c one are reads so = are ∙ ap (λ x. a ∷ x ∷ []) (one text b c reads so)
+
+-- ---- what texts of a pattern say
+
+say_first : (scope : Scope) (text : List ℕ) (more : List (List ℕ)) (es : List ExprTree) → Say scope (text ∷ more) es → (e : ExprTree) × Says scope text e
+say_first scope text more [] say = absurd say
+say_first scope text more (e ∷ es) say = (e, say.0)
+
+say_rest : (scope : Scope) (text : List ℕ) (more : List (List ℕ)) (es : List ExprTree) → Say scope (text ∷ more) es
+    → (rest : List ExprTree) × Say scope more rest
+say_rest scope text more [] say = absurd say
+say_rest scope text more (e ∷ es) say = (es, say.1)
+
+pub said_first : (project : ProjectTree) (entry : ℕ) (kind : PatternKind) (text : List ℕ) (more : List (List ℕ))
+    → AreAPattern project entry kind (text ∷ more) → IsSaid project entry text
+said_first project entry kind text more are =
+    let scope : Scope = record { project = project; block = are.entered } in
+    let said = say_first scope text more (expressions_of are.pattern) are.reads.say in
+    record { entered = are.entered; there = are.there; e = said.0; says = said.1 }
+
+pub said_second : (project : ProjectTree) (entry : ℕ) (kind : PatternKind) (text other : List ℕ) (more : List (List ℕ))
+    → AreAPattern project entry kind (text ∷ other ∷ more) → IsSaid project entry other
+said_second project entry kind text other more are =
+    let scope : Scope = record { project = project; block = are.entered } in
+    let rest = say_rest scope text (other ∷ more) (expressions_of are.pattern) are.reads.say in
+    let said = say_first scope other more rest.0 rest.1 in
+    record { entered = are.entered; there = are.there; e = said.0; says = said.1 }
+
+-- no text of a pattern is at fault
+abbrev pub NoneAtFault : Type 0
+NoneAtFault = (scope : Scope) (kind : PatternKind) (texts : List (List ℕ)) (p : Pattern) (n : ℕ) (f : Fault) → IsReadPattern scope kind texts p
+    → FailsAt scope texts n f → ⊥
+
+-- so a text that says something lacks memory at most
+pub no_fault : NoneAtFault → (scope : Scope) (text : List ℕ) (e : ExprTree) → Says scope text e → (answer : Result Expr TextFault)
+    → AnswersText scope text answer → IfErr answer (λ fault. fault ≡ text_fault.NoMemory)
+no_fault apart scope text e says answer is = lead answer is
+  where
+    at : (f : Fault) → FailsAt scope (text ∷ []) zero f → ⊥
+    at f = apart scope Invariant (text ∷ []) (invariant e) zero f (record { of_kind = refl; say = (says, tt) })
+
+    lead : (answer : Result Expr TextFault) → AnswersText scope text answer → IfErr answer (λ fault. fault ≡ text_fault.NoMemory)
+    lead (Ok x) is = tt
+    lead (Err text_fault.Unread) is = absurd (at unread is)
+    lead (Err (text_fault.Broken rule)) is = absurd (at (broken _) is)
+    lead (Err text_fault.BriefCell) is = absurd (at brief_cell is)
+    lead (Err text_fault.NotBool) is = absurd (at no_bool is)
+    lead (Err text_fault.NoMemory) is = refl
+
+-- a pattern of other than one or two texts isn't of the form
+pub first_has_few : (scope : Scope) (vars : List VarTree) (p : Pattern) (texts : List (List ℕ)) → Say scope texts (expressions_of p)
+    → (length texts ≡ 1 → ⊥) → (length texts ≡ 2 → ⊥) → IsFirstPattern vars p → ⊥
+first_has_few scope vars p [] say one two first = none p say
+  where
+    none : (p : Pattern) → Say scope [] (expressions_of p) → ⊥
+    none (invariant a) say = say
+    none (forbidden a) say = say
+    none (implication a b) say = say
+    none (within a b) say = say
+    none (between a b c) say = say
+    none (reach a) say = say
+first_has_few scope vars p (t ∷ []) say one two first = one refl
+first_has_few scope vars p (t ∷ u ∷ []) say one two first = two refl
+first_has_few scope vars p (t ∷ u ∷ v ∷ more) say one two first = many p say first
+  where
+    many : (p : Pattern) → Say scope (t ∷ u ∷ v ∷ more) (expressions_of p) → IsFirstPattern vars p → ⊥
+    many (invariant a) say first = say.1
+    many (forbidden a) say first = say.1
+    many (implication a b) say first = say.1.1
+    many (within a b) say first = first
+    many (between a b c) say first = first
+    many (reach a) say first = say.1
 
 -- ---- patterns by their kind and their expressions
 
@@ -137,3 +214,7 @@ answered block q (Err e) is = tt
 
 pub made_of : (block : BlockTree) (q p : Pattern) (r : Result (Option Program) AllocError) → IsAnswerFor block q r → q ≡ p → IfOk r (IsMadeOf block p)
 made_of block q p r is same = subst (λ x. IfOk r (IsMadeOf block x)) same (answered block q r is)
+
+-- of a pattern that isn't of the form none is made
+pub none_made : (block : BlockTree) (p : Pattern) → (IsFirstPattern block.vars p → ⊥) → IsMadeOf block p None
+none_made block p other = record { is_first = (λ some. absurd (true≢false (sym some)), λ first. absurd (other first.1)); program = tt }

@@ -1,5 +1,5 @@
 //! The Boolean program of a block with a pattern, by the texts of the pattern.
-ghost use Rattle.std.specs.Prelude.{◌≡◌, ◌≤◌, ◌∷◌, ℕ, List, [], length, map, All, Some, IfOk, slice_get, string_bytes};
+ghost use Rattle.std.specs.Prelude.{◌≡◌, ◌≤◌, ◌∷◌, ℕ, List, [], length, map, All, Some, IfOk, IfErr, slice_get, string_bytes};
 ghost use Rattle.pv_lex.specs.declared.lex.TheConstants.{MAX_SOURCE};
 ghost use Rattle.pv_tree.specs.Tree.{ExprTree, BlockTree};
 ghost use Rattle.pv_tree.specs.Scopes.{Scope};
@@ -8,27 +8,41 @@ ghost use Rattle.pv_mean.specs.ProjectSizes.{project_tree};
 ghost use Rattle.pv_pattern.specs.Patterns.{Pattern, expressions_of};
 ghost use Rattle.pv_pattern.specs.Texts.{IsTextOf, Says};
 ghost use Rattle.pv_pattern_read.specs.Answers.{AnswersText};
+ghost use Rattle.pv_pattern_read.specs.declared.fault.TextFault.TheVariants.{NoMemory};
 ghost use Rattle.pv_pattern_read.specs.Kinds.{kind_of, IsReadPattern};
 ghost use Rattle.pv_bool_form.specs.Requirements.{pattern_tree};
-ghost use Rattle.pv_bool_case.specs.Programs.{IsMadeOf};
+ghost use Rattle.pv_bool_case.specs.Programs.{AreAPattern, IsSaid, IsMadeOf};
 
 use crate::text::said_at;
 use pv_bool::Program;
 use pv_bool_form::{Requirement, first_pattern};
 use pv_case::PatternKind;
 use pv_pattern_read::TextFault;
-use pv_pattern_read::laws::texts_are_one_expression;
+use pv_pattern_read::laws::{first_fault_is_one, texts_are_one_expression};
 use pv_tree::{Block, Expr, Project};
 use std::alloc::{AllocError, Global};
 
-/// An expression that a text was found to be; any fault of it, which no text of a pattern has, is answered by want of memory.
+/// The only fault of a text that says something.
+fn no_memory(fault: TextFault) -> AllocError
+    requires { fault ≡ NoMemory }
+{
+    match fault {
+        TextFault::NoMemory => AllocError,
+        TextFault::Unread | TextFault::Broken(_) | TextFault::BriefCell | TextFault::NotBool => {
+            unreachable!()
+        }
+    }
+}
+
+/// The expression of a text that says something.
 fn kept(said: Result<Expr, TextFault>) -> Result<Expr, AllocError>
+    requires { IfErr said (λ fault. fault ≡ NoMemory) }
     ensures { (scope : Scope) (text : List ℕ) → AnswersText scope text said
         → IfOk result (λ e. Says scope text (expr_tree e)) }
 {
     match said {
         Ok(e) => Ok(e),
-        Err(_) => Err(AllocError),
+        Err(fault) => Err(no_memory(fault)),
     }
 }
 
@@ -40,10 +54,13 @@ fn expression_at(
     text: &str,
 ) -> Result<Expr, AllocError>
     requires short { length text.now ≤ MAX_SOURCE }
+    requires said { IsSaid (project_tree project.now) entry text.now }
     ensures { (block : BlockTree) → slice_get (map block_tree project.now.blocks.list.items) entry ≡ Some block
         → IfOk result (λ e. Says (record { project = project_tree project.now; block = block }) text.now (expr_tree e)) }
 {
-    kept(said_at(alloc, project, entry, text))
+    first_fault_is_one();
+    let said = said_at(alloc, project, entry, text);
+    kept(said)
 }
 
 /// The pattern of this kind with one expression; of a kind that has more it doesn't matter.
@@ -85,6 +102,7 @@ fn by_one(
     text: &str,
 ) -> Result<Option<Program>, AllocError>
     requires short { length text.now ≤ MAX_SOURCE }
+    requires said { IsSaid (project_tree project.now) entry text.now }
     ensures { (entered : BlockTree) (p : Pattern)
         → slice_get (map block_tree project.now.blocks.list.items) entry ≡ Some entered
         → IsReadPattern (record { project = project_tree project.now; block = entered }) kind (text.now ∷ []) p
@@ -108,6 +126,7 @@ fn by_other(
     other: &str,
 ) -> Result<Option<Program>, AllocError>
     requires short { length other.now ≤ MAX_SOURCE }
+    requires said { IsSaid (project_tree project.now) entry other.now }
     ensures { (entered : BlockTree) (p : Pattern) (b : ExprTree) → kind_of p ≡ kind
         → slice_get (map block_tree project.now.blocks.list.items) entry ≡ Some entered
         → expressions_of p ≡ expr_tree a.now ∷ b ∷ [] → IsTextOf other.now b
@@ -132,6 +151,8 @@ fn by_two(
 ) -> Result<Option<Program>, AllocError>
     requires short { length text.now ≤ MAX_SOURCE }
     requires other_short { length other.now ≤ MAX_SOURCE }
+    requires said { IsSaid (project_tree project.now) entry text.now }
+    requires other_said { IsSaid (project_tree project.now) entry other.now }
     ensures { (entered : BlockTree) (p : Pattern)
         → slice_get (map block_tree project.now.blocks.list.items) entry ≡ Some entered
         → IsReadPattern (record { project = project_tree project.now; block = entered }) kind (text.now ∷ other.now ∷ []) p
@@ -145,8 +166,7 @@ fn by_two(
 }
 
 /// The program of the block with the pattern of this kind that the texts are, over the names of the block
-/// of this number; none where the block or the pattern isn't of the first form. The error is want of
-/// memory, or that the texts are no pattern of one text or two.
+/// of this number; none where the block or the pattern isn't of the first form, which has one text or two.
 pub fn program_by(
     alloc: Global,
     project: &Project,
@@ -156,6 +176,7 @@ pub fn program_by(
     texts: &[String],
 ) -> Result<Option<Program>, AllocError>
     requires short { All (λ t. length (string_bytes t) ≤ MAX_SOURCE) texts.now }
+    requires read { AreAPattern (project_tree project.now) entry kind (map string_bytes texts.now) }
     ensures { (entered : BlockTree) (p : Pattern)
         → slice_get (map block_tree project.now.blocks.list.items) entry ≡ Some entered
         → IsReadPattern (record { project = project_tree project.now; block = entered }) kind
@@ -165,6 +186,6 @@ pub fn program_by(
     match texts {
         [a] => by_one(alloc, project, entry, block, kind, a.as_str()),
         [a, b] => by_two(alloc, project, entry, block, kind, a.as_str(), b.as_str()),
-        _ => Err(AllocError),
+        _ => Ok(None),
     }
 }

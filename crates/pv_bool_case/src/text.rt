@@ -1,5 +1,5 @@
 //! What a pattern's text says over the names of a block.
-ghost use Rattle.std.specs.Prelude.{◌≡◌, ◌≤◌, length, map, Some, slice_get};
+ghost use Rattle.std.specs.Prelude.{◌≡◌, ◌<◌, ◌≤◌, length, map, Some, slice_get};
 ghost use Rattle.pv_lex.specs.declared.lex.TheConstants.{MAX_SOURCE};
 ghost use Rattle.pv_tree.specs.Tree.{BlockTree};
 ghost use Rattle.pv_tree.specs.View.{block_tree};
@@ -13,10 +13,10 @@ use pv_pattern_read::{TextFault, said};
 use pv_tree::{Expr, Project};
 use std::alloc::Global;
 
-/// What the text says over the names of the block of this number in the project of these tables. Where there is no block of this
-/// number, it is answered by want of memory.
+/// What the text says over the names of the block of this number in the project of these tables.
 fn said_over(alloc: Global, tables: &Tables, entry: u32, text: &str) -> Result<Expr, TextFault>
     requires short { length text.now ≤ MAX_SOURCE }
+    requires there { entry < length (blocks_of tables.now) }
     ensures { (block : BlockTree) → slice_get (blocks_of tables.now) entry ≡ Some block
         → AnswersText (record { project = project_of tables.now; block = block }) text.now result }
 {
@@ -28,7 +28,7 @@ fn said_over(alloc: Global, tables: &Tables, entry: u32, text: &str) -> Result<E
             };
             said(&scope, alloc, text)
         }
-        None => Err(TextFault::NoMemory),
+        None => unreachable!(),
     }
 }
 
@@ -41,6 +41,7 @@ fn said_among(
     text: &str,
 ) -> Result<Expr, TextFault>
     requires short { length text.now ≤ MAX_SOURCE }
+    requires there { entry < length project.now.blocks.list.items }
     requires tables { map block_of list.now ≡ map block_tree project.now.blocks.list.items }
     ensures { (block : BlockTree) → slice_get (map block_tree project.now.blocks.list.items) entry ≡ Some block
         → AnswersText (record { project = project_tree project.now; block = block }) text.now result }
@@ -51,10 +52,10 @@ fn said_among(
     said_over(alloc, &tables, entry, text)
 }
 
-/// What the text says over the names of the block of this number, or its first fault. Where there is no block of this number, it is
-/// answered by want of memory.
+/// What the text says over the names of the block of this number, which there is, or its first fault.
 pub fn said_at(alloc: Global, project: &Project, entry: u32, text: &str) -> Result<Expr, TextFault>
     requires short { length text.now ≤ MAX_SOURCE }
+    requires there { entry < length project.now.blocks.list.items }
     ensures { (block : BlockTree) → slice_get (map block_tree project.now.blocks.list.items) entry ≡ Some block
         → AnswersText (record { project = project_tree project.now; block = block }) text.now result }
 {

@@ -1,6 +1,6 @@
 -- What the code's case and project are of, where they are of the form; and that a stop at no file leaves the count of failed reads.
 use Rattle.std.proofs.Common.{◌≡◌, ◌≢◌, ◌↔◌, ◌≤◌, ℕ, List, [], ◌∷◌, length, map, Option, Some, None, is_some, Result, Ok, Err, IfSome, MatchResult, true≢false, refl, sym, ap, subst, ◌∙◌, arith}
-use Rattle.std.specs.Prelude.{IsSome}
+use Rattle.std.specs.Prelude.{IsSome, IfNone}
 use Rattle.std.specs.Result.{IsErrAnd}
 use Rattle.std.proofs.lemmas.List.{length-map}
 use Rattle.pv_edge.specs.Files.{FileMap}
@@ -26,6 +26,9 @@ use Rattle.pv_bool_load.specs.Stops.{first_stop_status, first_stop_unread}
 
 pub some_meets : {X : Type 0} (P : X → Type 0) (o : Option X) (x : X) → o ≡ Some x → IfSome o P → P x
 some_meets {X = X} P o x is h = let Q : Option X → Type 0 = λ p. IfSome p P in subst Q is h
+
+pub none_meets : {X P : Type 0} (o : Option X) → o ≡ None → IfNone o P → P
+none_meets {X = X} {P = P} o is h = let Q : Option X → Type 0 = λ p. IfNone p P in subst Q is h
 
 pub some_is : {X P : Type 0} (o : Option X) (x : X) → o ≡ Some x → IsSome o ↔ P → P
 some_is o x is same = same.0 (ap is_some is)

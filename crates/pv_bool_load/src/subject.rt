@@ -13,7 +13,7 @@ ghost use Rattle.pv_command_load.specs.Made.{IsCase, AreGiven, IsProjectOf};
 ghost use Rattle.pv_bool_case.specs.Forms.{IsFirstCase, IsFirstAlone};
 ghost use Rattle.pv_bool_load.specs.Forms.{AreFirst, ReadsFirst};
 ghost use Rattle.pv_bool_load.specs.Stops.{first_stop_status, first_stop_unread, StopsFirst};
-ghost use Rattle.pv_bool_load.specs.Made.{IsFirstSubject, IsProgramOf};
+ghost use Rattle.pv_bool_load.specs.Made.{AreOfFirst, IsFirstSubject, IsProgramOf};
 
 use crate::stop::FirstStop;
 use pv_bool::Program;
@@ -61,7 +61,8 @@ fn first_project(
     texts: &[SourceText],
     blocks: Blocks,
 ) -> Result<Project, FirstStop>
-    requires { AreRead (map text_tree texts.now) (block_trees blocks.list.items) }
+    requires first { IsFirstCase (data_of case.now) }
+    requires read { AreRead (map text_tree texts.now) (block_trees blocks.list.items) }
     ensures found { (given : Given) → data_of case.now ≡ given.case → IsFirstCase given.case
         → AreGiven texts.now blocks.list.items [] given
         → IfOk result (λ project. IsProjectOf given project × IsFirstAlone (blocks_of given)) }
@@ -80,7 +81,7 @@ fn first_project(
             let file = String::from_str(alloc, file.as_str())?;
             Err(FirstStop::SourceForm { file })
         }
-        None => Err(FirstStop::NoMemory),
+        None => unreachable!(),
     }
 }
 
@@ -92,7 +93,8 @@ fn program_in(
     entry: u32,
     case_file: &str,
 ) -> Result<Program, FirstStop>
-    requires { All (λ t. length (string_bytes t) ≤ MAX_SOURCE) case.now.pattern.expressions.items }
+    requires short { All (λ t. length (string_bytes t) ≤ MAX_SOURCE) case.now.pattern.expressions.items }
+    requires first { AreOfFirst case.now project.now entry }
     ensures found { (told : Option FileMap) (s : SubjectData) → IsCase case.now s.given.case → AreFirst s.given
         → Reads told case_file.now s → IsProjectOf s.given project.now
         → slice_get (blocks_of s.given) entry ≡ Some s.entered.block
@@ -105,7 +107,7 @@ fn program_in(
 {
     texts_are_one_expression();
     let Some(block) = only_block(project) else {
-        return Err(FirstStop::NoMemory);
+        unreachable!();
     };
     let kind = case.pattern.kind;
     let texts = case.pattern.expressions.as_slice();

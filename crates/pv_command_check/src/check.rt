@@ -13,6 +13,7 @@ use crate::stop::CheckStop;
 use crate::texts::texts_of;
 use crate::written::written;
 use pv_claims::Claim;
+use pv_command_verdict::laws::scans_are_done;
 use pv_command_verdict::{FirstSubject, Status, first_subject_in};
 use pv_edge::{Files, Text};
 use pv_report::status;
@@ -46,6 +47,7 @@ fn checked_of(alloc: Global, first: &FirstSubject) -> Result<Checked, CheckStop>
         → IfErr result (StopsCheck told file) }
     ensures of_status { IfErr result (λ stop. (check_stop_status stop ≢ 6) × (check_stop_status stop ≢ 7)) }
 {
+    scans_are_done();
     let evidence = decided(alloc, first)?;
     let checked = texts_of(alloc, &first.subject, evidence)?;
     Ok(checked)

@@ -4,6 +4,7 @@ ghost use Rattle.std.specs.Result.{IsOkAnd};
 ghost use Rattle.pv_cert.specs.CertificateText.{IsTextOf, IsWritable};
 ghost use Rattle.pv_command_verdict.specs.Handed.{SubjectData, IsSubject};
 ghost use Rattle.pv_command_verdict.specs.Verdicts.{verdict_text};
+ghost use Rattle.pv_command_verdict.specs.Correct.{IsByPattern};
 
 use crate::check::Checked;
 use pv_cert::write;
@@ -32,13 +33,14 @@ fn joined(
     })
 }
 
-/// The texts of evidence: that of its certificate and, on what is worked on, its report.
+/// The texts of evidence, of which an ending that is told is the pattern's: that of its certificate and, on what is worked on, its report.
 pub(crate) fn texts_of(
     alloc: Global,
     subject: &Subject,
     evidence: Evidence,
 ) -> Result<Checked, AllocError>
     requires writable { IsWritable evidence.certificate }
+    requires ending { IsByPattern evidence.ending evidence.certificate.claim }
     ensures claim { IfOk result (λ r. r.claim ≡ evidence.certificate.claim) }
     ensures certificate { IfOk result (λ r. IsTextOf r.certificate evidence.certificate) }
     ensures report { (s : SubjectData) → IsSubject subject.now s

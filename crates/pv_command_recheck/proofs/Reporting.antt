@@ -7,9 +7,11 @@ use Rattle.pv_cert.specs.declared.certificate.Certificate.{Certificate}
 use Rattle.pv_cert.specs.CertificateText.{IsTextOf}
 use Rattle.pv_valid.specs.declared.fault.Verdict.{Verdict}
 use Rattle.pv_valid.specs.Validity.{ending_in, IsRight}
-use Rattle.pv_command_verdict.specs.Handed.{Counts, HoldsBytes, IsUnread, stopped_status, SubjectData, ReadsFirst}
+use Rattle.pv_command_verdict.specs.Handed.{Counts, HoldsBytes, IsUnread, stopped_status, SubjectData, source_in, ReadsFirst}
 use Rattle.pv_command_verdict.specs.Cases.{case_in}
+use Rattle.pv_command_verdict.specs.Sayings.{SaysOfSource}
 use Rattle.pv_command_verdict.specs.Verdicts.{verdict_text, IsVerdict}
+use Rattle.pv_command_verdict.specs.Correct.{IsByPattern}
 use Rattle.pv_command_recheck.specs.declared.recheck.Rechecked.{Rechecked}
 use Rattle.pv_command_recheck.specs.declared.stop.CertificateStop.{CertificateStop}
 use Rattle.pv_command_recheck.specs.declared.stop.RecheckStop.{RecheckStop}
@@ -23,7 +25,25 @@ abbrev pub SaysWhatIsSo : Type 0
 SaysWhatIsSo = (told : Option FileMap) (file : List ℕ) (s : SubjectData) (bytes : List ℕ) (c : Certificate)
     → ReadsFirst told file s → IsTextOf bytes c → IsRight (case_in s) c → IsVerdict s bytes c (ending_in (case_in s) c.trace)
 
+-- what the law on scans says of verdicts
+abbrev pub EndsByPattern : Type 0
+EndsByPattern = (told : Option FileMap) (file : List ℕ) (s : SubjectData) (c : Certificate) (ending : Option Ending)
+    → ReadsFirst told file s → SaysOfSource (source_in s) s.pattern s.given.case.limits c ending c.claim → IsByPattern ending c.claim
+
 -- ---- a verdict
+
+-- evidence of a certificate that was judged to be right: its trace ends by no trap and no bound
+pub ends_by_pattern : SaysWhatIsSo → EndsByPattern → (told : Option FileMap) (case_file : List ℕ) (s : SubjectData) → ReadsFirst told case_file s
+    → (bytes : List ℕ) (c : Certificate) → IsTextOf bytes c → (e : Certificate) (ending : Option Ending)
+    → (answer : Result Verdict CertificateStop) → IfOk answer (IsJudged s c) → IsOkAnd answer (λ v. ending ≡ v.ending) → e ≡ c
+    → IsByPattern ending e.claim
+ends_by_pattern so ends told case_file s reads bytes c text e ending (Ok v) is same whose =
+    let says = (so told case_file s bytes c reads text is.is_right).says in
+    let told_so = ends told case_file s c (ending_in (case_in s) c.trace) reads says in
+    let told_by : IsByPattern v.ending c.claim = subst (λ (w : Verdict). IsByPattern w.ending c.claim) (sym is.is) told_so in
+    subst (λ (d : Certificate). IsByPattern ending d.claim) (sym whose)
+    (subst (λ (o : Option Ending). IsByPattern o c.claim) (sym same) told_by)
+ends_by_pattern so ends told case_file s reads bytes c text e ending (Err stop) is same whose = absurd same
 
 module _ (law : SaysWhatIsSo) (told : Option FileMap) (case_file file : List ℕ) (s : SubjectData) (c : Certificate)
     (reads : ReadsFirst told case_file s) (held : HoldsBytes told file (λ bytes. IsTextOf bytes c)) where

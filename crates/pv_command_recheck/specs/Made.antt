@@ -1,8 +1,9 @@
 -- What the stages of a recheck make and pass on, by the code's types. No public clause cites these.
-use Rattle.std.specs.Prelude.{◌≡◌}
+use Rattle.std.specs.Prelude.{◌≡◌, ℕ, List}
 use Rattle.pv_claims.specs.declared.fault.CertFault.{CertFault}
 use Rattle.pv_claims.specs.declared.fault.CertFault.TheVariants as cert_fault
 use Rattle.pv_cert.specs.declared.certificate.Certificate.{Certificate}
+use Rattle.pv_cert.specs.CertificateText.{IsTextOf}
 use Rattle.pv_valid.specs.declared.fault.Kind.TheVariants.{NotACertificate}
 use Rattle.pv_valid.specs.declared.fault.Fault.{Fault}
 use Rattle.pv_valid.specs.declared.fault.Fault.TheVariants as fault
@@ -24,6 +25,11 @@ unread_certificate read_stop.NoMemory = certificate_stop.NoMemory
 abbrev pub no_certificate : CertFault → CertificateStop
 no_certificate (cert_fault.NotACertificate line) = certificate_stop.Faulty line NotACertificate
 no_certificate cert_fault.NoMemory = certificate_stop.NoMemory
+
+-- some bytes are its text
+pub record IsOfText (c : Certificate) : Type 0 where
+  pub bytes : List ℕ
+  pub is : IsTextOf bytes c
 
 -- what is wrong first with a certificate, as a stop
 abbrev pub stop_by : Fault → CertificateStop

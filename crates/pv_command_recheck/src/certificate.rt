@@ -1,6 +1,5 @@
 //! The stage of a recheck that reads its certificate.
 ghost use Rattle.std.specs.Prelude.{◌≡◌, IfOk, IfErr, MatchResult};
-ghost use Rattle.pv_claims.specs.TracePart.{trace_form, HasForm};
 ghost use Rattle.pv_cert.specs.CertificateText.{IsTextOf};
 ghost use Rattle.pv_command_verdict.specs.Handed.{Counts, HoldsBytes, IsUnread, stopped_status, stopped_unread, SubjectData};
 ghost use Rattle.pv_command_recheck.specs.Certificates.{certificate_status, certificate_stopped, StopsCertificate};
@@ -19,7 +18,6 @@ pub(crate) fn certificate_in<F: Files>(
 ) -> Result<Certificate, CertificateStop>
     ensures files { F.told files.new ≡ F.told files.old }
     ensures found { IfOk result (λ c. HoldsBytes (F.told files.old) file.now (λ bytes. IsTextOf bytes c)) }
-    ensures form { IfOk result (λ c. HasForm (trace_form c.claim) c.trace) }
     ensures stopped { IfErr result (λ stop. (s : SubjectData) → StopsCertificate (F.told files.old) file.now s stop) }
     ensures counted { MatchResult result
         (λ c. F.read_faults files.new ≡ F.read_faults files.old)

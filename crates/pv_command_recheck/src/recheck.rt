@@ -1,12 +1,12 @@
 //! The command `recheck CASE CERTIFICATE`.
 ghost use Rattle.std.specs.Prelude.{◌≡◌, ◌≢◌, ℕ, List, Option};
 ghost use Rattle.pv_edge.specs.Files.{FileMap};
-ghost use Rattle.pv_claims.specs.TracePart.{trace_form, HasForm};
 ghost use Rattle.pv_cert.specs.CertificateText.{IsTextOf};
 ghost use Rattle.pv_report.specs.Reports.{status_of};
 ghost use Rattle.pv_command_verdict.specs.Handed.{Counts, HoldsBytes, IsUnread, SubjectData, ReadsFirst, IsFirstSubject};
 ghost use Rattle.pv_command_verdict.specs.Made.{IsWorkedOn};
 ghost use Rattle.pv_command_recheck.specs.Rechecks.{SaysRecheck, recheck_status, recheck_unread};
+ghost use Rattle.pv_command_recheck.specs.Made.{IsOfText};
 
 use crate::certificate::certificate_in;
 use crate::judged::judged;
@@ -14,7 +14,7 @@ use crate::report::{evidence_by, reported_of};
 use crate::stop::RecheckStop;
 use pv_cert::Certificate;
 use pv_claims::Claim;
-use pv_command_verdict::laws::right_certificates_say_what_is_so;
+use pv_command_verdict::laws::{right_certificates_say_what_is_so, scans_are_done};
 use pv_command_verdict::{FirstSubject, Status, first_subject_in};
 use pv_edge::Files;
 use pv_report::status;
@@ -44,13 +44,14 @@ fn rechecked_of(
     certificate: Certificate,
 ) -> Result<Rechecked, RecheckStop>
     requires worked_on { IsWorkedOn first.now }
-    requires form { HasForm (trace_form certificate.claim) certificate.trace }
+    requires read { IsOfText certificate }
     ensures says { (told : Option FileMap) (case_file file : List ℕ) (s : SubjectData) → ReadsFirst told case_file s
         → IsFirstSubject first.now s → HoldsBytes told file (λ bytes. IsTextOf bytes certificate)
         → SaysRecheck told case_file file result }
     ensures unread { recheck_status result ≢ 6 }
 {
     right_certificates_say_what_is_so();
+    scans_are_done();
     let answer = judged(alloc, first, &certificate);
     let evidence = evidence_by(certificate, answer)?;
     let rechecked = reported_of(alloc, &first.subject, evidence)?;

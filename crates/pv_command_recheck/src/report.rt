@@ -3,6 +3,7 @@ ghost use Rattle.std.specs.Prelude.{◌≡◌, IfOk, IfErr, Err};
 ghost use Rattle.std.specs.Result.{IsOkAnd};
 ghost use Rattle.pv_command_verdict.specs.Handed.{SubjectData, IsSubject};
 ghost use Rattle.pv_command_verdict.specs.Verdicts.{verdict_text};
+ghost use Rattle.pv_command_verdict.specs.Correct.{IsByPattern};
 
 use crate::recheck::Rechecked;
 use crate::stop::CertificateStop;
@@ -32,12 +33,13 @@ pub(crate) fn evidence_by(
     }
 }
 
-/// What is reported of evidence on what is worked on.
+/// What is reported of evidence, of which an ending that is told is the pattern's, on what is worked on.
 pub(crate) fn reported_of(
     alloc: Global,
     subject: &Subject,
     evidence: Evidence,
 ) -> Result<Rechecked, AllocError>
+    requires { IsByPattern evidence.ending evidence.certificate.claim }
     ensures claim { IfOk result (λ r. r.claim ≡ evidence.certificate.claim) }
     ensures report { (s : SubjectData) → IsSubject subject.now s
         → IfOk result (λ r. r.report.items ≡ verdict_text s evidence.certificate evidence.ending) }

@@ -1,18 +1,22 @@
--- The report of a verdict on what a command works on, by what is made of it.
-use Rattle.std.proofs.Common.{◌≡◌, ℕ, List, map, Option, Result, Ok, Err, sym, ◌∙◌, ap}
-use Rattle.std.specs.Prelude.{IfOk, string_bytes}
+-- The report of a verdict on what a command works on, by what is made of it; and that a verdict of the form has no place.
+use Rattle.std.proofs.Common.{◌≡◌, ℕ, List, map, Option, Result, Ok, Err, sym, ◌∙◌, ap, subst}
+use Rattle.std.specs.Prelude.{IfSome, IfOk, string_bytes}
 use Rattle.std.proofs.lemmas.Simd.{map-map}
 use Rattle.pv_mean.specs.declared.cell.Cell.{Cell}
 use Rattle.pv_case.specs.declared.case.PatternKind.{PatternKind}
 use Rattle.pv_case.specs.declared.case.Limits.{Limits}
+use Rattle.pv_claims.specs.declared.claim.Claim.{Claim}
+use Rattle.pv_claims.specs.declared.claim.Claim.TheVariants.{Satisfied, Unreachable, Violated, Trapped, Reached, Depth, Loop, Lemmas, Region}
 use Rattle.pv_claims.specs.declared.trace.Ending.{Ending}
 use Rattle.pv_cert.specs.declared.certificate.Certificate.{Certificate}
-use Rattle.pv_evidence.specs.Reported.{reported}
+use Rattle.pv_evidence.specs.Reported.{shown_ending, reported}
 use Rattle.pv_report.specs.declared.verdict.Verdict.{Verdict}
 use Rattle.pv_report.specs.Places.{Lines}
 use Rattle.pv_report.specs.Reports.{report_text}
+use Rattle.pv_report.specs.Correct.{EndsIn}
 use Rattle.pv_bool_load.specs.Handed.{SourceText, Subject, FileText, text_tree, texts_of, SubjectData, source_in, IsSubject}
 use Rattle.pv_command_verdict.specs.Verdicts.{text_lines, verdict_text}
+use Rattle.pv_command_verdict.specs.Correct.{IsByPattern}
 use Rattle.pv_command_verdict.proofs.Places.{lines_by}
 
 -- a text that is another one
@@ -36,3 +40,19 @@ report_is s subject c told cells files v is table listed said =
     ∙ (ap (λ (fs : List Lines). report_text given.name given.kind given.limits (source_in s).cells fs v)
     (listed ∙ files_are subject.sources.items (texts_of s.given) is.texts)
     ∙ ap (λ (w : Verdict). report_text given.name given.kind given.limits (source_in s).cells (map text_lines (texts_of s.given)) w) said))))
+
+-- what is reported of a trace that ends by no trap and no bound has no place
+pub no_place : (files : List Lines) (v : Verdict) (c : Certificate) (told : Option Ending) → v ≡ reported c told → IsByPattern told c.claim
+    → IfSome v.ending (EndsIn files)
+no_place files v c told is by = subst (λ (w : Verdict). IfSome w.ending (EndsIn files)) (sym is) (lead c.claim by)
+  where
+    lead : (claim : Claim) → IsByPattern told claim → IfSome (shown_ending claim told) (EndsIn files)
+    lead (Satisfied k) by = tt
+    lead (Unreachable k) by = tt
+    lead (Violated n) by = tt
+    lead (Trapped n) by = absurd by
+    lead (Reached n) by = tt
+    lead (Depth k) by = subst (λ (o : Option Ending). IfSome o (EndsIn files)) (sym by) tt
+    lead (Loop n) by = absurd by
+    lead (Lemmas b) by = tt
+    lead (Region x) by = tt

@@ -8,7 +8,7 @@ use Rattle.pv_valid.specs.declared.fault.Verdict.{Verdict as Answer}
 use Rattle.pv_evidence.specs.Reported.{reported}
 use Rattle.pv_report.specs.Places.{Lines, line_starts}
 use Rattle.pv_report.specs.Reports.{report_text}
-use Rattle.pv_bool_load.specs.Handed.{FileText, texts_of, SubjectData, source_in}
+use Rattle.pv_bool_load.specs.Handed.{SourceText, FileText, text_tree, texts_of, SubjectData, source_in}
 use Rattle.pv_command_verdict.specs.Cases.{case_in}
 use Rattle.pv_command_verdict.specs.Sayings.{SaysOfSource}
 
@@ -17,6 +17,10 @@ use Rattle.pv_command_verdict.specs.Sayings.{SaysOfSource}
 -- a source by where its lines begin
 abbrev pub text_lines : FileText → Lines
 text_lines text = record { file = text.file; starts = line_starts text.bytes }
+
+-- the sources of what a command works on so
+abbrev pub source_lines : List SourceText → List Lines
+source_lines sources = map (λ t. text_lines (text_tree t)) sources
 
 -- the report of a certificate whose trace ends so
 abbrev pub verdict_text : SubjectData → Certificate → Option Ending → List ℕ

@@ -8,6 +8,7 @@ ghost use Rattle.pv_valid.specs.Validity.{ending_in, IsRight};
 ghost use Rattle.pv_bool_load.specs.Handed.{SubjectData, source_in};
 ghost use Rattle.pv_bool_load.specs.Forms.{ReadsFirst};
 ghost use Rattle.pv_command_verdict.specs.Cases.{case_in};
+ghost use Rattle.pv_command_verdict.specs.Sayings.{SaysOfSource};
 ghost use Rattle.pv_command_verdict.specs.Verdicts.{IsVerdict, IsValidFor};
 ghost use Rattle.pv_command_verdict.specs.Correct.{ScansAreDone, IsByPattern, CountsEdges};
 
@@ -31,12 +32,13 @@ pub fn verdicts_have_valid_certificates()
         → IsValidFor s bytes (record { claim = c.claim; ending = told }) }
 {}
 
-/// Nothing of the form traps or goes over a loop's bound: each scan of each run is done. So no verdict is that a scan does so, and a scan that
+/// Nothing of the form traps or goes over a loop's bound: each scan of each run is done. So nothing that is said of the source is that a scan does so, and a scan that
 /// fails beyond a depth breaks the requirement or reaches the goal.
 pub fn scans_are_done()
     ensures scans { (told : Option FileMap) (file : List ℕ) (s : SubjectData) → ReadsFirst told file s → ScansAreDone (source_in s) }
-    ensures verdicts { (told : Option FileMap) (file : List ℕ) (s : SubjectData) (bytes : List ℕ) (c : Certificate) (ending : Option Ending)
-        → ReadsFirst told file s → IsVerdict s bytes c ending → IsByPattern ending c.claim }
+    ensures verdicts { (told : Option FileMap) (file : List ℕ) (s : SubjectData) (c : Certificate) (ending : Option Ending)
+        → ReadsFirst told file s → SaysOfSource (source_in s) s.pattern s.given.case.limits c ending c.claim
+        → IsByPattern ending c.claim }
 {
     subjects_are_their_programs();
 }

@@ -1,11 +1,12 @@
 //! The report of a verdict on what a command works on.
-ghost use Rattle.std.specs.Prelude.{◌≡◌, IfOk, map, Option};
+ghost use Rattle.std.specs.Prelude.{◌≡◌, IfSome, IfOk, map, Option};
 ghost use Rattle.pv_claims.specs.declared.trace.Ending.{Ending};
 ghost use Rattle.pv_cert.specs.declared.certificate.Certificate.{Certificate};
 ghost use Rattle.pv_evidence.specs.Reported.{reported};
 ghost use Rattle.pv_report.specs.Places.{file_lines};
+ghost use Rattle.pv_report.specs.Correct.{EndsIn};
 ghost use Rattle.pv_bool_load.specs.Handed.{SubjectData, text_tree, IsSubject};
-ghost use Rattle.pv_command_verdict.specs.Verdicts.{text_lines, verdict_text};
+ghost use Rattle.pv_command_verdict.specs.Verdicts.{text_lines, source_lines, verdict_text};
 
 use pv_bool_load::{SourceText, Subject};
 use pv_report::{FileLines, Places, Verdict, text};
@@ -20,7 +21,7 @@ fn lines_of(alloc: Global, source: &SourceText) -> Result<FileLines, AllocError>
 
 /// The sources by where their lines begin.
 fn places_of(alloc: Global, sources: &[SourceText]) -> Result<Places, AllocError>
-    ensures { IfOk result (λ places. map file_lines places.files.items ≡ map (λ t. text_lines (text_tree t)) sources.now) }
+    ensures { IfOk result (λ places. map file_lines places.files.items ≡ source_lines sources.now) }
 {
     let mut files = Vec::new(alloc);
     for source in sources {
@@ -30,9 +31,9 @@ fn places_of(alloc: Global, sources: &[SourceText]) -> Result<Places, AllocError
     Ok(Places { files })
 }
 
-/// The report of a verdict on what a command works on. Want of memory is also answered where a place of the verdict lies in none of its
-/// sources, or one of them has 4 GB or more.
+/// The report of a verdict on what a command works on, the place of whose ending, if it has one, lies in one of its sources.
 pub fn report_of(alloc: Global, subject: &Subject, verdict: &Verdict) -> Result<Vec<u8>, AllocError>
+    requires { IfSome verdict.now.ending (EndsIn (source_lines subject.now.sources.items)) }
     ensures { (s : SubjectData) (c : Certificate) (told : Option Ending) → IsSubject subject.now s
         → verdict.now ≡ reported c told → IfOk result (λ text. text.items ≡ verdict_text s c told) }
 {

@@ -6,7 +6,7 @@
 
 ghost use Rattle.pv_bool.specs.Programs.{program_tree};
 ghost use Rattle.pv_bool_case.specs.Forms.{IsFirstCase, IsFirstAlone};
-ghost use Rattle.pv_bool_case.specs.Programs.{IsMadeOf};
+ghost use Rattle.pv_bool_case.specs.Programs.{AreAPattern, IsMadeOf};
 ghost use Rattle.pv_bool_form.specs.FirstForm.{IsFirstBlock, IsFirstPattern, IsFirstOperand};
 ghost use Rattle.pv_bool_form.specs.Programs.{first_source, pattern_program};
 ghost use Rattle.pv_bool_form.specs.Requirements.{pattern_tree};
@@ -23,7 +23,7 @@ ghost use Rattle.pv_pattern_read.specs.Answers.{AnswersText};
 ghost use Rattle.pv_pattern_read.specs.Kinds.{IsReadPattern};
 ghost use Rattle.pv_tree.specs.Tree.{BlockTree, OperandTree};
 ghost use Rattle.pv_tree.specs.View.{block_tree};
-ghost use Rattle.std.specs.Prelude.{All, IfErr, IfNone, IfOk, IfSome, IsSome, IsTrue, List, MatchResult, Some, [], length, map, slice_get, string_bytes, ℕ, ◌∷◌, ◌↔◌, ◌≡◌, ◌≤◌};
+ghost use Rattle.std.specs.Prelude.{All, IfErr, IfNone, IfOk, IfSome, IsSome, IsTrue, List, MatchResult, Some, [], length, map, slice_get, string_bytes, ℕ, ◌∷◌, ◌↔◌, ◌≡◌, ◌<◌, ◌≤◌};
 
 use pv_bool::Program;
 use pv_bool_form::Requirement;
@@ -85,6 +85,7 @@ pub fn is_first_project(alloc: Global, project: &Project) -> Result<bool, AllocE
 /// [`pv_bool_case::said_at`].
 pub fn said_at(alloc: Global, project: &Project, entry: u32, text: &str) -> Result<Expr, TextFault>
     requires short { length text.now ≤ MAX_SOURCE }
+    requires there { entry < length project.now.blocks.list.items }
     ensures { (block : BlockTree) → slice_get (map block_tree project.now.blocks.list.items) entry ≡ Some block
         → AnswersText (record { project = project_tree project.now; block = block }) text.now result }
 {
@@ -101,6 +102,7 @@ pub fn program_by(
     texts: &[String],
 ) -> Result<Option<Program>, AllocError>
     requires short { All (λ t. length (string_bytes t) ≤ MAX_SOURCE) texts.now }
+    requires read { AreAPattern (project_tree project.now) entry kind (map string_bytes texts.now) }
     ensures { (entered : BlockTree) (p : Pattern)
         → slice_get (map block_tree project.now.blocks.list.items) entry ≡ Some entered
         → IsReadPattern (record { project = project_tree project.now; block = entered }) kind

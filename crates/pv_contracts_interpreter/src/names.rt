@@ -8,22 +8,24 @@ ghost use Rattle.pv_mean.specs.Sized.{sized_project};
 ghost use Rattle.pv_mean.specs.Sources.{Source};
 ghost use Rattle.pv_mean.specs.Values.{field_begins};
 ghost use Rattle.pv_mean.specs.declared.count.TheConstants.{BEYOND};
-ghost use Rattle.pv_names.specs.Tables.{project_of};
+ghost use Rattle.pv_names.specs.Entries.{block_of};
+ghost use Rattle.pv_names.specs.Tables.{blocks_of, project_of};
 ghost use Rattle.pv_resolve.specs.Begins.{HasSpot, begin_at, begins_behind};
 ghost use Rattle.pv_resolve.specs.Contexts.{IsContext, block_in};
 ghost use Rattle.pv_resolve.specs.Firsts.{AreFirsts};
 ghost use Rattle.pv_resolve.specs.Rooms.{BeginsRoomy, FitsExpr, FitsOperand, FitsRoot, HasRoom};
 ghost use Rattle.pv_resolve.specs.declared.fault.ResolveFault.TheVariants.{NoMemory, TooLarge};
 ghost use Rattle.pv_tree.specs.Rules.{KeepsRules};
+ghost use Rattle.pv_tree.specs.Scopes.{first_block};
 ghost use Rattle.pv_tree.specs.View.{block_tree, expr_tree, operand_tree};
 ghost use Rattle.pv_types.specs.Leaves.{start_value};
 ghost use Rattle.std.specs.Int.{w64};
-ghost use Rattle.std.specs.Prelude.{Err, FitsSigned, IfErr, IfOk, IsOk, Option, ℕ, ℤ, ◌+◌, ◌↔◌, ◌≡◌, ◌≤◌};
+ghost use Rattle.std.specs.Prelude.{Err, FitsSigned, IfErr, IfOk, IfSome, IsOk, Option, Some, option_map, slice_get, ℕ, ℤ, ◌+◌, ◌↔◌, ◌≡◌, ◌≤◌};
 
 use pv_bytes::AreaBytes;
 use pv_eval::{Expression, Target};
 use pv_mean::Sizes;
-use pv_names::Scope;
+use pv_names::{Entry, Scope};
 use pv_resolve::{Begin, Context, FirstCells, ResolveFault};
 use pv_tree::{Block, Expr, Operand, Root};
 use pv_types::{Name, Vars};
@@ -119,19 +121,39 @@ pub fn context_of<'p>(
 }
 
 /// [`pv_resolve::with_firsts`].
-pub fn with_firsts<'p>(context: Context<'p>, firsts: &'p FirstCells<'p>) -> Context<'p>
+pub fn with_firsts<'p>(context: Context<'p>, firsts: &'p FirstCells) -> Context<'p>
     ensures is { (source : Source) → IsContext context.entry source
-        → AreFirsts firsts.now source.project (block_in context.entry) → IsContext result source }
+        → AreFirsts firsts.now source.project → IsContext result source }
     ensures scope { result.scope ≡ context.entry.scope }
     ensures block { block_in result ≡ block_in context.entry }
 {
     pv_resolve::with_firsts(context, firsts)
 }
 
+/// [`pv_resolve::context_at`].
+pub fn context_at<'p>(context: Context<'p>, number: usize) -> Option<Context<'p>>
+    ensures is { (source : Source) → IsContext context.entry source
+        → IfSome result (λ c. IsContext c source) }
+    ensures block { option_map block_in result
+        ≡ slice_get (blocks_of context.entry.scope.tables.now) number }
+{
+    pv_resolve::context_at(context, number)
+}
+
+/// [`pv_resolve::context_in`].
+pub fn context_in<'p>(context: Context<'p>, entry: &'p Entry<'p>) -> Context<'p>
+    ensures is { (source : Source) → IsContext context.entry source
+        → first_block source.project.blocks (block_of entry.now).name.key
+        ≡ Some (block_of entry.now) → IsContext result source }
+    ensures block { block_in result ≡ block_of entry.now }
+{
+    pv_resolve::context_in(context, entry)
+}
+
 /// [`FirstCells::of`].
-pub fn firsts_of<'p>(alloc: Global, context: &Context<'p>) -> Result<FirstCells<'p>, AllocError>
+pub fn firsts_of(alloc: Global, context: &Context) -> Result<FirstCells, AllocError>
     ensures { (source : Source) → IsContext context.now source
-        → IfOk result (λ f. AreFirsts f source.project (block_in context.now)) }
+        → IfOk result (λ f. AreFirsts f source.project) }
 {
     FirstCells::of(alloc, context)
 }

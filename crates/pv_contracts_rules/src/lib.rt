@@ -10,13 +10,13 @@ ghost use Rattle.pv_names.specs.Sorts.{want_tree};
 ghost use Rattle.pv_names.specs.Tables.{project_of};
 ghost use Rattle.pv_rules.specs.NoInstructions.{ArePlain};
 ghost use Rattle.pv_rules_call.specs.Links.{AreLinks};
+ghost use Rattle.pv_rules_code.specs.AreInCode.{AreInCode};
 ghost use Rattle.pv_rules_decl.specs.Answers.{AnswersProject};
 ghost use Rattle.pv_rules_decl.specs.Patterns.{AnswersPattern};
 ghost use Rattle.pv_rules_expr.specs.Nearest.{IsNearest, Nears};
 ghost use Rattle.pv_tree.specs.Parts.{parts_of};
 ghost use Rattle.pv_tree.specs.Projects.{project_tree};
 ghost use Rattle.pv_tree.specs.Rules.Chains.{IsCycle};
-ghost use Rattle.pv_tree.specs.Rules.Conditions.{IsWrongCondition};
 ghost use Rattle.pv_tree.specs.Rules.DoubledNames.{IsDoubledName};
 ghost use Rattle.pv_tree.specs.Rules.Jumps.{IsWrongLabel};
 ghost use Rattle.pv_tree.specs.Rules.Misfits.{Misapplies};
@@ -28,6 +28,7 @@ ghost use Rattle.std.specs.Prelude.{Any, IfOk, IsTrue, List, None, OnOk, Some, b
 use pv_names::{Firsts, Scope, Tables, Want};
 use pv_place::Place;
 use pv_rules_call::Links;
+use pv_rules_code::CodeNear;
 use pv_rules_decl::RuleFault;
 use pv_tree::{Block, Blocks, Expr, Operand, Project};
 use pv_types::Name;
@@ -70,14 +71,11 @@ pub fn misapplied_in(
     pv_rules_expr::misapplied_in(scope, alloc, want, e)
 }
 
-/// [`pv_rules_code::wrong_condition`].
-pub fn wrong_condition<'p>(
-    alloc: Global,
-    tables: &'p Tables<'p>,
-) -> Result<Option<Place>, AllocError>
-    ensures { IfOk result (IsNearest (IsWrongCondition (project_of tables.now))) }
+/// [`pv_rules_code::nearest_in_code`].
+pub fn nearest_in_code<'p>(alloc: Global, tables: &'p Tables<'p>) -> Result<CodeNear, AllocError>
+    ensures { IfOk result (λ n. AreInCode (project_of tables.now) n) }
 {
-    pv_rules_code::wrong_condition(alloc, tables)
+    pv_rules_code::nearest_in_code(alloc, tables)
 }
 
 /// [`pv_rules_instr::wrong_label`].

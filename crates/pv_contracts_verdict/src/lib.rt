@@ -1,17 +1,18 @@
 //! Contract tests of pv_command_verdict: its calls once more, with the clauses of the library.
 #![tactic(auto)]
 
-ghost use Rattle.std.specs.Prelude.{◌≡◌, ℕ, List, Option, Err, IfOk};
+ghost use Rattle.std.specs.Prelude.{◌≡◌, ℕ, List, Option, Err, IfSome, IfOk};
 ghost use Rattle.pv_edge.specs.Files.{FileMap};
 ghost use Rattle.pv_claims.specs.declared.trace.Ending.{Ending};
 ghost use Rattle.pv_claims.specs.TracePart.{trace_form, HasForm};
 ghost use Rattle.pv_cert.specs.declared.certificate.Certificate.{Certificate as A_certificate};
 ghost use Rattle.pv_judge.specs.Answers.{Judges};
+ghost use Rattle.pv_report.specs.Correct.{EndsIn};
 ghost use Rattle.pv_evidence.specs.Reported.{reported};
 ghost use Rattle.pv_command_verdict.specs.Handed.{SubjectData, IsSubject, ReadsFirst, IsFirstSubject};
 ghost use Rattle.pv_command_verdict.specs.Sizes.{HasTooManyGates};
 ghost use Rattle.pv_command_verdict.specs.Cases.{case_in};
-ghost use Rattle.pv_command_verdict.specs.Verdicts.{verdict_text};
+ghost use Rattle.pv_command_verdict.specs.Verdicts.{source_lines, verdict_text};
 ghost use Rattle.pv_command_verdict.specs.Made.{IsWorkedOn, IsEvidenceOf};
 
 use pv_cert::Certificate;
@@ -53,6 +54,7 @@ pub fn report_of(
     subject: &Subject,
     verdict: &Reported,
 ) -> Result<Vec<u8>, AllocError>
+    requires { IfSome verdict.now.ending (EndsIn (source_lines subject.now.sources.items)) }
     ensures { (s : SubjectData) (c : A_certificate) (told : Option Ending) → IsSubject subject.now s
         → verdict.now ≡ reported c told → IfOk result (λ text. text.items ≡ verdict_text s c told) }
 {

@@ -7,6 +7,10 @@ use Rattle.pv_mean.specs.declared.cell.Cell.{Cell}
 abbrev pub has_path : List ℕ → Cell → Bool
 has_path path c = bytes_eq (str_to_ascii_lowercase c.path) (str_to_ascii_lowercase path)
 
+-- how many numbers have 32 bits
+abbrev pub most_numbers : ℕ
+most_numbers = 4294967296
+
 -- the number of the first cell that has it, where the first cell's is n
 abbrev pub number_from : ℕ → List Cell → List ℕ → Option ℕ
 number_from n [] path = None

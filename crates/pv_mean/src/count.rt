@@ -35,7 +35,7 @@ pub fn count_between(low: &i128, high: &i128) -> u32
     let Some(span) = high.checked_sub(*low) else {
         return BEYOND;
     };
-    if span >= 20_000 {
+    if span >= MAX_LEAVES as i128 {
         return BEYOND;
     }
     span as u32 + 1
@@ -46,7 +46,7 @@ pub fn count_of(of: &Vars) -> u32
     ensures { result ≡ capped (length of.now.names.items) }
 {
     let count = of.names.len();
-    if count > 20_000 {
+    if count > MAX_LEAVES {
         return BEYOND;
     }
     count as u32

@@ -13,7 +13,7 @@ ghost use Rattle.pv_mean.specs.LaidOut.{laid_tree, capped_laid, laid_counted, te
 use crate::count::{BEYOND, count_of, product, sum};
 use crate::sizes::Sizes;
 use pv_tree::{Block, BlockKind};
-use pv_types::{DeclType, Name, Section, Vars, is_named};
+use pv_types::{DeclType, MAX_LEAVES, Name, Section, Vars, is_named};
 
 /// A type, and the number of the first of its cells.
 #[derive(Clone, Copy)]
@@ -71,7 +71,7 @@ fn distance(from: &i128, to: &i128) -> u32
     ensures { result ≡ capped (unsigned_abs (to.now -ℤ from.now)) }
 {
     let span = to.abs_diff(*from);
-    if span > 20_000 {
+    if span > MAX_LEAVES as u128 {
         return BEYOND;
     }
     span as u32

@@ -1,13 +1,13 @@
 //! Cells by their paths.
 ghost use Rattle.std.specs.Prelude.{◌≡◌, ◌≤◌, length};
-ghost use Rattle.pv_mean.specs.Paths.{has_path, number_of_path};
+ghost use Rattle.pv_mean.specs.Paths.{has_path, most_numbers, number_of_path};
 
 use crate::cell::Cell;
 
 /// The number of the first cell that has this path, without regard to the case of ASCII letters.
 /// A table has at most 20,000 cells; of a list with more than 2^32 a number past 32 bits is none.
 pub fn find(cells: &[Cell], path: &[u8]) -> Option<u32>
-    ensures { length cells.now ≤ 4294967296 → result ≡ number_of_path cells.now path.now }
+    ensures { length cells.now ≤ most_numbers → result ≡ number_of_path cells.now path.now }
 {
     for (n, cell) in cells.iter().enumerate() {
         if is_at(cell, path) {

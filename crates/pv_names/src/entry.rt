@@ -21,11 +21,12 @@ pub struct Entry<'p> {
 }
 
 impl<'p> Entry<'p> {
-    ghost use Rattle.std.specs.Prelude.{IfOk, option_map, slice_get};
-    ghost use Rattle.pv_types.specs.View.{var_tree};
+    ghost use Rattle.std.specs.Prelude.{IfOk, option_map, slice_get, bytes_eq};
+    ghost use Rattle.pv_types.specs.View.{var_tree, name_of};
     ghost use Rattle.pv_tree.specs.View.{block_tree};
     ghost use Rattle.pv_tree.specs.Scopes.{first_var};
     ghost use Rattle.pv_names.specs.Entries.{block_of};
+    ghost use Rattle.pv_names.specs.Firsts.{first_number};
 
     /// The block with its table.
     pub fn of(alloc: Global, block: &'p Block) -> Result<Entry<'p>, AllocError>
@@ -52,6 +53,14 @@ impl<'p> Entry<'p> {
         ensures { map var_tree result.now ≡ (block_of self.now).vars }
     {
         self.vars.as_slice()
+    }
+
+    /// The number of the first variable of this name that the block declares.
+    pub fn number_of(&self, name: &Name) -> Option<usize>
+        ensures { result ≡ first_number (bytes_eq name.now.key)
+            (map (λ v. (name_of v).key) (block_of self.now).vars) }
+    {
+        self.numbers.find(name)
     }
 
     /// The variable of this number.

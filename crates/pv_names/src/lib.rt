@@ -27,9 +27,12 @@ pub use literal::{Written, is_literal, is_outside, literal_of, type_of_literal};
 pub use operator::{common_type, is_bool, result_of_binary, wanted_beside};
 pub use param::{Param, is_fc, named_param, only_var, param_for, section_of_param, type_of_param};
 pub use scope::{Scope, is_stl, own_value, quoted_value};
-pub use sort::{Number, Sort, Want, holds, is_whole_number, one_of, own_type, taken, widens};
+pub use sort::{
+    Number, Sort, Want, holds, is_whole_number, one_of, own_type, sort_of_written, taken, widens,
+};
 pub use tables::Tables;
 pub use thing::{Held, Thing, dated, is_address, is_const, is_date, level_of, type_of_bits};
 pub use typing::{
-    first_place, is_index_type, is_void, last_behind, lies_in, root_place, value_of_unary,
+    binary_sort, first_place, is_index, is_index_type, is_void, last_behind, lies_in, root_place,
+    unary_sort, value_of_unary,
 };

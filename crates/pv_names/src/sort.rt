@@ -147,7 +147,7 @@ pub fn one_of(ty: Option<Ty>) -> Sort
 }
 
 /// A literal as it is written.
-pub(crate) fn sort_of_written(ty: Option<Ty>, n: Number) -> Sort
+pub fn sort_of_written(ty: Option<Ty>, n: Number) -> Sort
     ensures { sort_tree result ≡ types.sort_of_written ty (number_value n) }
 {
     match ty {

@@ -93,7 +93,7 @@ pub fn is_index_type(sort: Sort) -> bool
 }
 
 /// Whether an index breaks no rule behind this thing.
-fn is_index(thing: Thing, sort: Sort) -> bool
+pub fn is_index(thing: Thing, sort: Sort) -> bool
     ensures { result ≡ types.is_index (thing_tree thing.entry) (sort_tree sort) }
 {
     both(is_index_type(sort), lies_in(thing, sort))
@@ -154,7 +154,7 @@ fn sign_typed(op: UnaryOp, ty: Ty, n: Number, value: Sort) -> Sort
 }
 
 /// What an operator before its operand makes of it.
-fn unary_sort(op: UnaryOp, arg: Sort) -> Sort
+pub fn unary_sort(op: UnaryOp, arg: Sort) -> Sort
     ensures { sort_tree result ≡ types.sort_where (types.signed op (written_of (sort_tree arg)))
         (sorts.one_of (option_and_then (sorts.result_of_unary op)
         (sorts.common_type (sorts.taken nothing (sort_tree arg) ∷ [])))) }
@@ -168,7 +168,7 @@ fn unary_sort(op: UnaryOp, arg: Sort) -> Sort
 }
 
 /// What an operator between its operands makes of them.
-fn binary_sort(op: BinaryOp, left: Sort, right: Sort) -> Sort
+pub fn binary_sort(op: BinaryOp, left: Sort, right: Sort) -> Sort
     ensures { sort_tree result ≡ sorts.one_of (option_and_then (sorts.result_of_binary op)
         (sorts.common_type (sorts.beside (sort_tree left ∷ sort_tree right ∷ [])))) }
 {

@@ -35,7 +35,7 @@ pub fn parse_source(
         });
     }
     let (inner, _end) = tokens.split_at(tokens.len() - 1);
-    let fault = match read_source(alloc, its, language, actions, text, inner)? {
+    let fault = match read_source(alloc, language, actions, text, inner)? {
         Ok(blocks) => return Ok(blocks),
         Err(fault) => fault,
     };

@@ -15,7 +15,8 @@ use std::alloc::{AllocError, Global};
 
 /// The one expression that the tokens of a text spell, without the end behind them; else where no expression reads, and else
 /// where it nests too deep. How deep it nests is found before the tree is built, so that no tree is deeper than 64 levels. What an
-/// alternative takes lies on the stack at each step of a derivation, so the error is want of memory alone.
+/// alternative takes lies on the stack at each step of a derivation, so the error is want of memory, or an address with digits of
+/// 2^64 or more, of which `pv_lex` makes no token.
 pub fn read_expression(
     alloc: Global,
     language: &Language,
@@ -34,6 +35,7 @@ pub fn read_expression(
         Ok(trace) => trace,
         Err(at) => return Ok(Err(ReadFault::Syntax(at))),
     };
+    drop(kinds);
     let deep = match find_too_deep(alloc, language, actions, &trace, text, tokens) {
         Ok(deep) => deep,
         Err(Stop::NoMemory) => return Err(AllocError),

@@ -1,5 +1,6 @@
 //! Sources, read from tokens.
 ghost use Rattle.std.specs.Prelude.{false, IsTrue, IfOk};
+ghost use Rattle.pv_lex.specs.declared.token.Language.{Language as Of};
 ghost use Rattle.pv_tree.specs.Lexemes.{lexemes_of};
 ghost use Rattle.pv_ll.specs.Check.{is_ll1};
 ghost use Rattle.pv_parse.specs.InOrder.{LieInOrder};
@@ -8,7 +9,7 @@ ghost use Rattle.pv_parse_source.specs.SourceAnswers.{ReadsSources, AnswersSourc
 
 use crate::builder::build;
 use crate::pops::pop_blocks;
-use pv_lex::{Language as Of, Token};
+use pv_lex::Token;
 use pv_ll::{Language, recognize};
 use pv_parse::{Action, ReadFault, Stop, find_too_deep, kinds};
 use pv_tree::Blocks;
@@ -16,10 +17,10 @@ use std::alloc::{AllocError, Global};
 
 /// The blocks that the tokens of a source spell, without the end behind them; else where no list of blocks reads, and else where
 /// one nests too deep. How deep they nest is found before a block is built, so that no tree is deeper than 64 levels. What an
-/// alternative takes lies on the stack at each step of a derivation, so the error is want of memory alone.
+/// alternative takes lies on the stack at each step of a derivation, so the error is want of memory, or an address with digits of
+/// 2^64 or more, of which `pv_lex` makes no token.
 pub fn read_source(
     alloc: Global,
-    its: Of,
     language: &Language,
     actions: &[Action],
     text: &[u8],
@@ -29,14 +30,16 @@ pub fn read_source(
     requires tokens { HaveKinds (lexemes_of text.now tokens.now)
         (kinds_of false (lexemes_of text.now tokens.now)) }
     requires order { LieInOrder 0 (lexemes_of text.now tokens.now) }
-    requires reads { ReadsSources its language.now actions.now }
-    ensures { IfOk result (λ answer. AnswersSource its (lexemes_of text.now tokens.now) answer) }
+    requires reads { (its : Of) × ReadsSources its language.now actions.now }
+    ensures { IfOk result (λ answer. (its : Of) → ReadsSources its language.now actions.now
+        → AnswersSource its (lexemes_of text.now tokens.now) answer) }
 {
     let kinds = kinds(alloc, text, tokens)?;
     let trace = match recognize(alloc, language, &kinds)? {
         Ok(trace) => trace,
         Err(at) => return Ok(Err(ReadFault::Syntax(at))),
     };
+    drop(kinds);
     let deep = match find_too_deep(alloc, language, actions, &trace, text, tokens) {
         Ok(deep) => deep,
         Err(Stop::NoMemory) => return Err(AllocError),

@@ -162,6 +162,15 @@ pub fn pop_choices<'a>(stack: &mut Vec<Item<'a>>) -> Result<Vec<(Choice, Option<
     Ok(found)
 }
 
+/// Takes the values of a label to which no more come, with no room beyond them.
+pub fn pop_label<'a>(stack: &mut Vec<Item<'a>>) -> Result<Vec<(Choice, Option<Choice>)>, Stop>
+    ensures { Pops choice_list result (stack_of stack.new) (choices_on (stack_of stack.old)) }
+{
+    let mut found = pop_choices(stack)?;
+    found.shrink_to_fit();
+    Ok(found)
+}
+
 fn branches_in(item: CodeItem) -> Result<Vec<(Vec<(Choice, Option<Choice>)>, Vec<Stmt>)>, Stop>
     ensures { Finds branch_list result (branches_in (code_of item)) }
 {

@@ -9,8 +9,8 @@ ghost use Rattle.pv_parse.specs.Items.{stack_of, path_tree, code, Leaves, Pops};
 ghost use Rattle.pv_parse.specs.StmtDeeds.{single_of, drop_deed, empty_deed, single_deed, call_statement_deed, assigned, assign_deed, new_list_deed, add_deed, arm_on, first_arm_deed, next_arm_deed, else_deed, no_else_deed, if_deed, literal_choice_deed, word_choice_deed, upper_on, first_range_deed, first_choice_deed, added_choice, next_range_deed, next_choice_deed, new_branches_deed, opened, label_deed, closed_on, next_label_deed, branches_deed, case_deed, by_deed, no_by_deed, body_on, for_deed, while_deed, repeat_deed, stmt_deed};
 
 use crate::code_stack::{
-    pop_arms, pop_branches, pop_by, pop_choice, pop_choices, pop_else, pop_stmt, pop_stmts,
-    pop_value, pop_whole,
+    pop_arms, pop_branches, pop_by, pop_choice, pop_choices, pop_else, pop_label, pop_stmt,
+    pop_stmts, pop_value, pop_whole,
 };
 use crate::making::{case_of, if_of};
 use pv_parse::{
@@ -296,7 +296,7 @@ fn open_branch(
 fn label(alloc: Global, stack: &mut Vec<Item>) -> Result<(), Stop>
     ensures { Leaves result (stack_of stack.new) (label_deed (stack_of stack.old)) }
 {
-    let label = pop_choices(stack)?;
+    let label = pop_label(stack)?;
     let (label, branches) = with(label, pop_branches(stack))?;
     open_branch(alloc, label, branches, stack)
 }
@@ -316,7 +316,7 @@ fn pop_closed(stack: &mut Vec<Item>) -> Result<Vec<(Choices, Vec<Stmt>)>, Stop>
 fn next_label(alloc: Global, stack: &mut Vec<Item>) -> Result<(), Stop>
     ensures { Leaves result (stack_of stack.new) (next_label_deed (stack_of stack.old)) }
 {
-    let label = pop_choices(stack)?;
+    let label = pop_label(stack)?;
     let (label, branches) = with(label, pop_closed(stack))?;
     open_branch(alloc, label, branches, stack)
 }

@@ -1,9 +1,7 @@
 -- A `?` passes on want of memory alone where nothing else stopped.
-use Rattle.std.proofs.Common.{◌≡◌, ℕ, List, map, length, Option, Some, false, sym, ap, ◌∙◌, arith}
-use Rattle.std.specs.Prelude.{Result, Ok, Err, IfErr, IsErrAnd, slice_get, nat_lt}
-use Rattle.std.proofs.lemmas.Bool.{ltb-false}
-use Rattle.std.proofs.lemmas.List.{length-map}
-use Rattle.std.proofs.lemmas.Option.{slice_get_within}
+use Rattle.std.proofs.Common.{◌≡◌, ℕ, ◌<◌, List, length, Option, Some, None, sym, ap, ◌∙◌}
+use Rattle.std.specs.Prelude.{Result, Ok, Err, IfErr, IsErrAnd, OnOk, slice_get}
+use Rattle.std.proofs.lemmas.Option.{none-some, slice_get_within}
 use Rattle.pv_resolve.specs.declared.fault.ResolveFault.{ResolveFault}
 use Rattle.pv_resolve.specs.declared.fault.ResolveFault.TheVariants as found
 use Rattle.pv_program.specs.declared.fault.ProgramFault.{ProgramFault}
@@ -20,12 +18,11 @@ pub passed : {T : Type 0} (r : Result T ProgramFault) (stop : ProgramFault) → 
 passed (Ok x) stop is same = tt
 passed (Err e) stop is same = is ∙ same
 
--- where nothing was found at a number, nothing is there
-pub none_there : {X Y : Type 0} (f : X → Y) (xs : List X) (all : List Y) (n : ℕ) (y : Y) → map f xs ≡ all → slice_get all n ≡ Some y
-    → false ≡ nat_lt n (length xs) → ⊥
-none_there f xs all n y same at none =
-    let within = slice_get_within all n y at in
-    let long = ap length same in
-    let counted = length-map xs f in
-    let out = ltb-false n (length xs) (sym none) in
-    omega (arith, within, long, counted, out)
+-- where nothing is found at a number, nothing is there
+pub none_made : {Y : Type 0} (o : Option Y) (y : Y) → None ≡ o → o ≡ Some y → ⊥
+none_made o y none at = none-some y (none ∙ at)
+
+-- what is found at a number lies within the list
+pub inside_made : {T E Y : Type 0} (r : Result T E) (ys : List Y) (n : ℕ) (y : Y) → Some y ≡ slice_get ys n → OnOk r (n < length ys)
+inside_made (Ok x) ys n y is = slice_get_within ys n y (sym is)
+inside_made (Err e) ys n y is = tt

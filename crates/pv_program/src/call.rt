@@ -34,9 +34,9 @@ use crate::instance::instance_of;
 use crate::placed::call_placed;
 use crate::slot::slot_of;
 use crate::value::{add_target, add_value};
-use pv_names::{Callee, Entry, How, Param, Scope, param_for};
+use pv_names::{Callee, Entry, How, Param, param_for};
 use pv_place::Place;
-use pv_resolve::{Context, ResolveFault};
+use pv_resolve::{Context, ResolveFault, context_in};
 use pv_run::{Called, First, Inward, Outward, Program, Slot, Span};
 use pv_tree::{Arg, CallTree, Expr, Operand};
 use pv_types::{Name, Section, Var};
@@ -109,24 +109,6 @@ fn operand_of(e: &Expr) -> Option<&Operand>
         Expr::Binary { .. } => None,
         Expr::Std { .. } => None,
         Expr::Paren(..) => None,
-    }
-}
-
-/// The context of another block of the project.
-pub(crate) fn context_in<'p>(context: &Context<'p>, entry: &'p Entry<'p>) -> Context<'p>
-    ensures is { (source : Source) → IsContext context.now source → IsContext result source }
-    ensures block { block_in result ≡ block_of entry.now }
-{
-    Context {
-        scope: Scope {
-            tables: context.scope.tables,
-            entry,
-        },
-        sizes: context.sizes,
-        data_first: context.data_first,
-        bytes_first: context.bytes_first,
-        bytes: context.bytes,
-        firsts: None,
     }
 }
 
@@ -598,7 +580,7 @@ pub(crate) fn add_call(
 {
     match context.scope.callee_of(how, call) {
         Callee::Runs(entry) => {
-            let inner = context_in(context, entry);
+            let inner = context_in(*context, entry);
             add_running(alloc, context, &inner, how, call, program)
         }
         Callee::NotDeclared(_) => add_idle(program, call.place),

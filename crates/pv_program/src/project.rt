@@ -25,7 +25,7 @@ use pv_laws_room::laws::{bodies_fit, reached_blocks_have_room};
 use pv_mean::{Cell, Sizes};
 use pv_names::{Entry, Scope, Tables, entries};
 use pv_place::Role;
-use pv_resolve::context_of;
+use pv_resolve::{Context, FirstCells, context_of, with_firsts};
 use pv_run::{Code, Program};
 use pv_tree::Project;
 use pv_word::Ty;
@@ -107,6 +107,29 @@ fn with_blocks(program: Program, blocks: Vec<Option<Code>>) -> Program
     program
 }
 
+/// The program of the project of a context, entered at its block, which has this number.
+fn program_with(
+    alloc: Global,
+    context: &Context,
+    entry: u32,
+    cells: &[Cell],
+    bound: u32,
+) -> Result<Program, ProgramFault>
+    ensures bound { IfOk result (λ p. p.bound ≡ bound) }
+    ensures entry { IfOk result (λ p. p.entry ≡ entry) }
+    ensures is { (source : Source) → IsContext context.now source
+        → slice_get source.project.blocks entry ≡ Some source.entry
+        → cells.now ≡ source.cells → bound ≡ source.bound → IfOk result (IsProgram source) }
+    ensures room { (source : Source) → IsContext context.now source
+        → slice_get source.project.blocks entry ≡ Some source.entry → IsReached source
+        → IfErr result (λ e. e ≡ NoMemory) }
+{
+    let types = visible_types(alloc, cells)?;
+    let mut program = begun(alloc, types, bound, entry);
+    let blocks = reached(alloc, context, &mut program)?;
+    Ok(with_blocks(program, blocks))
+}
+
 /// The program of the project of a scope, entered at its block, which has this number.
 fn program_in<'p>(
     alloc: Global,
@@ -131,10 +154,9 @@ fn program_in<'p>(
         → IfErr result (λ e. e ≡ NoMemory) }
 {
     let context = context_of(scope, sizes, scope.entry.block(), bytes)?;
-    let types = visible_types(alloc, cells)?;
-    let mut program = begun(alloc, types, bound, entry);
-    let blocks = reached(alloc, &context, &mut program)?;
-    Ok(with_blocks(program, blocks))
+    let firsts = FirstCells::of(alloc, &context)?;
+    let context = with_firsts(context, &firsts);
+    program_with(alloc, &context, entry, cells, bound)
 }
 
 /// The program of a project whose tables these are.

@@ -16,10 +16,9 @@ ghost use Rattle.pv_program.specs.Ready.{IsReached};
 ghost use Rattle.pv_program.specs.Reached.{AreCodes, IsMade, AreMade, Adds};
 
 use crate::block::add_code;
-use crate::call::context_in;
 use crate::fault::ProgramFault;
 use crate::grow::put_code;
-use pv_resolve::{Context, FirstCells, with_firsts};
+use pv_resolve::{Context, context_at};
 use pv_run::{Called, Code, Program};
 use std::alloc::Global;
 
@@ -88,13 +87,8 @@ fn make_code(
         → IsLed source block → AreLed source program.old.calls.items
         → OnOk result (AreLed source program.new.calls.items) }
 {
-    match context.scope.tables.entries().get(block as usize) {
-        Some(entry) => {
-            let inner = context_in(context, entry);
-            let firsts = FirstCells::of(alloc, &inner)?;
-            let inner = with_firsts(inner, &firsts);
-            add_code(alloc, &inner, program)
-        }
+    match context_at(*context, block as usize) {
+        Some(inner) => add_code(alloc, &inner, program),
         None => Err(ProgramFault::TooLarge),
     }
 }

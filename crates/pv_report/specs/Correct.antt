@@ -1,5 +1,5 @@
 -- Which verdicts a report can be of: they have what the lines of their claim print, and nothing besides. A report determines such a
--- verdict.
+-- verdict. Which places can be printed: those that lie in one of the files.
 use Rattle.std.specs.Prelude.{◌≡◌, ℕ, ◌+◌, ◌<◌, ◌^◌, ℤ, List, [], ◌∷◌, length, Bool, Option, Some, None, slice_get}
 use Rattle.std.specs.List.{AllByRecursion}
 use Rattle.std.specs.Int.Signed.{mag}
@@ -42,6 +42,7 @@ pub record LiesIn (files : List Lines) (place : Place) : Type 0 where
   pub there : slice_get files place.file ≡ Some lines
   pub near : place.offset < 2 ^ 32
 
+-- so does the place of an ending, if it has one
 abbrev pub EndsIn : List Lines → Ending → Type 0
 EndsIn files ending.Pattern = Unit {0}
 EndsIn files (ending.Trap kind place) = LiesIn files place

@@ -1,8 +1,9 @@
 //! The report of a verdict.
-ghost use Rattle.std.specs.Prelude.{◌≡◌, ◌++◌, codes, map, Some, IfOk, OnOk, string_bytes};
+ghost use Rattle.std.specs.Prelude.{◌≡◌, ◌++◌, codes, map, Some, IfSome, IfOk, OnOk, string_bytes};
 ghost use Rattle.std.specs.Fmt.{decimal};
 ghost use Rattle.pv_report.specs.Places.{file_lines};
 ghost use Rattle.pv_report.specs.Reports.{query_line, ending_text, ending_line, trace_lines, mark_word, prev_line, image_lines, state_lines, numbered, claim_lines, shown_lines, report_text};
+ghost use Rattle.pv_report.specs.Correct.{EndsIn};
 
 use crate::group::{Group, push_scans};
 use crate::places::{FileLines, Places, push_number, push_place};
@@ -26,6 +27,7 @@ fn push_numbered(text: &mut Vec<u8>, front: &[u8], n: u64) -> Result<(), AllocEr
 
 /// Puts how a scan ends behind a text.
 fn push_ending(text: &mut Vec<u8>, files: &[FileLines], ending: Ending) -> Result<(), AllocError>
+    requires { EndsIn (map file_lines files.now) ending }
     ensures { OnOk result (text.new.items ≡ text.old.items ++ ending_text (map file_lines files.now) ending) }
 {
     match ending {
@@ -53,6 +55,7 @@ fn push_ending_line(
     files: &[FileLines],
     ending: Option<Ending>,
 ) -> Result<(), AllocError>
+    requires { IfSome ending (EndsIn (map file_lines files.now)) }
     ensures { OnOk result (text.new.items
         ≡ text.old.items ++ ending_line front.now (map file_lines files.now) ending) }
 {
@@ -215,6 +218,7 @@ fn push_shown(
     files: &[FileLines],
     verdict: &Verdict,
 ) -> Result<(), AllocError>
+    requires { IfSome verdict.now.ending (EndsIn (map file_lines files.now)) }
     ensures { OnOk result (text.new.items ≡ text.old.items
         ++ shown_lines kind cells.now (map file_lines files.now) verdict.now.claim verdict.now) }
 {
@@ -233,11 +237,10 @@ fn push_shown(
     }
 }
 
-/// The report of a verdict on the case. The cells are those of the case's project; the trace has a value for each cell that a line is
-/// printed for, in the order of the table, and each place lies in one of the files.
+/// The report of a verdict on the case, the place of whose ending, if it has one, lies in one of the files. The cells are those of the
+/// case's project, and the trace has a value for each cell that a line is printed for, in the order of the table.
 ///
-/// A part that the verdict lacks has no lines, and so has a cell without a value. Want of memory is also answered where a place to be
-/// printed lies in none of the files.
+/// A part that the verdict lacks has no lines, and so has a cell without a value.
 pub fn text(
     alloc: Global,
     case: &Case,
@@ -245,6 +248,7 @@ pub fn text(
     places: &Places,
     verdict: &Verdict,
 ) -> Result<Vec<u8>, AllocError>
+    requires { IfSome verdict.now.ending (EndsIn (map file_lines places.now.files.items)) }
     ensures { IfOk result (λ text. text.items ≡ report_text (string_bytes case.now.name) case.now.pattern.kind
         case.now.limits cells.now (map file_lines places.now.files.items) verdict.now) }
 {

@@ -42,11 +42,12 @@ use Rattle.pv_resolve.proofs.FormLaws.{pushed}
 
 pub goes_nowhere : (source : Source) (base new : List Node) (b : Begin) (from index : ℕ) (place : Place) (values : ℕ → Frame → Tried (List ℤ))
     (spot : Spot) → b ≡ At spot → Makes base new (λ first ws. number_and_index from index ws) values
-    → GoesOn source base new b (record { begin = At Nowhere; address = None }) place values
+    → GoesOn source base new b (record { begin = At Nowhere; address = None; block = None }) place values
 goes_nowhere source base new b from index place values spot is m =
-    subst (λ x. GoesOn source base new x (record { begin = At Nowhere; address = None }) place values) (sym is) (record {
+    subst (λ x. GoesOn source base new x (record { begin = At Nowhere; address = None; block = None }) place values) (sym is) (record {
       meaning = λ first frame. and_then (values first frame) (λ vs. got (pos 0));
       makes = makes-map base new (λ first ws. number_and_index from index ws) values (λ first vs. pos 0) m;
+      holds = tt;
       leads = λ first frame. and_then-assoc (values first frame) (λ vs. got (pos 0)) (λ a. let t : Tried Begins = got (at spots.nowhere) in t);
     })
 
@@ -95,12 +96,13 @@ pub goes_element : (source : Source) (base old new : List Node) (b : Begin) (par
     (stride most : ℕ) (of : TypeTree) (p place : Place) (values : ℕ → Frame → Tried (List ℤ)) → b ≡ In part l
     → held_tree l.ty ≡ array low high of p → held_tree inner.ty ≡ of → inner.first ≡ l.first → stride ≡ layout.size_in source.project of
     → Adds old new (Element from index low high stride most place) n → Makes base old (λ first ws. number_and_index from index ws) values
-    → GoesOn source base new b (record { begin = In part inner; address = Some n }) place values
+    → GoesOn source base new b (record { begin = In part inner; address = Some n; block = None }) place values
 goes_element source base old new b part l inner from index n low high stride most of p place values is ty inner_ty same_first size adds m =
-    subst (λ x. GoesOn source base new x (record { begin = In part inner; address = Some n }) place values) (sym is) (record {
+    subst (λ x. GoesOn source base new x (record { begin = In part inner; address = Some n; block = None }) place values) (sym is) (record {
       meaning = λ first frame. and_then (values first frame) (λ vs. element low high stride place vs);
       makes = pushed base old new (λ first ws. number_and_index from index ws) values (Element from index low high stride most place) n
           (λ first frame vs. element low high stride place vs) adds (λ first frame ws h. refl) m;
+      holds = tt;
       leads = λ first frame.
           and_then-assoc (values first frame) (λ vs. element low high stride place vs)
           (λ a. got (begins_further (unsigned_abs a) (begins_in part first (laid_tree inner))))
@@ -114,7 +116,7 @@ pub goes_array : (c : Context) (source : Source) (base old new : List Node) (par
     → held_tree l.ty ≡ array low high of p → held_tree inner.ty ≡ of → inner.first ≡ l.first
     → stride ≡ capped (layout.size_in (sized_project c.sizes.now) of) → stride < BEYOND → lo ≡ low → hi ≡ high
     → Adds old new (Element from index lo hi stride most place) n → Makes base old (λ first ws. number_and_index from index ws) values
-    → GoesOn source base new (In part l) (record { begin = In part inner; address = Some n }) place values
+    → GoesOn source base new (In part l) (record { begin = In part inner; address = Some n; block = None }) place values
 goes_array c source base old new part l inner from index n lo hi low high stride most of p place values is ty inner_ty same_first size below
     same_low same_high adds m =
     goes_element source base old new (In part l) part l inner from index n low high stride most of p place values refl ty inner_ty same_first
@@ -164,12 +166,13 @@ trap_leads source Brief first k f unread i place h = refl
 pub goes_trap : (source : Source) (base old new : List Node) (b : Begin) (part : Where) (l : LaidLevel) (from index n most : ℕ) (place : Place)
     (values : ℕ → Frame → Tried (List ℤ)) → b ≡ In part l → IsNoArray (held_tree l.ty)
     → Adds old new (Element from index (pos 1) (pos 0) 0 most place) n → Makes base old (λ first ws. number_and_index from index ws) values
-    → GoesOn source base new b (record { begin = At Nowhere; address = Some n }) place values
+    → GoesOn source base new b (record { begin = At Nowhere; address = Some n; block = None }) place values
 goes_trap source base old new b part l from index n most place values is none adds m =
-    subst (λ x. GoesOn source base new x (record { begin = At Nowhere; address = Some n }) place values) (sym is) (record {
+    subst (λ x. GoesOn source base new x (record { begin = At Nowhere; address = Some n; block = None }) place values) (sym is) (record {
       meaning = λ first frame. and_then (values first frame) (λ vs. element (pos 1) (pos 0) 0 place vs);
       makes = pushed base old new (λ first ws. number_and_index from index ws) values (Element from index (pos 1) (pos 0) 0 most place) n
           (λ first frame vs. element (pos 1) (pos 0) 0 place vs) adds (λ first frame ws h. refl) m;
+      holds = tt;
       leads = λ first frame.
           and_then-assoc (values first frame) (λ vs. element (pos 1) (pos 0) 0 place vs) (λ a. let t : Tried Begins = got (at spots.nowhere) in t)
           ∙ and_then-same (values first frame) _ _ (λ vs _.

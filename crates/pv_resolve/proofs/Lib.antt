@@ -1,3 +1,4 @@
+mod Holding
 mod Laying
 mod Beginning
 mod Tabling
@@ -11,6 +12,7 @@ mod Fields
 mod Walking
 mod Elements
 mod Loops
+mod Sorting
 mod Rooms
 mod Roots
 mod Nears

@@ -1,6 +1,6 @@
 -- What the loops over arguments and over steps keep.
 use Rattle.std.proofs.Common.{◌≡◌, ℕ, zero, suc, ◌+◌, ◌<◌, ◌≤◌, ℤ, pos, List, [], ◌∷◌, ◌++◌, length, map, take, get_or, sym, subst, ◌∙◌, ap, arith}
-use Rattle.std.specs.Prelude.{None, All}
+use Rattle.std.specs.Prelude.{Option, None, All}
 use Rattle.std.proofs.lemmas.List.{take_more, take_all, map-append}
 use Rattle.std.proofs.lemmas.List.Elements.{All-append}
 use Rattle.pv_tree.specs.declared.expr.Root.{Root}
@@ -21,7 +21,7 @@ use Rattle.pv_resolve.specs.declared.context.Context.{Context}
 use Rattle.pv_resolve.specs.declared.begin.Begin.{Begin}
 use Rattle.pv_resolve.specs.declared.walk.Walk.{Walk}
 use Rattle.pv_resolve.specs.Contexts.{IsContext, block_in}
-use Rattle.pv_resolve.specs.Begins.{HasSpot, begin_at, walk_at, address_value}
+use Rattle.pv_resolve.specs.Begins.{HasSpot, HoldsBlock, begin_at, walk_at, address_value}
 use Rattle.pv_resolve.specs.Functions.{HaveValues, AreArguments}
 use Rattle.pv_resolve.specs.Growing.{Adds, Grows}
 use Rattle.pv_resolve.specs.Walks.{IsWalk, HasAddress}
@@ -103,14 +103,15 @@ pub record HasWalked (c : Context) (old new : List Node) (w : Walk) (root : Root
   pub address : HasAddress new w
   pub leads : (source : Source) → IsContext c source → IsWalk source (block_in c) old new w root (steps_of ss)
 
-pub walked_none : (c : Context) (old : List Node) (b : Begin) (root : Root) → AreNodes old → HasSpot b
+pub walked_none : (c : Context) (old : List Node) (b : Begin) (o : Option ℕ) (root : Root) → AreNodes old → HasSpot b
+    → ((source : Source) → IsContext c source → HoldsBlock source.project b o)
     → ((source : Source) (first : ℕ) → IsContext c source → begin_at b first ≡ root_begins source (activation (block_in c) first) root)
-    → HasWalked c old old (record { begin = b; address = None }) root []
-walked_none c old b root h spot begins = record {
+    → HasWalked c old old (record { begin = b; address = None; block = o }) root []
+walked_none c old b o root h spot holds begins = record {
   grows = grows_none old h;
   spot = spot;
   address = tt;
-  leads = λ source is. walk_begins source (block_in c) old b root (λ first. begins source first is);
+  leads = λ source is. walk_begins source (block_in c) old b o root (holds source is) (λ first. begins source first is);
 }
 
 pub walked_more : (c : Context) (old mid new : List Node) (w next : Walk) (root : Root) (ss : List StepTree) (s : StepTree)

@@ -1,8 +1,8 @@
 -- What names begin with, by what the code finds of each.
 use Rattle.std.proofs.Common.{◌≡◌, ℕ, ◌+◌, ◌<◌, ℤ, List, map, Option, Some, None, option_map, true, false, refl, sym, ap, ◌∙◌}
-use Rattle.std.specs.Prelude.{Bool as Truth, if◌then◌else◌}
+use Rattle.std.specs.Prelude.{Bool as Truth, if◌then◌else◌, bytes_eq, option_and_then}
 use Rattle.std.proofs.lemmas.Bool.{true≢false}
-use Rattle.std.proofs.Math.Path.{fun_ext}
+use Rattle.std.proofs.lemmas.Option.{none-some}
 use Rattle.pv_word.specs.declared.types.Ty.{Ty}
 use Rattle.pv_place.specs.declared.place.Place.{Place}
 use Rattle.pv_types.specs.declared.name.Name.{Name}
@@ -19,8 +19,9 @@ use Rattle.pv_tree.specs.declared.expr.Operand.{Operand}
 use Rattle.pv_tree.specs.Tree.{operand, StepTrees, BlockTree}
 use Rattle.pv_tree.specs.View.{operand_tree, step_tree, steps_of}
 use Rattle.pv_tree.specs.Projects.{symbol_tree}
-use Rattle.pv_tree.specs.Scopes.{ProjectTree, is_const, is_of_instance, type_named, first_var, first_block, first_symbol, own_value}
+use Rattle.pv_tree.specs.Scopes.{ProjectTree, is_const, is_of_instance, is_type, block_where, type_named, first_var, first_block, first_symbol, own_value}
 use Rattle.pv_tree.specs.Things.{quoted_value, type_of_bits}
+use Rattle.pv_names.specs.Firsts.{first_number}
 use Rattle.pv_names.specs.Tables.{blocks_of, symbols_of, project_of}
 use Rattle.pv_mean.specs.declared.count.TheConstants.{BEYOND}
 use Rattle.pv_mean.specs.Counts.{capped}
@@ -38,8 +39,10 @@ use Rattle.pv_resolve.specs.declared.begin.Where.TheVariants.{Own, Visible, Brie
 use Rattle.pv_bytes.specs.Lent.{bytes_tree}
 use Rattle.pv_resolve.specs.Contexts.{IsContext, block_in, address_spot_at, area_spot}
 use Rattle.pv_resolve.specs.Begins.{further, begins_in, begins_found, cells_begin, undeclared_begins, type_held}
+use Rattle.pv_resolve.specs.Firsts.{IsNumbered}
 use Rattle.pv_tree.proofs.ForCallers.{operand_seen}
 use Rattle.pv_resolve.proofs.Beginning.{exact_number, laid_from}
+use Rattle.pv_resolve.proofs.Tabling.{is_numbered}
 
 -- ---- the numbers of area bytes
 
@@ -64,15 +67,28 @@ pub field_of_type : (project : ProjectTree) (ty : TypeTree) (name : Name) (place
 field_of_type project ty name place key first o is e = e ∙ ap (λ t. layout.field_from project t first key) (sym is)
 
 -- a field among those of the block that is the type
-pub field_of_block : (c : Context) (source : Source) (type_key key : List ℕ) (x seen : BlockTree) (vars : List VarTree) (first : ℕ)
-    (o : Option layout.Laid) → IsContext c source → Some x ≡ type_named (project_of c.scope.tables.now) type_key → seen ≡ x → vars ≡ seen.vars
-    → o ≡ layout.laid_among (sized_project c.sizes.now) is_of_instance vars key first
+pub field_of_block : (c : Context) (source : Source) (type_key key : List ℕ) (x : BlockTree) (first : ℕ) (o : Option layout.Laid) → IsContext c source
+    → Some x ≡ type_named (project_of c.scope.tables.now) type_key → o ≡ layout.laid_among source.project is_of_instance x.vars key first
     → o ≡ layout.field_among source.project is_of_instance (type_named source.project type_key) key first
-field_of_block c source type_key key x seen vars first o is found same same_vars e =
-    e ∙ ap (λ vs. layout.laid_among (sized_project c.sizes.now) is_of_instance vs key first) same_vars
-    ∙ ap (λ (b : BlockTree). layout.laid_among (sized_project c.sizes.now) is_of_instance b.vars key first) same
-    ∙ ap (λ p. layout.laid_among p is_of_instance x.vars key first) is.sizes
-    ∙ ap (λ b. layout.field_among source.project is_of_instance b key first) (found ∙ ap (λ p. type_named p type_key) is.project)
+field_of_block c source type_key key x first o is found e =
+    e ∙ ap (λ b. layout.field_among source.project is_of_instance b key first) (found ∙ ap (λ p. type_named p type_key) is.project)
+
+-- the block that is the type has the number of its name
+named_first : (o : Option BlockTree) (x : BlockTree) → Some x ≡ option_and_then (block_where (λ b. is_type b.kind)) o → o ≡ Some x
+named_first None x e = absurd (none-some x (sym e))
+named_first (Some b) x e = by (is_type b.kind) e
+  where
+    by : (t : Truth) → Some x ≡ (if t then Some b else None) → Some b ≡ Some x
+    by true e = sym e
+    by false e = absurd (none-some x (sym e))
+
+pub type_numbered : (c : Context) (source : Source) (key : List ℕ) (x : BlockTree) (o : Option ℕ) → IsContext c source
+    → Some x ≡ type_named (project_of c.scope.tables.now) key
+    → o ≡ first_number (bytes_eq key) (map (λ (b : BlockTree). b.name.key) (blocks_of c.scope.tables.now)) → IsNumbered source.project o x
+type_numbered c source key x o is found number =
+    is_numbered source.project key x o
+    (number ∙ ap (λ (p : ProjectTree). first_number (bytes_eq key) (map (λ (b : BlockTree). b.name.key) p.blocks)) is.project)
+    (named_first (first_block source.project.blocks key) x (found ∙ ap (λ p. type_named p key) is.project))
 
 pub no_type : (c : Context) (source : Source) (type_key key : List ℕ) (first : ℕ) → IsContext c source
     → None ≡ type_named (project_of c.scope.tables.now) type_key
@@ -127,24 +143,6 @@ pub own_cells : (c : Context) (source : Source) (first : ℕ) (key : List ℕ) (
     → b ≡ cells_begin source (activation (block_in c) first) key section
 own_cells c source first key section seen has b same test missing e =
     passed_by (layout.is_brief_in (block_in c) section) _ _ b (sym missing ∙ brief_test c seen section has same test) e
-
--- the brief variable of a name, by the tree of the code's block
-pub brief_part : (project : ProjectTree) (test : Section → Truth) (b seen : BlockTree) (vars : List VarTree) (key : List ℕ)
-    (o : Option layout.Laid) → seen ≡ b → vars ≡ seen.vars → ((s : Section) → test s ≡ layout.is_brief_in seen s)
-    → o ≡ option_map capped_laid (layout.laid_among project test vars key 0)
-    → o ≡ option_map capped_laid (layout.laid_among project (layout.is_brief_in b) b.vars key 0)
-brief_part project test b seen vars key o same_block same_vars same e =
-    e ∙ ap (λ t. option_map capped_laid (layout.laid_among project t vars key 0)) (fun_ext same)
-    ∙ ap (λ vs. option_map capped_laid (layout.laid_among project (layout.is_brief_in seen) vs key 0)) same_vars
-    ∙ ap (λ (x : BlockTree). option_map capped_laid (layout.laid_among project (layout.is_brief_in x) x.vars key 0)) same_block
-
--- that of the instance
-pub own_part : (project : ProjectTree) (b seen : BlockTree) (vars : List VarTree) (key : List ℕ) (o : Option layout.Laid)
-    → seen ≡ b → vars ≡ seen.vars → o ≡ option_map capped_laid (layout.laid_among project is_of_instance vars key 0)
-    → o ≡ option_map capped_laid (layout.laid_among project is_of_instance b.vars key 0)
-own_part project b seen vars key o same_block same_vars e =
-    e ∙ ap (λ vs. option_map capped_laid (layout.laid_among project is_of_instance vs key 0)) same_vars
-    ∙ ap (λ (x : BlockTree). option_map capped_laid (layout.laid_among project is_of_instance x.vars key 0)) same_block
 
 -- from the first cell of the instance on
 pub own_begins : (project : ProjectTree) (vars : List VarTree) (key : List ℕ) (first : ℕ) (o : Option layout.Laid)

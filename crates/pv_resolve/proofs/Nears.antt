@@ -167,7 +167,7 @@ module _ (c : Context) (source : Source) (is : IsContext c source) (more : ℕ) 
 
   pub walk_array : (inner : LaidLevel) (old new : List Node) (from index n : ℕ) (place : Place) → held_tree inner.ty ≡ of → inner.first ≡ laid.first
       → Adds old new (Element from index lo hi stride (more + span lo hi stride) place) n
-      → WalkRoomy source.project new (record { begin = In part inner; address = Some n })
+      → WalkRoomy source.project new (record { begin = In part inner; address = Some n; block = None })
   walk_array inner old new from index n place inner_ty same_first adds = record {
     most = more + span lo hi stride;
     is_most = added_most old new (Element from index lo hi stride (more + span lo hi stride) place) n (more + span lo hi stride) adds refl;
@@ -177,6 +177,7 @@ module _ (c : Context) (source : Source) (is : IsContext c source) (more : ℕ) 
         (sym inner_ty)
         (subst (λ f. IsRoomy source.project (more + span low high (layout.size_in source.project of)) (record { ty = of; first = f }))
         (sym same_first) there.roomy)));
+    holds = tt;
   }
 
 -- an index behind what is no array
@@ -185,11 +186,12 @@ trap_small more lt = omega (arith, lt)
 
 pub walk_trap : (project : ProjectTree) (more : ℕ) (old new : List Node) (from index n : ℕ) (place : Place)
     → Adds old new (Element from index (pos 1) (pos 0) 0 (more + span (pos 1) (pos 0) 0) place) n
-    → WalkRoomy project new (record { begin = At Nowhere; address = Some n })
+    → WalkRoomy project new (record { begin = At Nowhere; address = Some n; block = None })
 walk_trap project more old new from index n place adds = record {
   most = more + span (pos 1) (pos 0) 0;
   is_most = added_most old new (Element from index (pos 1) (pos 0) 0 (more + span (pos 1) (pos 0) 0) place) n _ adds refl;
   roomy = tt;
+  holds = tt;
 }
 
 -- ---- sums that 32 bits hold

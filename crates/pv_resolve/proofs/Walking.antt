@@ -19,7 +19,7 @@ use Rattle.pv_eval.specs.Means.{Makes, Means, Names, activation}
 use Rattle.pv_eval.proofs.ForCallers.{and_then-assoc, and_then-same, makes-none, makes-along, makes-map, makes-then}
 use Rattle.pv_resolve.specs.declared.begin.Begin.{Begin}
 use Rattle.pv_resolve.specs.declared.walk.Walk.{Walk}
-use Rattle.pv_resolve.specs.Begins.{begin_at, begins_further, begins_behind, address_value, walk_at}
+use Rattle.pv_resolve.specs.Begins.{HoldsBlock, begin_at, begins_further, begins_behind, address_value, walk_at}
 use Rattle.pv_resolve.specs.Growing.{Adds}
 use Rattle.pv_resolve.specs.Walks.{IsWalk, number_and_index, GoesOn}
 use Rattle.pv_resolve.proofs.FormLaws.{pushed, both_parts_then, makes-read}
@@ -30,12 +30,13 @@ alone (trap kind place) = refl
 
 -- ---- the beginning
 
-pub walk_begins : (source : Source) (block : BlockTree) (base : List Node) (b : Begin) (root : Root)
-    → ((first : ℕ) → begin_at b first ≡ root_begins source (activation block first) root)
-    → IsWalk source block base base (record { begin = b; address = None }) root no_steps
-walk_begins source block base b root is = record {
+pub walk_begins : (source : Source) (block : BlockTree) (base : List Node) (b : Begin) (o : Option ℕ) (root : Root)
+    → HoldsBlock source.project b o → ((first : ℕ) → begin_at b first ≡ root_begins source (activation block first) root)
+    → IsWalk source block base base (record { begin = b; address = None; block = o }) root no_steps
+walk_begins source block base b o root holds is = record {
   meaning = λ first frame. got (pos 0);
   makes = makes-none base (λ first. pos 0);
+  holds = holds;
   leads = λ first frame. ap (λ (b : Begins). let t : Tried Begins = got b in t) (is first);
 }
 
@@ -48,13 +49,14 @@ none_further (in_brief l) =
     let e : 0 + l.first ≡ l.first = omega arith in ap (λ n. let b : Begins = in_brief (record { ty = l.ty; first = n }) in b) e
 none_further (at spot) = refl
 
-pub walk_addressed : (source : Source) (block : BlockTree) (base old new : List Node) (b : Begin) (n : ℕ) (root : Root) (more : StepTrees)
-    → Adds old new (Constant (pos 0)) n → IsWalk source block base old (record { begin = b; address = None }) root more
-    → IsWalk source block base new (record { begin = b; address = Some n }) root more
-walk_addressed source block base old new b n root more adds w = record {
+pub walk_addressed : (source : Source) (block : BlockTree) (base old new : List Node) (b : Begin) (o : Option ℕ) (n : ℕ) (root : Root) (more : StepTrees)
+    → Adds old new (Constant (pos 0)) n → IsWalk source block base old (record { begin = b; address = None; block = o }) root more
+    → IsWalk source block base new (record { begin = b; address = Some n; block = o }) root more
+walk_addressed source block base old new b o n root more adds w = record {
   meaning = λ first frame. and_then (w.meaning first frame) (λ a. got (pos 0));
   makes = pushed base old new (λ first ws. pos 0) w.meaning (Constant (pos 0)) n (λ first frame a. got (pos 0)) adds
       (λ first frame ws h. refl) w.makes;
+  holds = w.holds;
   leads = λ first frame.
       and_then-assoc (w.meaning first frame) (λ a. got (pos 0)) (λ a. got (begins_further (unsigned_abs a) (begin_at b first)))
       ∙ and_then-same (w.meaning first frame) (λ a. got (begins_further 0 (begin_at b first))) (λ a. got (begin_at b first))
@@ -75,16 +77,17 @@ behind-more source act frame b (x ∷ xs) s =
     ∙ sym (and_then-assoc (step_behind source act frame b x) (λ c. behind source act frame c (steps_of xs))
     (λ d. step_behind source act frame d s))
 
-pub walk_field : (source : Source) (block : BlockTree) (base new : List Node) (b next : Begin) (address : Option ℕ) (root : Root)
+pub walk_field : (source : Source) (block : BlockTree) (base new : List Node) (b next : Begin) (o address : Option ℕ) (root : Root)
     (xs : List StepTree) (s : StepTree) (name : Name) (place : Place) → s ≡ field name place
     → ((address : Option ℕ) (a : ℤ) (first : ℕ) → begins_behind address a (begin_at next first)
     ≡ field_begins source (begins_behind address a (begin_at b first)) name.key)
-    → IsWalk source block base new (record { begin = b; address = address }) root (steps_of xs)
-    → IsWalk source block base new (record { begin = next; address = address }) root (steps_of (xs ++ s ∷ []))
-walk_field source block base new b next address root xs s name place is leads w =
-    subst (λ x. IsWalk source block base new (record { begin = next; address = address }) root (steps_of (xs ++ x ∷ []))) (sym is) (record {
+    → IsWalk source block base new (record { begin = b; address = address; block = o }) root (steps_of xs)
+    → IsWalk source block base new (record { begin = next; address = address; block = None }) root (steps_of (xs ++ s ∷ []))
+walk_field source block base new b next o address root xs s name place is leads w =
+    subst (λ x. IsWalk source block base new (record { begin = next; address = address; block = None }) root (steps_of (xs ++ x ∷ []))) (sym is) (record {
       meaning = w.meaning;
       makes = w.makes;
+      holds = tt;
       leads = λ first frame.
           and_then-same (w.meaning first frame) (λ a. got (begins_behind address a (begin_at next first)))
           (λ a. got (field_begins source (begins_behind address a (begin_at b first)) name.key))
@@ -100,14 +103,15 @@ abbrev pub number_then : (meaning : ℕ → Frame → Tried ℤ) → Source → 
 number_then meaning source block e first frame =
     and_then (meaning first frame) (λ a. and_then (value source (activation block first) frame e) (λ v. got (a ∷ v ∷ [])))
 
-walk_goes : (source : Source) (block : BlockTree) (base old new : List Node) (b : Begin) (from : ℕ) (next : Walk) (root : Root)
+walk_goes : (source : Source) (block : BlockTree) (base old new : List Node) (b : Begin) (o : Option ℕ) (from : ℕ) (next : Walk) (root : Root)
     (xs : List StepTree) (e : ExprTree) (place : Place)
-    → (w : IsWalk source block base old (record { begin = b; address = Some from }) root (steps_of xs))
+    → (w : IsWalk source block base old (record { begin = b; address = Some from; block = o }) root (steps_of xs))
     → GoesOn source base new b next place (number_then w.meaning source block e)
     → IsWalk source block base new next root (steps_of (xs ++ index e place ∷ []))
-walk_goes source block base old new b from next root xs e place w g = record {
+walk_goes source block base old new b o from next root xs e place w g = record {
   meaning = g.meaning;
   makes = g.makes;
+  holds = g.holds;
   leads = λ first frame.
       g.leads first frame
       ∙ both_parts_then (w.meaning first frame) (value source (activation block first) frame e)
@@ -118,21 +122,21 @@ walk_goes source block base old new b from next root xs e place w g = record {
       ∙ sym (behind-more source (activation block first) frame (root_begins source (activation block first) root) xs (index e place));
 }
 
-pub index_makes : (source : Source) (block : BlockTree) (base old mid : List Node) (b : Begin) (from i : ℕ) (root : Root) (xs : List StepTree)
-    (e : ExprTree) → (w : IsWalk source block base old (record { begin = b; address = Some from }) root (steps_of xs))
+pub index_makes : (source : Source) (block : BlockTree) (base old mid : List Node) (b : Begin) (o : Option ℕ) (from i : ℕ) (root : Root) (xs : List StepTree)
+    (e : ExprTree) → (w : IsWalk source block base old (record { begin = b; address = Some from; block = o }) root (steps_of xs))
     → Means source block old mid i e → Makes base mid (λ first ws. number_and_index from i ws) (number_then w.meaning source block e)
-index_makes source block base old mid b from i root xs e w n =
+index_makes source block base old mid b o from i root xs e w n =
     makes-then base old mid (λ first ws. operands.at ws from) (λ first ws. operands.at ws i) w.meaning
     (λ first frame. value source (activation block first) frame e) (λ a v. a ∷ v ∷ []) w.makes n.makes
 
-pub walk_index : (source : Source) (block : BlockTree) (base old new : List Node) (b : Begin) (from : ℕ) (next : Walk) (root : Root)
+pub walk_index : (source : Source) (block : BlockTree) (base old new : List Node) (b : Begin) (o : Option ℕ) (from : ℕ) (next : Walk) (root : Root)
     (xs : List StepTree) (s : StepTree) (e : ExprTree) (place : Place) → s ≡ index e place
-    → (w : IsWalk source block base old (record { begin = b; address = Some from }) root (steps_of xs))
+    → (w : IsWalk source block base old (record { begin = b; address = Some from; block = o }) root (steps_of xs))
     → GoesOn source base new b next place (number_then w.meaning source block e)
     → IsWalk source block base new next root (steps_of (xs ++ s ∷ []))
-walk_index source block base old new b from next root xs s e place is w goes =
+walk_index source block base old new b o from next root xs s e place is w goes =
     subst (λ x. IsWalk source block base new next root (steps_of (xs ++ x ∷ []))) (sym is)
-    (walk_goes source block base old new b from next root xs e place w goes)
+    (walk_goes source block base old new b o from next root xs e place w goes)
 
 -- ---- the end
 

@@ -1,9 +1,10 @@
 -- Where names begin, and where the steps behind them lead.
-use Rattle.std.specs.Prelude.{ℕ, ◌+◌, ℤ, pos, unsigned_abs, List, Bool as Truth, Option, Some, None, option_map, if◌then◌else◌}
+use Rattle.std.specs.Prelude.{◌≡◌, ℕ, ◌+◌, ℤ, pos, unsigned_abs, List, Bool as Truth, Option, Some, None, option_map, if◌then◌else◌, IfSome, slice_get}
 use Rattle.pv_types.specs.declared.declaration.Section.{Section}
 use Rattle.pv_types.specs.Tree.{TypeTree}
 use Rattle.pv_tree.specs.Tree.{BlockTree}
-use Rattle.pv_tree.specs.Scopes.{is_of_instance, own_value, first_block}
+use Rattle.pv_tree.specs.Scopes.{ProjectTree, is_of_instance, own_value, first_block}
+use Rattle.pv_names.specs.Views.{held_tree}
 use Rattle.pv_mean.specs.Layout as layout
 use Rattle.pv_mean.specs.Spots.{nowhere}
 use Rattle.pv_mean.specs.Sources.{Source}
@@ -56,6 +57,17 @@ walk_at w first a = begins_behind w.address a (begin_at w.begin first)
 -- what a data block holds; another block holds nothing
 abbrev pub type_held : BlockTree → Option TypeTree
 type_held b = if layout.is_db b.kind then Some (layout.data_type b) else None
+
+-- what begins there holds what has this type; of a spot nothing is said
+abbrev pub IsHeld : Begin → TypeTree → Type 0
+IsHeld (In part l) ty = held_tree l.ty ≡ ty
+IsHeld (At spot) ty = Unit {0}
+
+-- what begins there is what the block of this number holds, where one is given
+abbrev pub HoldsBlock : ProjectTree → Begin → Option ℕ → Type 0
+HoldsBlock project begin None = Unit {0}
+HoldsBlock project begin (Some n) =
+    IfSome (slice_get project.blocks n) (λ b. IsHeld begin (layout.data_type b))
 
 -- what was found among a part of the cells, if anything
 abbrev pub begins_found : Where → ℕ → Option layout.Laid → Begins

@@ -13,7 +13,7 @@ use Rattle.pv_mean.specs.Spots.{Spot, bit, bytes, nowhere}
 use Rattle.pv_mean.specs.Activations.{address_spot}
 use Rattle.pv_mean.specs.Sized.{sized_project}
 use Rattle.pv_resolve.specs.declared.context.Context.{Context}
-use Rattle.pv_resolve.specs.Firsts.{AreFirsts}
+use Rattle.pv_resolve.specs.Firsts.{AreFirsts, IsNumbered}
 
 -- the block whose names are found
 abbrev pub block_in : Context → BlockTree
@@ -27,7 +27,8 @@ pub record IsContext (c : Context) (source : Source) : Type 0 where
   pub areas : c.bytes_first
       ≡ entry_size source.project source.entry + data_size source.project source.project.blocks
   pub bytes : source.bytes ≡ bytes_tree c.bytes
-  pub firsts : IfSome c.firsts (λ f. AreFirsts f.now source.project (block_in c))
+  pub number : IsNumbered source.project c.number (block_in c)
+  pub firsts : IfSome c.firsts (λ f. AreFirsts f.now source.project)
 
 -- what is read or written at an address, the byte of which has this cell
 abbrev pub address_spot_at : Ty → ℕ → ℕ → ℕ → Spot

@@ -1,44 +1,57 @@
--- Where the variables of a block lie, by a table that is made once.
-use Rattle.std.specs.Prelude.{◌≡◌, ℕ, List, ◌++◌, bytes_eq, Bool as Truth, if◌then◌else◌, Option, Some, None, option_map}
-use Rattle.indexmap.specs.IndexMap.{get_by}
+-- Where the variables of a project's blocks lie, by tables that are made once.
+use Rattle.std.specs.Prelude.{◌≡◌, ℕ, zero, suc, ◌+◌, List, [], ◌∷◌, ◌++◌, Bool as Truth, if◌then◌else◌, Option, Some, None, IfSome, slice_get}
 use Rattle.pv_types.specs.declared.declaration.Section.{Section}
-use Rattle.pv_types.specs.Tree.{TypeTree, VarTree}
+use Rattle.pv_types.specs.Tree.{VarTree, var}
 use Rattle.pv_tree.specs.Tree.{BlockTree}
-use Rattle.pv_tree.specs.Scopes.{ProjectTree, is_of_instance}
-use Rattle.pv_mean.specs.Layout.{Laid, laid_among, is_brief_in}
+use Rattle.pv_tree.specs.Scopes.{ProjectTree}
+use Rattle.pv_mean.specs.Layout.{Laid, size_in}
 use Rattle.pv_mean.specs.Counts.{capped}
-use Rattle.pv_mean.specs.LaidOut.{laid_tree, capped_laid}
+use Rattle.pv_mean.specs.LaidOut.{test_of, size_where}
 use Rattle.pv_resolve.specs.declared.firsts.PartFirsts.{PartFirsts}
+use Rattle.pv_resolve.specs.declared.firsts.BlockFirsts.{BlockFirsts}
 use Rattle.pv_resolve.specs.declared.firsts.FirstCells.{FirstCells}
 
--- the variable that the table of a part has of a key
-abbrev pub laid_in : PartFirsts → List ℕ → Option Laid
-laid_in p key = option_map laid_tree (get_by (bytes_eq key) p.laid)
+-- the cells in front of each variable among those of a part, counted up to the bound
+abbrev pub fronts : ProjectTree → (Section → Truth) → List VarTree → ℕ → List ℕ
+fronts project test [] at = []
+fronts project test (var name section ty start place ∷ more) at =
+    at ∷ fronts project test more (capped (at + size_where (test section) (size_in project ty)))
 
--- what the table had, or a new variable where the test says so
-abbrev pub laid_after : Truth → Option Laid → TypeTree → ℕ → Option Laid
-laid_after same (Some l) ty at = Some l
-laid_after same None ty at = if same then Some (record { ty = ty; first = at }) else None
+-- the variable of this number with its first cell, if it is of the part
+abbrev pub laid_nth : ProjectTree → (Section → Truth) → List VarTree → ℕ → ℕ → Option Laid
+laid_nth project test [] n at = None
+laid_nth project test (var name section ty start place ∷ more) zero at =
+    if test section then Some (record { ty = ty; first = at }) else None
+laid_nth project test (var name section ty start place ∷ more) (suc n) at =
+    laid_nth project test more n (capped (at + size_where (test section) (size_in project ty)))
 
--- what the table had, or else what is found behind it
-abbrev pub laid_or : Option Laid → Option Laid → Option Laid
-laid_or (Some l) more = Some l
-laid_or None more = more
+-- more variables are in the table of a part
+pub record AddsVariables (project : ProjectTree) (old new : PartFirsts) (vars : List VarTree) : Type 0 where
+  pub part : new.part ≡ old.part
+  pub numbers : (more : List VarTree)
+      → new.numbers.items ++ fronts project (test_of old.part) more new.total
+      ≡ old.numbers.items ++ fronts project (test_of old.part) (vars ++ more) old.total
 
--- more variables are in the table: those of the part are found there where they were found behind it
-pub record AddsVariables (project : ProjectTree) (test : Section → Truth) (old new : PartFirsts)
-    (vars : List VarTree) : Type 0 where
-  pub within : capped old.total ≡ old.total → capped new.total ≡ new.total
-  pub laid : capped old.total ≡ old.total → (more : List VarTree) (key : List ℕ)
-      → laid_or (laid_in new key) (option_map capped_laid (laid_among project test more key new.total))
-      ≡ laid_or (laid_in old key) (option_map capped_laid (laid_among project test (vars ++ more) key old.total))
+-- the table of a part has the cells in front of each of these variables
+abbrev pub HasFronts : ProjectTree → List VarTree → PartFirsts → Type 0
+HasFronts project vars p = p.numbers.items ≡ fronts project (test_of p.part) vars 0
 
--- of each key the variable is found that is laid out among these, its number counted up to the bound
-abbrev pub FindsLaid : PartFirsts → ProjectTree → (Section → Truth) → List VarTree → Type 0
-FindsLaid p project test vars =
-    (key : List ℕ) → laid_in p key ≡ option_map capped_laid (laid_among project test vars key 0)
+-- so has each table of a block
+pub record HasFirsts (project : ProjectTree) (vars : List VarTree) (b : BlockFirsts) : Type 0 where
+  pub main : HasFronts project vars b.main
+  pub temporary : IfSome b.temporary (HasFronts project vars)
 
--- both tables are those of the block
-pub record AreFirsts (f : FirstCells) (project : ProjectTree) (block : BlockTree) : Type 0 where
-  pub brief : FindsLaid f.brief project (is_brief_in block) block.vars
-  pub own : FindsLaid f.own project is_of_instance block.vars
+-- tables of blocks, in their order
+abbrev pub AreTables : ProjectTree → List BlockFirsts → List BlockTree → Type 0
+AreTables project [] bs = Unit {0}
+AreTables project (t ∷ ts) [] = Unit {0}
+AreTables project (t ∷ ts) (b ∷ bs) = HasFirsts project b.vars t × AreTables project ts bs
+
+-- the tables of a project's blocks
+abbrev pub AreFirsts : FirstCells → ProjectTree → Type 0
+AreFirsts f project = AreTables project f.blocks.items project.blocks
+
+-- the block of this number, where one is given, is this
+abbrev pub IsNumbered : ProjectTree → Option ℕ → BlockTree → Type 0
+IsNumbered project None b = Unit {0}
+IsNumbered project (Some n) b = slice_get project.blocks n ≡ Some b

@@ -21,7 +21,7 @@ use Rattle.pv_mean.specs.Activations.{Begins, in_visible, in_brief, at}
 use Rattle.pv_eval.specs.declared.node.Node.{Node}
 use Rattle.pv_eval.specs.Order.{most_at}
 use Rattle.pv_resolve.specs.declared.walk.Walk.{Walk}
-use Rattle.pv_resolve.specs.Begins.{begin_at}
+use Rattle.pv_resolve.specs.Begins.{begin_at, HoldsBlock}
 
 -- ---- literals and addresses
 
@@ -122,3 +122,4 @@ pub record WalkRoomy (project : ProjectTree) (nodes : List Node) (w : Walk) : Ty
   pub most : ℕ
   pub is_most : IsMostOf nodes w.address most
   pub roomy : BeginsRoomy project most (begin_at w.begin 0)
+  pub holds : HoldsBlock project w.begin w.block

@@ -13,13 +13,14 @@ use Rattle.pv_eval.specs.Operands.{at}
 use Rattle.pv_eval.specs.Means.{Makes, activation}
 use Rattle.pv_resolve.specs.declared.begin.Begin.{Begin}
 use Rattle.pv_resolve.specs.declared.walk.Walk.{Walk}
-use Rattle.pv_resolve.specs.Begins.{address_value, begin_at, begins_further, walk_at}
+use Rattle.pv_resolve.specs.Begins.{HoldsBlock, address_value, begin_at, begins_further, walk_at}
 
 -- the walk has come to where the root and these steps lead
 pub record IsWalk (source : Source) (block : BlockTree) (base new : List Node) (w : Walk)
     (root : Root) (more : StepTrees) : Type 0 where
   pub meaning : ℕ → Frame → Tried ℤ
   pub makes : Makes base new (λ first ws. address_value w.address ws) meaning
+  pub holds : HoldsBlock source.project w.begin w.block
   pub leads : (first : ℕ) (frame : Frame)
       → and_then (meaning first frame) (λ a. got (walk_at w first a))
       ≡ behind source (activation block first) frame
@@ -38,6 +39,7 @@ pub record GoesOn (source : Source) (base new : List Node) (begin : Begin) (next
     (place : Place) (values : ℕ → Frame → Tried (List ℤ)) : Type 0 where
   pub meaning : ℕ → Frame → Tried ℤ
   pub makes : Makes base new (λ first ws. address_value next.address ws) meaning
+  pub holds : HoldsBlock source.project next.begin next.block
   pub leads : (first : ℕ) (frame : Frame)
       → and_then (meaning first frame) (λ a. got (walk_at next first a))
       ≡ and_then (values first frame) (λ vs. element_begins source

@@ -164,80 +164,6 @@ impl<'p> Context<'p> {
         }
     }
 
-    /// The variable of this name among a part of these, of which the first begins at this cell.
-    fn among(
-        &self,
-        vars: &'p [Vars],
-        part: Part,
-        name: &Name,
-        first: u32,
-    ) -> Result<Option<LaidLevel<'p>>, ResolveFault>
-        ensures value { IfOk result (λ o. option_map laid_tree o
-            ≡ layout.laid_among (sized_project self.now.sizes.now) (test_of part)
-            (view.var_trees vars.now) name.now.key first) }
-        ensures near { IfSome (layout.laid_among (sized_project self.now.sizes.now) (test_of part)
-            (view.var_trees vars.now) name.now.key first) (λ l. l.first < BEYOND) → IsOk result }
-    {
-        exact(self.sizes.variable(vars, part, name, first))
-    }
-
-    /// The field of this name in an instance of a named type.
-    fn field_of_named(
-        &self,
-        ty: &Name,
-        name: &Name,
-        first: u32,
-    ) -> Result<Option<LaidLevel<'p>>, ResolveFault>
-        ensures value { (source : Source) → IsContext self.now source
-            → IfOk result (λ o. option_map laid_tree o
-            ≡ layout.field_among source.project scopes.is_of_instance
-            (scopes.type_named source.project ty.now.key) name.now.key first) }
-        ensures near { (source : Source) → IsContext self.now source
-            → IfSome (layout.field_among source.project scopes.is_of_instance
-            (scopes.type_named source.project ty.now.key) name.now.key first)
-            (λ l. l.first < BEYOND) → IsOk result }
-    {
-        match self.scope.find_type(ty) {
-            Some(entry) => {
-                let block = entry.block();
-                self.among(block.interface.vars.as_slice(), Part::Instance, name, first)
-            }
-            None => Ok(None),
-        }
-    }
-
-    /// The field of this name in what is laid out.
-    pub(crate) fn field_laid(
-        &self,
-        laid: LaidLevel<'p>,
-        name: &Name,
-    ) -> Result<Option<LaidLevel<'p>>, ResolveFault>
-        ensures value { (source : Source) → IsContext self.now source
-            → IfOk result (λ o. option_map laid_tree o
-            ≡ layout.field_laid source.project (laid_tree laid.entry) name.now.key) }
-        ensures near { (source : Source) → IsContext self.now source
-            → IfSome (layout.field_laid source.project (laid_tree laid.entry) name.now.key)
-            (λ l. l.first < BEYOND) → IsOk result }
-    {
-        match laid.ty {
-            Held::Struct(vars) => self.among(vars, Part::Fields, name, laid.first),
-            Held::Named(ty, _) => self.field_of_named(ty, name, laid.first),
-            Held::Plain(_) | Held::Array { .. } | Held::Unread => Ok(None),
-        }
-    }
-
-    /// The variable of this name that lives within one activation, by a walk along the block's variables.
-    fn brief_walked(&self, name: &Name) -> Option<Laid<'p>>
-        ensures { option_map counted.laid_tree result ≡ option_map counted.capped_laid
-            (layout.laid_among (sized_project self.now.sizes.now)
-            (layout.is_brief_in (block_in self.now)) (block_in self.now).vars name.now.key 0) }
-    {
-        let block = self.scope.entry.block();
-        let part = activation_part(&block.kind);
-        self.sizes
-            .variable(block.interface.vars.as_slice(), part, name, 0)
-    }
-
     /// The variable of this name that lives within one activation.
     fn brief_found(&self, name: &Name) -> Option<Laid<'p>>
         ensures { (source : Source) → IsContext self.now source
@@ -245,21 +171,9 @@ impl<'p> Context<'p> {
             (layout.laid_among source.project (layout.is_brief_in (block_in self.now))
             (block_in self.now).vars name.now.key 0) }
     {
-        match self.firsts {
-            Some(firsts) => firsts.brief(name),
-            None => self.brief_walked(name),
-        }
-    }
-
-    /// The variable of this name of the instance, by a walk along the block's variables.
-    fn own_walked(&self, name: &Name) -> Option<Laid<'p>>
-        ensures { option_map counted.laid_tree result ≡ option_map counted.capped_laid
-            (layout.laid_among (sized_project self.now.sizes.now) scopes.is_of_instance
-            (block_in self.now).vars name.now.key 0) }
-    {
-        let block = self.scope.entry.block();
-        let vars = block.interface.vars.as_slice();
-        self.sizes.variable(vars, Part::Instance, name, 0)
+        let entry = self.scope.entry;
+        let part = activation_part(&entry.block().kind);
+        self.variable_in(self.number, entry, part, name)
     }
 
     /// The variable of this name of the instance.
@@ -269,10 +183,7 @@ impl<'p> Context<'p> {
             (layout.laid_among source.project scopes.is_of_instance (block_in self.now).vars
             name.now.key 0) }
     {
-        match self.firsts {
-            Some(firsts) => firsts.own(name),
-            None => self.own_walked(name),
-        }
+        self.variable_in(self.number, self.scope.entry, Part::Instance, name)
     }
 
     /// A variable of this name that lives within one activation.

@@ -1,9 +1,11 @@
 //! A block of a project whose names are found.
-ghost use Rattle.std.specs.Prelude.{◌≡◌, ◌+◌, ◌≤◌, ◌↔◌, IfOk, IfErr, Err};
+ghost use Rattle.std.specs.Prelude.{◌≡◌, ◌+◌, ◌≤◌, ◌↔◌, IfOk, IfErr, IfSome, Err, Some, option_map, slice_get};
 ghost use Rattle.pv_mean.specs.declared.count.TheConstants.{BEYOND};
 ghost use Rattle.pv_resolve.specs.declared.fault.ResolveFault.TheVariants.{TooLarge};
 ghost use Rattle.pv_tree.specs.View.{block_tree};
-ghost use Rattle.pv_names.specs.Tables.{project_of};
+ghost use Rattle.pv_tree.specs.Scopes.{first_block};
+ghost use Rattle.pv_names.specs.Entries.{block_of};
+ghost use Rattle.pv_names.specs.Tables.{blocks_of, project_of};
 ghost use Rattle.pv_mean.specs.Layout as layout;
 ghost use Rattle.pv_mean.specs.Sources.{Source};
 ghost use Rattle.pv_mean.specs.Sized.{sized_project};
@@ -15,7 +17,7 @@ use crate::fault::ResolveFault;
 use crate::firsts::FirstCells;
 use pv_bytes::AreaBytes;
 use pv_mean::{BEYOND, Sizes};
-use pv_names::Scope;
+use pv_names::{Entry, Scope};
 use pv_tree::Block;
 
 /// A block of a project, and where its cells lie.
@@ -29,8 +31,10 @@ pub struct Context<'p> {
     /// The number of the first cell of the areas' bytes, behind the data blocks'.
     pub bytes_first: u32,
     pub bytes: AreaBytes<'p>,
-    /// Where the block's variables lie, if that was found; else each name takes a walk along them.
-    pub firsts: Option<&'p FirstCells<'p>>,
+    /// The number of the block among those of the project, if that is known.
+    pub number: Option<usize>,
+    /// Where the variables of the project's blocks lie, if that was found; else each name takes a walk along them.
+    pub firsts: Option<&'p FirstCells>,
 }
 
 /// The context of a block of a project that is entered at a block, where these bytes have cells. It is too large exactly where the
@@ -62,19 +66,57 @@ pub fn context_of<'p>(
         data_first,
         bytes_first,
         bytes,
+        number: None,
         firsts: None,
     })
 }
 
-/// The same context, where the variables of its block lie so.
-pub fn with_firsts<'p>(context: Context<'p>, firsts: &'p FirstCells<'p>) -> Context<'p>
+/// The same context, where the variables of its project's blocks lie so.
+pub fn with_firsts<'p>(context: Context<'p>, firsts: &'p FirstCells) -> Context<'p>
     ensures is { (source : Source) → IsContext context.entry source
-        → AreFirsts firsts.now source.project (block_in context.entry) → IsContext result source }
+        → AreFirsts firsts.now source.project → IsContext result source }
     ensures scope { result.scope ≡ context.entry.scope }
     ensures block { block_in result ≡ block_in context.entry }
 {
     Context {
         firsts: Some(firsts),
+        ..context
+    }
+}
+
+/// The context of the project's block of this number, if there is one.
+pub fn context_at<'p>(context: Context<'p>, number: usize) -> Option<Context<'p>>
+    ensures is { (source : Source) → IsContext context.entry source
+        → IfSome result (λ c. IsContext c source) }
+    ensures block { option_map block_in result
+        ≡ slice_get (blocks_of context.entry.scope.tables.now) number }
+{
+    match context.scope.tables.entries().get(number) {
+        Some(entry) => Some(Context {
+            scope: Scope {
+                tables: context.scope.tables,
+                entry,
+            },
+            number: Some(number),
+            ..context
+        }),
+        None => None,
+    }
+}
+
+/// The context of another block of the project, which is the first of its name.
+pub fn context_in<'p>(context: Context<'p>, entry: &'p Entry<'p>) -> Context<'p>
+    ensures is { (source : Source) → IsContext context.entry source
+        → first_block source.project.blocks (block_of entry.now).name.key
+        ≡ Some (block_of entry.now) → IsContext result source }
+    ensures block { block_in result ≡ block_of entry.now }
+{
+    Context {
+        scope: Scope {
+            tables: context.scope.tables,
+            entry,
+        },
+        number: context.scope.tables.number_of(&entry.block().name),
         ..context
     }
 }

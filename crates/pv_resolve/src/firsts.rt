@@ -1,154 +1,233 @@
-//! Where the variables of a block lie: found once for a block, in time that is linear in them, so that of each name it is then known
-//! without a walk along those in front of it.
-ghost use Rattle.std.specs.Prelude.{◌≡◌, ◌+◌, ℕ, List, IfOk, OnOk, bytes_eq, option_map};
-ghost use Rattle.pv_types.specs.View.{type_tree, vars_tree, var_trees};
-ghost use Rattle.pv_tree.specs.Scopes.{ProjectTree, is_of_instance};
+//! Where the variables of a project's blocks lie: found once, in time that is linear in the project, so that of each name it is then
+//! known without a walk along the variables in front of it.
+ghost use Rattle.std.specs.Prelude.{◌≡◌, ◌+◌, ◌++◌, ℕ, ◌∷◌, [], map, slice_get, Some, List, IfOk, IfSome, OnOk};
+ghost use Rattle.pv_types.specs.View.{type_tree, vars_tree, var_tree, var_trees};
+ghost use Rattle.pv_types.specs.Tree.{VarTree};
+ghost use Rattle.pv_tree.specs.Scopes.{ProjectTree};
 ghost use Rattle.pv_tree.specs.Tree.{BlockTree};
 ghost use Rattle.pv_tree.specs.View.{block_tree};
 ghost use Rattle.pv_mean.specs.Layout as layout;
 ghost use Rattle.pv_mean.specs.LaidOut as counted;
 ghost use Rattle.pv_mean.specs.Sized.{sized_project};
 ghost use Rattle.pv_mean.specs.Sources.{Source};
-ghost use Rattle.pv_resolve.specs.Contexts.{IsContext, block_in};
 ghost use Rattle.pv_mean.specs.Counts.{capped};
-ghost use Rattle.pv_resolve.specs.Firsts.{laid_in, laid_after, AddsVariables, FindsLaid, AreFirsts};
+ghost use Rattle.pv_resolve.specs.Contexts.{IsContext};
+ghost use Rattle.pv_resolve.specs.Firsts.{fronts, laid_nth, AddsVariables, HasFronts, HasFirsts, AreFirsts};
 
 use crate::context::Context;
-use indexmap::IndexMap;
-use pv_edge::Text;
-use pv_mean::{BEYOND, Laid, Part, Sizes, activation_part};
-use pv_tree::Block;
-use pv_types::{DeclType, Name, Vars};
+use pv_mean::{BEYOND, Laid, Part, Sizes};
+use pv_tree::{Block, BlockKind};
+use pv_types::{Var, Vars};
 use std::alloc::{AllocError, Global};
 
-/// Where the variables of a part of a block's cells lie, counted from the part's first cell, and how many cells there are.
+/// Of each variable of a block the cells in front of it among those of a part, and the cells of all so far.
 #[derive(Drop)]
-struct PartFirsts<'p> {
-    laid: IndexMap<Text, Laid<'p>>,
+struct PartFirsts {
+    part: Part,
+    numbers: Vec<u32>,
     total: u32,
 }
 
-impl<'p> PartFirsts<'p> {
-    /// The next variable of a new name lies behind the others.
-    fn add_name(&mut self, name: &Name, ty: &'p DeclType) -> Result<(), AllocError>
-        ensures laid { OnOk result ((key : List ℕ) → laid_in self.new key
-            ≡ laid_after (bytes_eq key name.now.key) (laid_in self.old key)
-            (type_tree ty.now) self.old.total) }
-        ensures total { OnOk result (self.new.total ≡ self.old.total) }
+impl PartFirsts {
+    /// How many cells each of the variables that are declared at once has in the part.
+    fn size_of(&self, sizes: &Sizes, of: &Vars) -> u32
+        ensures { result ≡ capped (counted.size_where (counted.test_of self.now.part of.now.section)
+            (layout.size_in (sized_project sizes.now) (type_tree of.now.ty))) }
     {
-        let own = name.key();
-        if self.laid.contains_key(own) {
-            return Ok(());
+        if self.part.has(of.section) {
+            sizes.of_type(&of.ty)
+        } else {
+            0
         }
-        let key = own.clone()?;
-        let first = self.total;
-        self.laid.insert(key, Laid { ty, first })?;
-        Ok(())
     }
 
     /// Puts a variable of so many cells behind the others.
-    fn add_word(&mut self, name: &Name, ty: &'p DeclType, size: u32) -> Result<(), AllocError>
-        ensures laid { OnOk result ((key : List ℕ) → laid_in self.new key
-            ≡ laid_after (bytes_eq key name.now.key) (laid_in self.old key)
-            (type_tree ty.now) self.old.total) }
+    fn add_one(&mut self, size: u32) -> Result<(), AllocError>
+        ensures part { OnOk result (self.new.part ≡ self.old.part) }
+        ensures numbers { OnOk result (self.new.numbers.items
+            ≡ self.old.numbers.items ++ self.old.total ∷ []) }
         ensures total { OnOk result (self.new.total ≡ capped (self.old.total + size)) }
     {
-        self.add_name(name, ty)?;
+        self.numbers.push(self.total)?;
         self.total = self.total.saturating_add(size).min(BEYOND);
         Ok(())
     }
 
-    /// Puts variables that are declared at once behind the others, if they are of the part.
-    fn add(&mut self, sizes: &Sizes, part: Part, of: &'p Vars) -> Result<(), AllocError>
-        ensures { OnOk result (AddsVariables (sized_project sizes.now) (counted.test_of part)
-            self.old self.new (vars_tree of.now)) }
+    /// Puts variables that are declared at once behind the others.
+    fn add(&mut self, sizes: &Sizes, of: &Vars) -> Result<(), AllocError>
+        ensures { OnOk result (AddsVariables (sized_project sizes.now) self.old self.new
+            (vars_tree of.now)) }
     {
-        if !part.has(of.section) {
-            return Ok(());
-        }
-        let size = sizes.of_type(&of.ty);
-        for word in &of.names {
-            self.add_word(&word.0, &of.ty, size)?;
+        let size = self.size_of(sizes, of);
+        for _word in &of.names {
+            self.add_one(size)?;
         }
         Ok(())
     }
 
-    /// Those of a part of the variables.
-    fn of(
-        alloc: Global,
-        sizes: &Sizes,
-        part: Part,
-        vars: &'p [Vars],
-    ) -> Result<PartFirsts<'p>, AllocError>
-        ensures { IfOk result (λ p. FindsLaid p (sized_project sizes.now) (counted.test_of part)
-            (var_trees vars.now)) }
+    /// Those of a part of these variables.
+    fn of(alloc: Global, sizes: &Sizes, part: Part, vars: &[Vars]) -> Result<PartFirsts, AllocError>
+        ensures { IfOk result (HasFronts (sized_project sizes.now) (var_trees vars.now)) }
     {
         let mut so_far = PartFirsts {
-            laid: IndexMap::new(alloc),
+            part,
+            numbers: Vec::new(alloc),
             total: 0,
         };
         for of in vars {
-            so_far.add(sizes, part, of)?;
+            so_far.add(sizes, of)?;
         }
         Ok(so_far)
     }
 
-    /// The variable of this name, if there is one.
-    fn find(&self, name: &Name) -> Option<Laid<'p>>
-        ensures { option_map counted.laid_tree result ≡ laid_in self.now name.now.key }
+    /// The variable, which has this number, if it is of the part.
+    fn laid<'p>(&self, var: Var<'p>, number: usize) -> Option<Laid<'p>>
+        ensures { (project : ProjectTree) (vars : List VarTree) → HasFronts project vars self.now
+            → slice_get vars number ≡ Some (var_tree var.entry)
+            → IfSome result (λ laid. laid_nth project (counted.test_of self.now.part) vars number 0
+            ≡ Some (counted.laid_tree laid)) }
     {
-        match self.laid.get(name.key()) {
-            Some(found) => Some(*found),
+        if !self.part.has(var.of.section) {
+            return None;
+        }
+        match self.numbers.as_slice().get(number) {
+            Some(first) => Some(Laid {
+                ty: &var.of.ty,
+                first: *first,
+            }),
+            None => None,
+        }
+    }
+
+    /// The variable of this number, if it is of the part.
+    fn nth<'p>(&self, vars: &[Var<'p>], number: usize) -> Option<Laid<'p>>
+        ensures { (project : ProjectTree) → HasFronts project (map var_tree vars.now) self.now
+            → IfSome result (λ laid. laid_nth project (counted.test_of self.now.part)
+            (map var_tree vars.now) number 0 ≡ Some (counted.laid_tree laid)) }
+    {
+        match vars.get(number) {
+            Some(var) => self.laid(*var, number),
             None => None,
         }
     }
 }
 
-/// Where the variables of a block lie among the cells of its activation, and among those of its instance.
+/// The tables of a block: of a data block its fields, of a type what an instance has, of a function or an OB what an activation has;
+/// and of a function block its temporary variables besides.
 #[derive(Drop)]
-pub struct FirstCells<'p> {
-    brief: PartFirsts<'p>,
-    own: PartFirsts<'p>,
+struct BlockFirsts {
+    main: PartFirsts,
+    temporary: Option<PartFirsts>,
 }
 
-impl<'p> FirstCells<'p> {
+/// The part of the first table of a block.
+fn main_part(kind: &BlockKind) -> Part {
+    match kind {
+        BlockKind::Fb | BlockKind::Udt => Part::Instance,
+        BlockKind::Fc | BlockKind::Ob => Part::Activation,
+        BlockKind::Db { .. } => Part::Fields,
+    }
+}
+
+/// The table of a function block's temporary variables; other blocks have none.
+fn temporary_of(
+    alloc: Global,
+    sizes: &Sizes,
+    block: &Block,
+) -> Result<Option<PartFirsts>, AllocError>
+    ensures { IfOk result (λ o. IfSome o (HasFronts (sized_project sizes.now)
+        (block_tree block.now).vars)) }
+{
+    match block.kind {
+        BlockKind::Fb => {
+            let vars = block.interface.vars.as_slice();
+            let firsts = PartFirsts::of(alloc, sizes, Part::Temporary, vars)?;
+            Ok(Some(firsts))
+        }
+        BlockKind::Fc | BlockKind::Ob | BlockKind::Db { .. } | BlockKind::Udt => Ok(None),
+    }
+}
+
+impl BlockFirsts {
     /// Those of a block of the project of these sizes.
-    fn of_block(
-        alloc: Global,
-        sizes: &Sizes,
-        block: &'p Block,
-    ) -> Result<FirstCells<'p>, AllocError>
-        ensures { IfOk result (λ f. AreFirsts f (sized_project sizes.now) (block_tree block.now)) }
+    fn of(alloc: Global, sizes: &Sizes, block: &Block) -> Result<BlockFirsts, AllocError>
+        ensures { IfOk result (HasFirsts (sized_project sizes.now) (block_tree block.now).vars) }
     {
         let vars = block.interface.vars.as_slice();
-        let brief = PartFirsts::of(alloc, sizes, activation_part(&block.kind), vars)?;
-        let own = PartFirsts::of(alloc, sizes, Part::Instance, vars)?;
-        Ok(FirstCells { brief, own })
+        let main = PartFirsts::of(alloc, sizes, main_part(&block.kind), vars)?;
+        let temporary = temporary_of(alloc, sizes, block)?;
+        Ok(BlockFirsts { main, temporary })
     }
 
-    /// Those of the context's block.
-    pub fn of(alloc: Global, context: &Context<'p>) -> Result<FirstCells<'p>, AllocError>
+    /// The table of a part, if the block has one.
+    fn of_part(&self, part: Part) -> Option<&PartFirsts>
+        ensures part { IfSome result (λ p. p.now.part ≡ part) }
+        ensures fronts { (project : ProjectTree) (vars : List VarTree) → HasFirsts project vars self.now
+            → IfSome result (λ p. HasFronts project vars p.now) }
+    {
+        if self.main.part == part {
+            return Some(&self.main);
+        }
+        match &self.temporary {
+            Some(firsts) => {
+                if firsts.part == part {
+                    Some(firsts)
+                } else {
+                    None
+                }
+            }
+            None => None,
+        }
+    }
+
+    /// The variable of this number, if it is of the part and the block has the part's table.
+    fn nth<'p>(&self, part: Part, vars: &[Var<'p>], number: usize) -> Option<Laid<'p>>
+        ensures { (project : ProjectTree) → HasFirsts project (map var_tree vars.now) self.now
+            → IfSome result (λ laid. laid_nth project (counted.test_of part)
+            (map var_tree vars.now) number 0 ≡ Some (counted.laid_tree laid)) }
+    {
+        match self.of_part(part) {
+            Some(firsts) => firsts.nth(vars, number),
+            None => None,
+        }
+    }
+}
+
+/// Where the variables of the blocks of a project lie.
+#[derive(Drop)]
+pub struct FirstCells {
+    blocks: Vec<BlockFirsts>,
+}
+
+impl FirstCells {
+    /// Those of the context's project.
+    pub fn of(alloc: Global, context: &Context) -> Result<FirstCells, AllocError>
         ensures { (source : Source) → IsContext context.now source
-            → IfOk result (λ f. AreFirsts f source.project (block_in context.now)) }
+            → IfOk result (λ f. AreFirsts f source.project) }
     {
-        FirstCells::of_block(alloc, context.sizes, context.scope.entry.block())
+        let mut blocks = Vec::new(alloc);
+        for entry in context.scope.tables.entries() {
+            blocks.push(BlockFirsts::of(alloc, context.sizes, entry.block())?)?;
+        }
+        Ok(FirstCells { blocks })
     }
 
-    /// The variable of this name that lives within one activation, if there is one.
-    pub(crate) fn brief(&self, name: &Name) -> Option<Laid<'p>>
-        ensures { (project : ProjectTree) (block : BlockTree) → AreFirsts self.now project block
-            → option_map counted.laid_tree result ≡ option_map counted.capped_laid
-            (layout.laid_among project (layout.is_brief_in block) block.vars name.now.key 0) }
+    /// The variable of this number of the block of that number, if it is of the part and the block has the part's table.
+    pub(crate) fn nth<'p>(
+        &self,
+        block: usize,
+        part: Part,
+        vars: &[Var<'p>],
+        number: usize,
+    ) -> Option<Laid<'p>>
+        ensures { (project : ProjectTree) (b : BlockTree) → AreFirsts self.now project
+            → slice_get project.blocks block ≡ Some b → map var_tree vars.now ≡ b.vars
+            → IfSome result (λ laid. laid_nth project (counted.test_of part) b.vars number 0
+            ≡ Some (counted.laid_tree laid)) }
     {
-        self.brief.find(name)
-    }
-
-    /// The variable of this name of the instance, if there is one.
-    pub(crate) fn own(&self, name: &Name) -> Option<Laid<'p>>
-        ensures { (project : ProjectTree) (block : BlockTree) → AreFirsts self.now project block
-            → option_map counted.laid_tree result ≡ option_map counted.capped_laid
-            (layout.laid_among project is_of_instance block.vars name.now.key 0) }
-    {
-        self.own.find(name)
+        match self.blocks.as_slice().get(block) {
+            Some(firsts) => firsts.nth(part, vars, number),
+            None => None,
+        }
     }
 }

@@ -11,13 +11,15 @@ mod firsts;
 mod forms;
 mod function;
 mod growing;
+mod held;
 mod laid;
 mod ready;
 mod resolve;
+mod variables;
 mod walk;
 
 pub use begin::{Begin, Where, number_of, start_of};
-pub use context::{Context, context_of, with_firsts};
+pub use context::{Context, context_at, context_in, context_of, with_firsts};
 pub use fault::ResolveFault;
 pub use firsts::FirstCells;
 pub use laid::LaidLevel;

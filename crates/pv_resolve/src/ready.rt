@@ -23,8 +23,8 @@ impl<'p> Context<'p> {
             → IfErr result (λ e. e ≡ NoMemory) }
     {
         let mut nodes = Vec::new(alloc);
-        let n = self.expr(alloc, &mut nodes, e)?;
-        let expression = Expression::of(alloc, nodes.as_slice(), n)?;
+        let made = self.expr(alloc, &mut nodes, e)?;
+        let expression = Expression::of(alloc, nodes.as_slice(), made.node)?;
         Ok(expression)
     }
 
@@ -37,8 +37,8 @@ impl<'p> Context<'p> {
             → IfErr result (λ e. e ≡ NoMemory) }
     {
         let mut nodes = Vec::new(alloc);
-        let at = self.operand(alloc, &mut nodes, operand)?;
-        let target = Target::of(alloc, nodes.as_slice(), at)?;
+        let found = self.operand(alloc, &mut nodes, operand)?;
+        let target = Target::of(alloc, nodes.as_slice(), found.operand)?;
         Ok(target)
     }
 }

@@ -18,7 +18,7 @@ ghost use Rattle.pv_eval.specs.Means.{Makes};
 ghost use Rattle.pv_resolve.specs.Contexts.{IsContext};
 ghost use Rattle.pv_resolve.specs.Laying.{laid_tree};
 ghost use Rattle.pv_resolve.specs.declared.begin.Begin.TheVariants.{In};
-ghost use Rattle.pv_resolve.specs.Begins.{HasSpot, begin_at, begins_in, begins_further, begins_behind, walk_at, address_value};
+ghost use Rattle.pv_resolve.specs.Begins.{HasSpot, HoldsBlock, begin_at, begins_in, begins_further, begins_behind, walk_at, address_value};
 ghost use Rattle.pv_tree.specs.Rules.{KeepsRules};
 ghost use Rattle.pv_eval.specs.Order.{most_at};
 ghost use Rattle.pv_resolve.specs.declared.fault.ResolveFault.TheVariants.{NoMemory};
@@ -44,6 +44,8 @@ pub(crate) struct Walk<'p> {
     pub(crate) begin: Begin<'p>,
     /// The node of the address, where an index was among the steps.
     pub(crate) address: Option<u32>,
+    /// The number of the block that holds it, if that is known: where no step was gone yet.
+    pub(crate) block: Option<usize>,
 }
 
 /// The bounds of an array and the type of its elements.
@@ -134,7 +136,8 @@ pub(crate) fn address_of(nodes: &mut Vec<Node>, walk: Walk) -> Result<u32, Resol
     ensures leads { (source : Source) (block : BlockTree) (base : List NodeOf) (root : RootOf)
         (more : StepTrees) → IsWalk source block base nodes.old.items walk.entry root more
         → IfOk result (λ n. IsWalk source block base nodes.new.items
-        (record { begin = walk.entry.begin; address = Some n }) root more) }
+        (record { begin = walk.entry.begin; address = Some n; block = walk.entry.block }) root
+        more) }
 {
     match walk.address {
         Some(n) => Ok(n),
@@ -143,6 +146,32 @@ pub(crate) fn address_of(nodes: &mut Vec<Node>, walk: Walk) -> Result<u32, Resol
 }
 
 impl<'p> Context<'p> {
+    /// The field of this name where a name begins, with steps behind it, which is what the block of this number holds, if one is given.
+    pub(crate) fn field_behind(
+        &self,
+        block: Option<usize>,
+        begin: Begin<'p>,
+        name: &Name,
+    ) -> Result<Begin<'p>, ResolveFault>
+        ensures value { (source : Source) → IsContext self.now source
+            → HoldsBlock source.project begin.entry block
+            → IfOk result (λ b. (address : Option ℕ) (a : ℤ) (first : ℕ)
+            → begins_behind address a (begin_at b first)
+            ≡ field_begins source (begins_behind address a (begin_at begin.entry first)) name.now.key) }
+        ensures spot { IfOk result HasSpot }
+        ensures room { (source : Source) (more : ℕ) → IsContext self.now source
+            → HoldsBlock source.project begin.entry block → KeepsRules source.project
+            → BeginsRoomy source.project more (begin_at begin.entry 0) → IsOk result }
+    {
+        match begin {
+            Begin::In(part, laid) => {
+                let found = self.field_found(block, laid, name)?;
+                Ok(begin_with(part, found))
+            }
+            Begin::At(_) => Ok(Begin::At(Spot::Nowhere)),
+        }
+    }
+
     /// The field of this name where a name begins, with steps behind it.
     pub fn field(&self, begin: Begin<'p>, name: &Name) -> Result<Begin<'p>, ResolveFault>
         ensures value { (source : Source) → IsContext self.now source
@@ -154,13 +183,7 @@ impl<'p> Context<'p> {
             → KeepsRules source.project
             → BeginsRoomy source.project more (begin_at begin.entry 0) → IsOk result }
     {
-        match begin {
-            Begin::In(part, laid) => {
-                let found = self.field_laid(laid, name)?;
-                Ok(begin_with(part, found))
-            }
-            Begin::At(_) => Ok(Begin::At(Spot::Nowhere)),
-        }
+        self.field_behind(None, begin, name)
     }
 
     /// On to the element of an array.
@@ -207,6 +230,7 @@ impl<'p> Context<'p> {
         Ok(Walk {
             begin: Begin::In(part, LaidLevel { ty, first }),
             address: Some(n),
+            block: None,
         })
     }
 
@@ -252,6 +276,7 @@ impl<'p> Context<'p> {
                 Ok(Walk {
                     begin: Begin::At(Spot::Nowhere),
                     address: Some(n),
+                    block: None,
                 })
             }
         }
@@ -287,6 +312,7 @@ impl<'p> Context<'p> {
             Begin::At(_) => Ok(Walk {
                 begin: Begin::At(Spot::Nowhere),
                 address: None,
+                block: None,
             }),
         }
     }

@@ -5,10 +5,7 @@ use crate::reading::{
 use pv_names::{Entry, Scope, Tables, Want, entries};
 use pv_place::Place;
 use pv_rows_form::{Row, Told};
-use pv_rules_code::{
-    fixed_output, fixed_target, outside_loop, wrong_argument, wrong_case, wrong_condition,
-    wrong_counter, wrong_step,
-};
+use pv_rules_code::{CodeNear, nearest_in_code};
 use pv_rules_decl::{check_expression, pattern_breach};
 use pv_tree::{Block, Expr, Operand, Project};
 use pv_types::Name;
@@ -96,30 +93,33 @@ pub fn tell_checked(row: Row<'_>, told: &mut Told) {
 }
 
 /// A rule with its least place, where it is broken.
-fn tell_least(rule: i128, place: Result<Option<Place>, AllocError>, told: &mut Told) {
-    match place {
-        Ok(Some(place)) => {
-            told.number(rule);
-            told.text(" at ");
-            told.number(i128::from(place.offset));
-            told.text(" ");
-        }
-        Ok(None) => {}
-        Err(_) => told.lose(),
+fn tell_least(rule: i128, place: Option<Place>, told: &mut Told) {
+    if let Some(place) = place {
+        told.number(rule);
+        told.text(" at ");
+        told.number(i128::from(place.offset));
+        told.text(" ");
     }
 }
 
 /// The rules on statements and calls that are broken, each with its least place.
+fn tell_near(near: CodeNear, told: &mut Told) {
+    tell_least(5, near.condition, told);
+    tell_least(9, near.target, told);
+    tell_least(10, near.counter, told);
+    tell_least(11, near.step, told);
+    tell_least(12, near.leave, told);
+    tell_least(13, near.choice, told);
+    tell_least(17, near.argument, told);
+    tell_least(18, near.output, told);
+}
+
+/// The same of the blocks of these tables.
 fn tell_rules(tables: &Tables, told: &mut Told) {
-    let alloc = told.alloc();
-    tell_least(5, wrong_condition(alloc, tables), told);
-    tell_least(9, fixed_target(alloc, tables), told);
-    tell_least(10, wrong_counter(alloc, tables), told);
-    tell_least(11, wrong_step(alloc, tables), told);
-    tell_least(12, outside_loop(alloc, tables), told);
-    tell_least(13, wrong_case(alloc, tables), told);
-    tell_least(17, wrong_argument(alloc, tables), told);
-    tell_least(18, fixed_output(alloc, tables), told);
+    match nearest_in_code(told.alloc(), tables) {
+        Ok(near) => tell_near(near, told),
+        Err(_) => told.lose(),
+    }
 }
 
 /// The same of entered blocks.

@@ -1,4 +1,8 @@
 //! Rows, run one by one.
+ghost use Rattle.std.specs.Prelude.{◌≡◌, map, true, IfSome};
+ghost use Rattle.pv_report.specs.Places.{file_lines};
+ghost use Rattle.pv_report.specs.Correct.{LiesIn, EndsIn};
+
 use crate::claim::verdict_of;
 use crate::files::files_of;
 use crate::judged::tell_judged;
@@ -6,6 +10,7 @@ use crate::trace::{said, trace_of};
 use pv_claims::{Ending, Trace};
 use pv_command_load::{SourceText, Subject, SubjectStop, subject_in};
 use pv_pattern::Pattern;
+use pv_place::Place;
 use pv_program::make;
 use pv_replay::Replay;
 use pv_report::{FileLines, Places, Verdict, status, text};
@@ -89,17 +94,47 @@ fn places_of(sources: &[SourceText], told: &mut Told) -> Places {
     Places { files }
 }
 
+/// Whether a place lies in one of the files.
+fn lies_in(places: &Places, place: Place) -> bool
+    ensures { result ≡ true → LiesIn (map file_lines places.now.files.items) place }
+{
+    (place.file as usize) < places.files.as_slice().len()
+}
+
+/// Whether the place of an ending, if it has one, lies in one of the files.
+fn ends_in(places: &Places, ending: Option<Ending>) -> bool
+    ensures { result ≡ true → IfSome ending (EndsIn (map file_lines places.now.files.items)) }
+{
+    match ending {
+        None => true,
+        Some(Ending::Pattern) => true,
+        Some(Ending::Trap(_, place)) => lies_in(places, place),
+        Some(Ending::Over(place)) => lies_in(places, place),
+    }
+}
+
 /// The status and the report of a verdict.
 fn tell_report(subject: &Subject, verdict: &Verdict, told: &mut Told) {
     let places = places_of(subject.sources.as_slice(), told);
     told.text("; ");
     told.number(i128::from(status(verdict.claim)));
     told.text(" ");
+    if ends_in(&places, verdict.ending) {
+        tell_text(subject, &places, verdict, told);
+    } else {
+        told.text("a place in no file");
+    }
+}
+
+/// The report of a verdict, whose places lie in the files.
+fn tell_text(subject: &Subject, places: &Places, verdict: &Verdict, told: &mut Told)
+    requires { IfSome verdict.now.ending (EndsIn (map file_lines places.now.files.items)) }
+{
     match text(
         told.alloc(),
         &subject.case,
         subject.table.cells(),
-        &places,
+        places,
         verdict,
     ) {
         Ok(report) => told.bytes(report.as_slice()),

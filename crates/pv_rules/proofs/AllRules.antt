@@ -17,11 +17,11 @@ found rule place = record { rule = rule; place = place }
 abbrev pub all_found : Nearest → List Found
 all_found n =
     found DoubledName n.declared.doubled ∷ found MissingName n.whole.missing ∷ found MissingType n.declared.untyped
-    ∷ found Misfit n.whole.misfit ∷ found WrongCondition n.stated.condition ∷ found OutOfRange n.whole.outside
-    ∷ found WrongArray n.declared.array ∷ found BeyondBounds n.whole.beyond ∷ found FixedTarget n.stated.target
-    ∷ found WrongCounter n.stated.counter ∷ found WrongStep n.stated.step ∷ found OutsideLoop n.stated.leave
-    ∷ found WrongCase n.stated.choice ∷ found Cycle n.chained.cycle ∷ found TooDeep n.chained.deep
-    ∷ found NotCallable n.whole.uncallable ∷ found WrongArgument n.stated.argument ∷ found FixedOutput n.stated.output
+    ∷ found Misfit n.whole.misfit ∷ found WrongCondition n.code.condition ∷ found OutOfRange n.whole.outside
+    ∷ found WrongArray n.declared.array ∷ found BeyondBounds n.whole.beyond ∷ found FixedTarget n.code.target
+    ∷ found WrongCounter n.code.counter ∷ found WrongStep n.code.step ∷ found OutsideLoop n.code.leave
+    ∷ found WrongCase n.code.choice ∷ found Cycle n.chained.cycle ∷ found TooDeep n.chained.deep
+    ∷ found NotCallable n.whole.uncallable ∷ found WrongArgument n.code.argument ∷ found FixedOutput n.code.output
     ∷ found WrongLabel n.instructed.label ∷ found WrongRange n.instructed.range ∷ found WrongNesting n.instructed.nesting
     ∷ found RefusedOperand n.instructed.operand ∷ found WrongAddress n.whole.address ∷ []
 
@@ -35,7 +35,7 @@ are_near project n h = (
       (
         h.whole.misfit,
         (
-          h.stated.condition,
+          h.code.condition,
           (
             h.whole.outside,
             (
@@ -43,15 +43,15 @@ are_near project n h = (
               (
                 h.whole.beyond,
                 (
-                  h.stated.target,
+                  h.code.target,
                   (
-                    h.stated.counter,
+                    h.code.counter,
                     (
-                      h.stated.step,
+                      h.code.step,
                       (
-                        h.stated.leave,
+                        h.code.leave,
                         (
-                          h.stated.choice,
+                          h.code.choice,
                           (
                             h.chained.cycle,
                             (
@@ -59,9 +59,9 @@ are_near project n h = (
                               (
                                 h.whole.uncallable,
                                 (
-                                  h.stated.argument,
+                                  h.code.argument,
                                   (
-                                    h.stated.output,
+                                    h.code.output,
                                     (
                                       h.instructed.label,
                                       (

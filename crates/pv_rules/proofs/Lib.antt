@@ -1,4 +1,5 @@
 pub mod AllRules
+pub mod CallsAmong
 pub mod Gathering
 pub mod Making
 pub mod OutputLaws

@@ -1,9 +1,10 @@
 -- Which operands calls write: a name that comes to a function has no steps, so it is told apart from others by its root and its place.
-use Rattle.std.proofs.Common.{◌≡◌, ℕ, refl, sym, ap, subst, ◌∙◌, inl, inr, List, [], ◌∷◌, Option, Some, None, Bool, true, false, ◌&&◌, ◌||◌, true≢false, IsTrue, arith}
+use Rattle.std.proofs.Common.{◌≡◌, ℕ, refl, sym, ap, subst, ◌∙◌, inl, inr, List, [], ◌∷◌, Option, Some, None, Bool, true, false, ◌&&◌, ◌||◌, is_some, true≢false, IsTrue, arith}
 use Rattle.std.specs.Prelude.{◌⊎◌, Any, not, nat_eq, bytes_eq, if◌then◌else◌}
 use Rattle.std.specs.List.{list_any}
 use Rattle.std.proofs.lemmas.Slice.Eq.{bytes_eq-Decides}
 use Rattle.std.proofs.lemmas.Bool.Decides.{nat_tests}
+use Rattle.std.proofs.lemmas.Option.{same_Some}
 use Rattle.pv_word.specs.declared.types.Ty.{Ty}
 use Rattle.pv_place.specs.declared.place.Place.{Place}
 use Rattle.pv_types.specs.declared.name.Name.{Name}
@@ -13,17 +14,20 @@ use Rattle.pv_tree.specs.declared.block.BlockKind.{BlockKind}
 use Rattle.pv_tree.specs.declared.block.BlockKind.TheVariants.{Fb, Fc, Ob, Db, Udt}
 use Rattle.pv_tree.specs.declared.expr.Root.{Root}
 use Rattle.pv_tree.specs.declared.expr.Root.TheVariants.{Local, Named, Area}
-use Rattle.pv_tree.specs.Tree.{OperandTree, operand, StepTree, field, index, StepTrees, no_steps, steps, ArgTree, BlockTree}
+use Rattle.pv_tree.specs.Tree.{ExprTree, lit, read, unary, binary, std, paren, OperandTree, operand, StepTree, field, index, StepTrees, no_steps, steps, ArgTree, BlockTree}
 use Rattle.pv_tree.specs.Scopes.{Scope, first_var, type_named}
 use Rattle.pv_tree.specs.Things.{Thing, part, constant, a_block, no_name, no_array, a_date, untold, first_place, is_date, is_address, type_of_bits, dated, thing_at, thing_behind, last_behind, root_place, thing_of_root, thing_of, field_where, field_within, field_of_type, field_of_kind, field_of_thing, no_array_where, element_of_thing}
-use Rattle.pv_tree.specs.Callees.{CallSite, param_of_arg}
+use Rattle.pv_tree.specs.Callees.{Callee, How, CallSite, callee_of, param_of_arg}
 use Rattle.pv_tree.specs.Parts.{calls_of, operand_of, path_of, thing_of_path}
 use Rattle.pv_tree.specs.Rules.Callable.{is_void_thing, ReadsVoid, is_output_where, IsOutputArgument}
-use Rattle.pv_rules_expr.specs.Members.{HasSome}
-use Rattle.pv_rules_expr.specs.Nearest.{IsNearest}
+use Rattle.pv_tree.specs.Operands.{operands_in, operands_within}
+use Rattle.pv_rules_expr.specs.Members.{HasSome, Has}
+use Rattle.pv_rules_expr.specs.Nearest.{IsUpTo, IsNearest, nearer_of}
+use Rattle.pv_rules_expr.specs.NearestIn.{nearest_in}
 use Rattle.pv_rules_expr.specs.Places.{place_where}
 use Rattle.pv_rules_expr.proofs.ForCallers.{any_has, has_any, nearest_same, nearest_where}
-use Rattle.pv_rules.specs.Outputs.{same_place, same_name, same_truth, same_root, same_plain, is_that, passes_out, call_writes, is_written}
+use Rattle.pv_rules_code.specs.AtCalls.{param_in}
+use Rattle.pv_rules.specs.Outputs.{same_place, same_name, same_truth, same_root, same_plain, is_that, passes_out, hands_out, call_writes, is_written}
 use Rattle.pv_rules.specs.Values.{unless, value_at}
 
 -- ---- equal where the tests pass
@@ -290,3 +294,68 @@ value_nearest scope calls all (operand root more place) =
 
     out : Bool
     out = is_written scope calls (operand root more place)
+
+-- ---- the nearest with an operand, and with one that an argument hands out
+
+-- one that isn't nearer changes nothing, nor does none
+pub not_nearer : (n : Option Place) (at : Place) (out : Bool) → IsUpTo n at → nearer_of n (unless out (Some at)) ≡ n
+not_nearer None at out h = absurd h
+not_nearer (Some a) at true h = refl
+not_nearer (Some a) at false h = ap (λ b. if b then Some a else Some at) h
+
+nearer_none : (n : Option Place) → nearer_of n None ≡ n
+nearer_none None = refl
+nearer_none (Some a) = refl
+
+unless_none : (out : Bool) → unless out None ≡ None
+unless_none true = refl
+unless_none false = refl
+
+pub not_void : (n : Option Place) (out : Bool) → n ≡ nearer_of n (unless out None)
+not_void n out = sym (ap (nearer_of n) (unless_none out) ∙ nearer_none n)
+
+-- an operand that an argument hands out reads no value
+handed_none : (scope : Scope) (calls : List CallSite) (callee : Callee) (how : How) (a : ArgTree)
+    → ((o : OperandTree) → IsTrue (hands_out callee how a o) → IsTrue (is_written scope calls o)) → (o : OperandTree) → operand_of a.value ≡ Some o
+    → IsTrue (is_output_where (param_in callee how a)) → value_at scope calls o ≡ None
+handed_none scope calls callee how a written (operand root more place) is output =
+    lead (is_void_thing (thing_of scope o)) (is_written scope calls o)
+    (λ void. written o (on_both (is_that (operand_of a.value) o) (is_output_where (param_in callee how a))
+    (subst (λ q. IsTrue (is_that q o)) (sym is) (void_self scope o void)) output))
+  where
+    o : OperandTree
+    o = operand root more place
+
+    lead : (void out : Bool) → (IsTrue void → IsTrue out) → unless out (place_where void (root_place root place)) ≡ None
+    lead true out f = ap (λ b. unless b (Some (root_place root place))) (f refl)
+    lead false out f = unless_none out
+
+reads_one : (e : ExprTree) (o : OperandTree) → operand_of e ≡ Some o → operands_in e ≡ o ∷ operands_within o
+reads_one (read p) o is = ap (λ q. q ∷ operands_within q) (same_Some p o is)
+reads_one (lit ty value place) o is = absurd (true≢false (sym (ap is_some is)))
+reads_one (unary op place arg) o is = absurd (true≢false (sym (ap is_some is)))
+reads_one (binary op place left right) o is = absurd (true≢false (sym (ap is_some is)))
+reads_one (std function place args) o is = absurd (true≢false (sym (ap is_some is)))
+reads_one (paren place inner) o is = absurd (true≢false (sym (ap is_some is)))
+
+-- so only those of its indexes are looked at
+pub handed : (scope : Scope) (calls : List CallSite) (callee : Callee) (how : How) (a : ArgTree)
+    → ((o : OperandTree) → IsTrue (hands_out callee how a o) → IsTrue (is_written scope calls o)) → (o : OperandTree) → operand_of a.value ≡ Some o
+    → IsTrue (is_output_where (param_in callee how a)) → (n new : Option Place) → new ≡ nearest_in (value_at scope calls) (operands_within o) n
+    → new ≡ nearest_in (value_at scope calls) (operands_in a.value) n
+handed scope calls callee how a written o is output n new looked =
+    looked
+    ∙ ap (nearest_in (value_at scope calls) (operands_within o))
+    (sym (ap (nearer_of n) (handed_none scope calls callee how a written o is output) ∙ nearer_none n))
+    ∙ ap (λ l. nearest_in (value_at scope calls) l n) (sym (reads_one a.value o is))
+
+-- what an argument of one of the calls hands out is written
+pub hands_written : (scope : Scope) (calls : List CallSite) (s : CallSite) (callee : Callee) (a : ArgTree) → Has calls s → callee ≡ callee_of scope s
+    → Has s.call.args a → (o : OperandTree) → IsTrue (hands_out callee s.how a o) → IsTrue (is_written scope calls o)
+hands_written scope calls s callee a in_calls comes in_args o h =
+    test_of (call_writes scope o) calls
+    (some_each (λ c. c ≡ s) (λ c. IsTrue (call_writes scope o c)) calls
+    (λ c e. subst (λ c. IsTrue (call_writes scope o c)) (sym e)
+    (test_of (passes_out scope o s) s.call.args
+    (some_each (λ b. b ≡ a) (λ b. IsTrue (passes_out scope o s b)) s.call.args
+    (λ b f. subst (λ b. IsTrue (passes_out scope o s b)) (sym f) (subst (λ k. IsTrue (hands_out k s.how a o)) comes h)) in_args))) in_calls)

@@ -1,15 +1,16 @@
 -- The nearest place along a list whose elements each give a list of their own, and whether one of those passes a test: one element more of those
 -- that are left.
-use Rattle.std.proofs.Common.{◌≡◌, ℕ, ◌<◌, ◌≤◌, ◌+◌, suc, sym, ap, ◌∙◌, List, ◌∷◌, ◌++◌, map, Option, Some, None, Bool, true, false, ◌||◌, drop, get_or, length, arith}
+use Rattle.std.proofs.Common.{◌≡◌, ℕ, zero, suc, ◌<◌, ◌≤◌, ◌+◌, refl, sym, ap, subst, ◌∙◌, inl, List, [], ◌∷◌, ◌++◌, map, Option, Some, None, Bool, true, false, ◌||◌, drop, get_or, length, arith}
 use Rattle.std.specs.Prelude.{flat_map, option_map, option_to_list}
 use Rattle.std.specs.List.{list_any}
 use Rattle.std.proofs.Math.Seq.{drop-cons}
 use Rattle.std.proofs.lemmas.List.{append-nil, drop_all}
 use Rattle.std.proofs.lemmas.List.Folds.{list_any-append}
 use Rattle.pv_place.specs.declared.place.Place.{Place}
+use Rattle.pv_rules_expr.specs.Members.{HasSome, Has}
 use Rattle.pv_rules_expr.specs.Nearest.{nearer_of}
 use Rattle.pv_rules_expr.specs.NearestIn.{nearest_in}
-use Rattle.pv_rules_expr.proofs.ForCallers.{in_append}
+use Rattle.pv_rules_expr.proofs.ForCallers.{has_behind, has_front, in_append}
 
 -- one list behind another
 pub near_two : {Y : Type 0} (f : Y → Option Place) (xs ys : List Y) (n m new : Option Place) → m ≡ nearest_in f xs n → new ≡ nearest_in f ys m
@@ -24,10 +25,9 @@ near_three f xs ys zs n m k new first second third =
 
 -- one, where there is one
 module _ {X Y : Type 0} (g : X → Y) (o : Option X) (p : Option Y) (seen : option_map g o ≡ p) where
-  pub near_one : (f : Y → Option Place) (x : X) (n new at : Option Place) → o ≡ Some x → at ≡ f (g x) → new ≡ nearer_of n at
+  pub near_one : (f : Y → Option Place) (x : X) (n new : Option Place) → o ≡ Some x → new ≡ nearer_of n (f (g x))
       → new ≡ nearest_in f (option_to_list p) n
-  near_one f x n new at is found looked =
-      looked ∙ ap (nearer_of n) found ∙ ap (λ q. nearest_in f (option_to_list q) n) (sym (ap (option_map g) is) ∙ seen)
+  near_one f x n new is looked = looked ∙ ap (λ q. nearest_in f (option_to_list q) n) (sym (ap (option_map g) is) ∙ seen)
 
   pub near_no : (f : Y → Option Place) (n : Option Place) → o ≡ None → n ≡ nearest_in f (option_to_list p) n
   near_no f n is = ap (λ q. nearest_in f (option_to_list q) n) (sym (ap (option_map g) is) ∙ seen)
@@ -87,3 +87,15 @@ module _ {X Y : Type 0} (p : Y → Bool) (one : X → List Y) (all : List X → 
       ap (λ k. list_any p (all (drop k xs))) k
       ∙ ap (λ b. b || list_any p (all (drop (suc i) xs))) (sym off)
       ∙ either xs i x hit total inside is looked left
+
+-- what some element's list has, the whole has
+pub among : {X Y : Type 0} (P : Y → Type 0) (one : X → List Y) (all : List X → List Y) → ((x : X) (xs : List X) → all (x ∷ xs) ≡ one x ++ all xs)
+    → (xs : List X) (i : ℕ) (x : X) → i < length xs → x ≡ get_or xs i x → HasSome P (one x) → HasSome P (all xs)
+among P one all parts [] i x lt is h = absurd (omega (arith, lt))
+among P one all parts (y ∷ ys) zero x lt is h =
+    subst (HasSome P) (sym (parts y ys)) (has_front P (one y) (all ys) (subst (λ z. HasSome P (one z)) is h))
+among P one all parts (y ∷ ys) (suc i) x lt is h =
+    subst (HasSome P) (sym (parts y ys)) (has_behind P (one y) (all ys) (among P one all parts ys i x (omega (arith, lt)) is h))
+
+pub has_at : {X Y : Type 0} (f : X → Y) (xs : List X) (i : ℕ) (x : X) → i < length xs → x ≡ get_or xs i x → Has (map f xs) (f x)
+has_at f xs i x lt is = among (λ y. y ≡ f x) (λ z. f z ∷ []) (map f) (λ z zs. refl) xs i x lt is (inl refl)

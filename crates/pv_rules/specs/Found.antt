@@ -5,8 +5,8 @@ use Rattle.pv_tree.specs.Rules.{Rule, Breaks}
 use Rattle.std.specs.Prelude.{Option}
 use Rattle.pv_place.specs.declared.place.Place.{Place}
 use Rattle.pv_rules_expr.specs.Nearest.{IsNearest}
+use Rattle.pv_rules_code.specs.AreInCode.{AreInCode}
 use Rattle.pv_rules.specs.declared.found.Declared.{Declared}
-use Rattle.pv_rules.specs.declared.found.Stated.{Stated}
 use Rattle.pv_rules.specs.declared.found.Whole.{Whole}
 use Rattle.pv_rules.specs.declared.found.Chained.{Chained}
 use Rattle.pv_rules.specs.declared.found.Instructed.{Instructed}
@@ -19,16 +19,6 @@ pub record AreDeclared (project : ProjectTree) (d : Declared) : Type 0 where
   pub doubled : IsBreach project tree.doubled_name d.doubled
   pub untyped : IsBreach project tree.missing_type d.untyped
   pub array : IsBreach project tree.wrong_array d.array
-
-pub record AreStated (project : ProjectTree) (s : Stated) : Type 0 where
-  pub condition : IsBreach project tree.wrong_condition s.condition
-  pub target : IsBreach project tree.fixed_target s.target
-  pub counter : IsBreach project tree.wrong_counter s.counter
-  pub step : IsBreach project tree.wrong_step s.step
-  pub leave : IsBreach project tree.outside_loop s.leave
-  pub choice : IsBreach project tree.wrong_case s.choice
-  pub argument : IsBreach project tree.wrong_argument s.argument
-  pub output : IsBreach project tree.fixed_output s.output
 
 pub record AreWhole (project : ProjectTree) (w : Whole) : Type 0 where
   pub missing : IsBreach project tree.missing_name w.missing
@@ -50,7 +40,7 @@ pub record AreInstructed (project : ProjectTree) (i : Instructed) : Type 0 where
 
 pub record AreAll (project : ProjectTree) (n : Nearest) : Type 0 where
   pub declared : AreDeclared project n.declared
-  pub stated : AreStated project n.stated
+  pub code : AreInCode project n.code
   pub whole : AreWhole project n.whole
   pub chained : AreChained project n.chained
   pub instructed : AreInstructed project n.instructed

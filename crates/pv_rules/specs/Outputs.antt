@@ -7,9 +7,10 @@ use Rattle.pv_tree.specs.declared.expr.Root.{Root}
 use Rattle.pv_tree.specs.declared.expr.Root.TheVariants.{Local, Named, Area}
 use Rattle.pv_tree.specs.Tree.{OperandTree, operand, StepTrees, no_steps, steps, ArgTree}
 use Rattle.pv_tree.specs.Scopes.{Scope}
-use Rattle.pv_tree.specs.Callees.{CallSite, param_of_arg}
+use Rattle.pv_tree.specs.Callees.{Callee, How, CallSite, param_of_arg}
 use Rattle.pv_tree.specs.Parts.{operand_of}
 use Rattle.pv_tree.specs.Rules.Callable.{is_output_where}
+use Rattle.pv_rules_code.specs.AtCalls.{param_in}
 
 abbrev pub same_place : Place → Place → Truth
 same_place a b = nat_eq a.file b.file && nat_eq a.offset b.offset
@@ -47,6 +48,10 @@ is_that (Some p) o = same_plain p o
 
 abbrev pub passes_out : Scope → OperandTree → CallSite → ArgTree → Truth
 passes_out scope o s a = is_that (operand_of a.value) o && is_output_where (param_of_arg scope s a)
+
+-- the same, by what the argument's call comes to
+abbrev pub hands_out : Callee → How → ArgTree → OperandTree → Truth
+hands_out callee how a o = is_that (operand_of a.value) o && is_output_where (param_in callee how a)
 
 abbrev pub call_writes : Scope → OperandTree → CallSite → Truth
 call_writes scope o s = list_any (passes_out scope o s) s.call.args

@@ -1,5 +1,4 @@
 //! Whether blocks and symbols are a project.
-ghost use Rattle.std.specs.Prelude.{◌≡◌};
 ghost use Rattle.pv_tree.specs.Projects.{project_tree};
 ghost use Rattle.pv_rules_decl.specs.Answers.{AnswersProject};
 
@@ -26,20 +25,20 @@ pub fn check(
         make_found(Rule::MissingName, near.whole.missing),
         make_found(Rule::MissingType, near.declared.untyped),
         make_found(Rule::Misfit, near.whole.misfit),
-        make_found(Rule::WrongCondition, near.stated.condition),
+        make_found(Rule::WrongCondition, near.code.condition),
         make_found(Rule::OutOfRange, near.whole.outside),
         make_found(Rule::WrongArray, near.declared.array),
         make_found(Rule::BeyondBounds, near.whole.beyond),
-        make_found(Rule::FixedTarget, near.stated.target),
-        make_found(Rule::WrongCounter, near.stated.counter),
-        make_found(Rule::WrongStep, near.stated.step),
-        make_found(Rule::OutsideLoop, near.stated.leave),
-        make_found(Rule::WrongCase, near.stated.choice),
+        make_found(Rule::FixedTarget, near.code.target),
+        make_found(Rule::WrongCounter, near.code.counter),
+        make_found(Rule::WrongStep, near.code.step),
+        make_found(Rule::OutsideLoop, near.code.leave),
+        make_found(Rule::WrongCase, near.code.choice),
         make_found(Rule::Cycle, near.chained.cycle),
         make_found(Rule::TooDeep, near.chained.deep),
         make_found(Rule::NotCallable, near.whole.uncallable),
-        make_found(Rule::WrongArgument, near.stated.argument),
-        make_found(Rule::FixedOutput, near.stated.output),
+        make_found(Rule::WrongArgument, near.code.argument),
+        make_found(Rule::FixedOutput, near.code.output),
         make_found(Rule::WrongLabel, near.instructed.label),
         make_found(Rule::WrongRange, near.instructed.range),
         make_found(Rule::WrongNesting, near.instructed.nesting),

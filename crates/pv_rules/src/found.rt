@@ -5,17 +5,15 @@ ghost use Rattle.pv_tree.specs.Projects.{project_tree};
 ghost use Rattle.pv_tree.specs.Scopes.{ProjectTree};
 ghost use Rattle.pv_names.specs.Entries.{block_of};
 ghost use Rattle.pv_names.specs.Tables.{project_of};
-ghost use Rattle.pv_rules.specs.Found.{AreDeclared, AreStated, AreWhole, AreChained, AreInstructed, AreAll};
+ghost use Rattle.pv_rules_code.specs.AreInCode.{AreInCode};
+ghost use Rattle.pv_rules.specs.Found.{AreDeclared, AreWhole, AreChained, AreInstructed, AreAll};
 
 use crate::project_rules::{beyond_bounds, misfit, missing_name, out_of_range, wrong_address};
 use crate::values::not_callable;
 use pv_names::{Entry, Tables, entries};
 use pv_place::Place;
 use pv_rules_call::{call_cycle, call_too_deep};
-use pv_rules_code::{
-    fixed_output, fixed_target, outside_loop, wrong_argument, wrong_case, wrong_condition,
-    wrong_counter, wrong_step,
-};
+use pv_rules_code::{CodeNear, nearest_in_code};
 use pv_rules_decl::{doubled_name, missing_type, wrong_array};
 use pv_rules_instr::{refused_operand_or_literal, wrong_label, wrong_nesting, wrong_range};
 use pv_tree::{Block, Operand};
@@ -29,19 +27,6 @@ pub(crate) struct Declared {
     pub(crate) doubled: Option<Place>,
     pub(crate) untyped: Option<Place>,
     pub(crate) array: Option<Place>,
-}
-
-/// The rules on statements and calls alone.
-#[derive(Clone, Copy)]
-pub(crate) struct Stated {
-    pub(crate) condition: Option<Place>,
-    pub(crate) target: Option<Place>,
-    pub(crate) counter: Option<Place>,
-    pub(crate) step: Option<Place>,
-    pub(crate) leave: Option<Place>,
-    pub(crate) choice: Option<Place>,
-    pub(crate) argument: Option<Place>,
-    pub(crate) output: Option<Place>,
 }
 
 /// The rules that code, declarations and the values of data blocks can break.
@@ -75,7 +60,7 @@ pub(crate) struct Instructed {
 #[derive(Clone, Copy)]
 pub(crate) struct Nearest {
     pub(crate) declared: Declared,
-    pub(crate) stated: Stated,
+    pub(crate) code: CodeNear,
     pub(crate) whole: Whole,
     pub(crate) chained: Chained,
     pub(crate) instructed: Instructed,
@@ -96,45 +81,23 @@ fn declarations_near(alloc: Global, blocks: &[Block]) -> Result<Declared, AllocE
     })
 }
 
-/// Those of statements and calls.
-fn statements_near<'p>(alloc: Global, tables: &'p Tables<'p>) -> Result<Stated, AllocError>
-    ensures { IfOk result (λ s. AreStated (project_of tables.now) s) }
-{
-    let condition = wrong_condition(alloc, tables)?;
-    let target = fixed_target(alloc, tables)?;
-    let counter = wrong_counter(alloc, tables)?;
-    let step = wrong_step(alloc, tables)?;
-    let leave = outside_loop(alloc, tables)?;
-    let choice = wrong_case(alloc, tables)?;
-    let argument = wrong_argument(alloc, tables)?;
-    let output = fixed_output(alloc, tables)?;
-    Ok(Stated {
-        condition,
-        target,
-        counter,
-        step,
-        leave,
-        choice,
-        argument,
-        output,
-    })
-}
-
-/// Those of all together.
+/// Those of all together, by what breaks them in code.
 fn whole_near<'p>(
     alloc: Global,
     tables: &'p Tables<'p>,
     blocks: &[Block],
+    code: CodeNear,
 ) -> Result<Whole, AllocError>
-    requires { (project_of tables.now).blocks ≡ map block_tree blocks.now }
+    requires blocks { (project_of tables.now).blocks ≡ map block_tree blocks.now }
+    requires code { AreInCode (project_of tables.now) code }
     ensures { IfOk result (λ w. AreWhole (project_of tables.now) w) }
 {
-    let missing = missing_name(alloc, tables)?;
-    let misfit = misfit(alloc, tables, blocks)?;
-    let outside = out_of_range(alloc, tables)?;
-    let beyond = beyond_bounds(alloc, tables)?;
+    let missing = missing_name(alloc, tables, code)?;
+    let misfit = misfit(alloc, tables, blocks, code)?;
+    let outside = out_of_range(alloc, tables, code)?;
+    let beyond = beyond_bounds(alloc, tables, code)?;
     let uncallable = not_callable(alloc, tables)?;
-    let address = wrong_address(alloc, tables)?;
+    let address = wrong_address(alloc, tables, code)?;
     Ok(Whole {
         missing,
         misfit,
@@ -180,13 +143,13 @@ fn all_near<'p>(
     ensures { IfOk result (λ n. AreAll (project_of tables.now) n) }
 {
     let declared = declarations_near(alloc, blocks)?;
-    let stated = statements_near(alloc, tables)?;
-    let whole = whole_near(alloc, tables, blocks)?;
+    let code = nearest_in_code(alloc, tables)?;
+    let whole = whole_near(alloc, tables, blocks, code)?;
     let chained = chains_near(alloc, tables)?;
     let instructed = instructions_near(alloc, tables)?;
     Ok(Nearest {
         declared,
-        stated,
+        code,
         whole,
         chained,
         instructed,

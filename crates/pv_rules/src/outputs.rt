@@ -85,7 +85,7 @@ fn is_that(e: &Expr, operand: &Operand) -> bool
 }
 
 /// The parameter that an argument is for, by what its call comes to.
-fn param_in<'p>(callee: Callee<'p>, how: How, arg: &Arg) -> Option<Param<'p>>
+pub(crate) fn param_in<'p>(callee: Callee<'p>, how: How, arg: &Arg) -> Option<Param<'p>>
     ensures { option_map param_tree result
         ≡ param_in (callee_tree callee.entry) (how_tree how) (arg_tree arg.now) }
 {
@@ -98,7 +98,7 @@ fn param_in<'p>(callee: Callee<'p>, how: How, arg: &Arg) -> Option<Param<'p>>
 }
 
 /// Whether a parameter is an output.
-fn is_output(param: Option<Param>) -> bool
+pub(crate) fn is_output(param: Option<Param>) -> bool
     ensures { result ≡ callable.is_output_where (option_map param_tree param.entry) }
 {
     match param {

@@ -1,24 +1,34 @@
 //! Operands that an expression or a statement reads: the nearest one that is the name of a function without a value, and that no call
 //! writes.
-ghost use Rattle.std.specs.Prelude.{◌≡◌, ◌++◌, [], map, flat_map, option_to_list};
+//!
+//! An operand that stands for an output is written by its own call, so no other call is looked at. The calls of the code are looked
+//! through for one that stands elsewhere, and only where it is nearer than the nearest so far: so for few of those of one text.
+ghost use Rattle.std.specs.Prelude.{◌≡◌, ◌++◌, [], IsTrue, Some, map, flat_map, option_to_list};
 ghost use Rattle.pv_tree.specs.InstructionGroups as groups;
-ghost use Rattle.pv_tree.specs.Parts.{conditions_of};
-ghost use Rattle.pv_tree.specs.View.{arg_tree, call_tree, expr_tree, exprs_of, operand_tree, step_tree, stmt_tree, instr_tree, start_tree};
+ghost use Rattle.pv_tree.specs.Callees.{as_value};
+ghost use Rattle.pv_tree.specs.Parts.{calls_of_instruction, calls_of_stmt, site};
+ghost use Rattle.pv_tree.specs.Tree.{OperandTree};
+ghost use Rattle.pv_tree.specs.View.{arg_tree, call_tree, expr_tree, operand_tree, step_tree, stmt_tree, instr_tree, start_tree};
+ghost use Rattle.pv_names.specs.Callees.{callee_tree, how_tree};
 ghost use Rattle.pv_names.specs.InScope.{scope_of};
+ghost use Rattle.pv_rules_expr.specs.Members.{Has};
+ghost use Rattle.pv_rules_expr.specs.Nearest.{nearer_of};
 ghost use Rattle.pv_rules_expr.specs.NearestIn.{nearest_in};
 ghost use Rattle.pv_rules_expr.specs.Operands.{void_at};
-ghost use Rattle.pv_rules.specs.Codes.{calls_of_code};
+ghost use Rattle.pv_rules.specs.Codes.{AreAmong, calls_of_code};
+ghost use Rattle.pv_rules.specs.Outputs as outputs;
+ghost use Rattle.pv_rules.specs.Outputs.{hands_out};
 ghost use Rattle.pv_tree.specs.Operands.{operands_in, operands_within, operands_in_step};
 ghost use Rattle.pv_rules.specs.Reads.{reads_of_call, reads_of_instruction, reads_of_stmt, reads_of_starts};
-ghost use Rattle.pv_rules.specs.Values.{value_at};
+ghost use Rattle.pv_rules.specs.Values.{unless, value_at};
 
 use crate::code::Code;
-use crate::outputs::is_written;
-use pv_names::{Scope, Thing, is_void, root_place};
+use crate::outputs::{is_output, is_written, param_in};
+use pv_names::{Callee, How, Scope, Thing, how_of, is_void, root_place};
 use pv_place::Place;
-use pv_rules_expr::nearer_of;
+use pv_rules_expr::{is_nearer, nearer_of, operand_of};
 use pv_rules_instr::{operand_of_instruction, read_operand};
-use pv_tree::{Arg, Expr, ForHead, Instr, Operand, Step, Stmt};
+use pv_tree::{Arg, CallTree, Expr, ForHead, Instr, Operand, Step, Stmt};
 use pv_types::Literal;
 
 /// The name of a function without a value that an operand is.
@@ -42,20 +52,32 @@ fn void_name(scope: &Scope, operand: &Operand) -> Option<Place>
     }
 }
 
-/// The same, unless a call writes the operand.
-fn value_name(scope: &Scope, code: Code, operand: &Operand) -> Option<Place>
-    ensures { result ≡ value_at (scope_of scope.now) (calls_of_code code.entry)
-        (operand_tree operand.now) }
+/// This place, unless a call writes the operand.
+fn unless_written(scope: &Scope, code: Code, operand: &Operand, place: Place) -> Option<Place>
+    ensures { result ≡ unless (outputs.is_written (scope_of scope.now) (calls_of_code code.entry)
+        (operand_tree operand.now)) (Some place) }
+{
+    if is_written(scope, code, operand) {
+        None
+    } else {
+        Some(place)
+    }
+}
+
+/// The nearest one, with an operand. Its calls are asked only where it is nearer.
+fn value_name(scope: &Scope, code: Code, operand: &Operand, nearest: Option<Place>) -> Option<Place>
+    ensures { result ≡ nearer_of nearest (value_at (scope_of scope.now) (calls_of_code code.entry)
+        (operand_tree operand.now)) }
 {
     match void_name(scope, operand) {
         Some(place) => {
-            if is_written(scope, code, operand) {
-                None
+            if is_nearer(nearest, &place) {
+                nearer_of(nearest, unless_written(scope, code, operand, place))
             } else {
-                Some(place)
+                nearest
             }
         }
-        None => None,
+        None => nearest,
     }
 }
 
@@ -68,7 +90,7 @@ fn value_in(scope: &Scope, code: Code, e: &Expr, nearest: Option<Place>) -> Opti
     match e {
         Expr::Lit { .. } => nearest,
         Expr::Read(operand) => {
-            let so_far = nearer_of(nearest, value_name(scope, code, operand));
+            let so_far = value_name(scope, code, operand, nearest);
             value_in_operand(scope, code, operand, so_far)
         }
         Expr::Unary { arg, .. } => value_in(scope, code, arg, nearest),
@@ -117,14 +139,49 @@ fn value_in_operand(
     best
 }
 
-/// The nearest one, with those of arguments.
-fn value_in_args(scope: &Scope, code: Code, args: &[Arg], nearest: Option<Place>) -> Option<Place>
+/// The nearest one, with those of an argument of a call in the code. What stands for an output is written by that call.
+fn value_in_arg<'p>(
+    scope: &Scope,
+    code: Code,
+    callee: Callee<'p>,
+    how: How,
+    arg: &Arg,
+    nearest: Option<Place>,
+) -> Option<Place>
+    requires { (o : OperandTree) → IsTrue (hands_out (callee_tree callee) (how_tree how)
+        (arg_tree arg.now) o) → IsTrue (outputs.is_written (scope_of scope.now)
+        (calls_of_code code) o) }
     ensures { let f = value_at (scope_of scope.now) (calls_of_code code.entry) in
-        result ≡ nearest_in f (flat_map (λ a. operands_in a.value) (map arg_tree args.now)) nearest }
+        result ≡ nearest_in f (operands_in (arg_tree arg.now).value) nearest }
 {
+    match operand_of(&arg.value) {
+        Some(operand) => {
+            if is_output(param_in(callee, how, arg)) {
+                value_in_operand(scope, code, operand, nearest)
+            } else {
+                value_in(scope, code, &arg.value, nearest)
+            }
+        }
+        None => value_in(scope, code, &arg.value, nearest),
+    }
+}
+
+/// The nearest one, with those of the arguments of a call in the code.
+fn value_in_call(
+    scope: &Scope,
+    code: Code,
+    how: How,
+    call: &CallTree,
+    nearest: Option<Place>,
+) -> Option<Place>
+    requires { Has (calls_of_code code) (site (how_tree how) (call_tree call.now)) }
+    ensures { let f = value_at (scope_of scope.now) (calls_of_code code.entry) in
+        result ≡ nearest_in f (reads_of_call (call_tree call.now)) nearest }
+{
+    let callee = scope.callee_of(how, call);
     let mut best = nearest;
-    for arg in args {
-        best = value_in(scope, code, &arg.value, best);
+    for arg in &call.args {
+        best = value_in_arg(scope, code, callee, how, arg, best);
     }
     best
 }
@@ -167,15 +224,16 @@ fn value_in_assigned(
     scope: &Scope,
     code: Code,
     target: &Operand,
-    args: &[Arg],
+    call: &CallTree,
     nearest: Option<Place>,
 ) -> Option<Place>
+    requires { Has (calls_of_code code) (site as_value (call_tree call.now)) }
     ensures { let f = value_at (scope_of scope.now) (calls_of_code code.entry) in
         result ≡ nearest_in f (operands_within (operand_tree target.now)
-        ++ flat_map (λ a. operands_in a.value) (map arg_tree args.now)) nearest }
+        ++ reads_of_call (call_tree call.now)) nearest }
 {
     let so_far = value_in_operand(scope, code, target, nearest);
-    value_in_args(scope, code, args, so_far)
+    value_in_call(scope, code, How::Value, call, so_far)
 }
 
 /// The nearest one, with those of two expressions.
@@ -210,6 +268,7 @@ pub(crate) fn value_in_stmt(
     stmt: &Stmt,
     nearest: Option<Place>,
 ) -> Option<Place>
+    requires { AreAmong (calls_of_code code) (calls_of_stmt (stmt_tree stmt.now)) }
     ensures { let f = value_at (scope_of scope.now) (calls_of_code code.entry) in
         result ≡ nearest_in f (reads_of_stmt (stmt_tree stmt.now)) nearest }
 {
@@ -218,14 +277,14 @@ pub(crate) fn value_in_stmt(
             value_in_assignment(scope, code, target, value, nearest)
         }
         Stmt::AssignCall { target, call, .. } => {
-            value_in_assigned(scope, code, target, call.args.as_slice(), nearest)
+            value_in_assigned(scope, code, target, call, nearest)
         }
         Stmt::If { arms, .. } => value_in_conditions(scope, code, arms.as_slice(), nearest),
         Stmt::Case { selector, .. } => value_in(scope, code, selector, nearest),
         Stmt::For { head, .. } => value_in_head(scope, code, head, nearest),
         Stmt::While { cond, .. } => value_in(scope, code, cond, nearest),
         Stmt::Repeat { cond, .. } => value_in(scope, code, cond, nearest),
-        Stmt::Call(call) => value_in_args(scope, code, call.args.as_slice(), nearest),
+        Stmt::Call(call) => value_in_call(scope, code, How::Statement, call, nearest),
         Stmt::Exit(_) => nearest,
         Stmt::Continue(_) => nearest,
         Stmt::Return(_) => nearest,
@@ -252,12 +311,13 @@ fn value_in_called(
     instr: &Instr,
     nearest: Option<Place>,
 ) -> Option<Place>
+    requires { AreAmong (calls_of_code code) (calls_of_instruction (instr_tree instr.now)) }
     ensures { let f = value_at (scope_of scope.now) (calls_of_code code.entry) in
         result ≡ nearest_in f (flat_map reads_of_call (option_to_list
         (instr_tree instr.now).call)) nearest }
 {
     match instr.call() {
-        Some(call) => value_in_args(scope, code, call.args.as_slice(), nearest),
+        Some(call) => value_in_call(scope, code, how_of(instr.op), call, nearest),
         None => nearest,
     }
 }
@@ -269,13 +329,14 @@ pub(crate) fn value_in_instr(
     instr: &Instr,
     nearest: Option<Place>,
 ) -> Option<Place>
+    requires { AreAmong (calls_of_code code) (calls_of_instruction (instr_tree instr.now)) }
     ensures { let f = value_at (scope_of scope.now) (calls_of_code code.entry) in
         result ≡ nearest_in f (reads_of_instruction (instr_tree instr.now)) nearest }
 {
     let named = value_in_named(scope, code, instr, nearest);
     let called = value_in_called(scope, code, instr, named);
     match read_operand(instr) {
-        Some(operand) => nearer_of(called, value_name(scope, code, operand)),
+        Some(operand) => value_name(scope, code, operand, called),
         None => called,
     }
 }

@@ -10,7 +10,7 @@ ghost use Rattle.pv_rules_expr.specs.Nearest.{IsNearest};
 ghost use Rattle.pv_rules_expr.specs.NearestIn.{nearest_in};
 ghost use Rattle.pv_rules.specs.Reads.{reads_of_instruction, reads_of_stmt};
 ghost use Rattle.pv_rules.specs.Statements.{all_of};
-ghost use Rattle.pv_rules.specs.Values.{refused_at, call_at, calls_in, values_in, both_in, body_place, project_place};
+ghost use Rattle.pv_rules.specs.Values.{refused_at, call_at, calls_in, values_in, both_in, body_place};
 
 use crate::code::Code;
 use crate::reads::{value_in_instr, value_in_starts, value_in_stmt};

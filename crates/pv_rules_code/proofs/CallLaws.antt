@@ -1,25 +1,23 @@
 -- What is nearest at the calls of a project is the least place at which its rule is broken.
-use Rattle.std.proofs.Common.{◌≡◌, inl, inr, refl, sym, ap, subst, ◌∙◌, List, [], ◌∷◌, Option, Some, None, Bool, true, false, ◌&&◌, true≢false, IsTrue, is_some, is_none}
+use Rattle.std.proofs.Common.{◌≡◌, inl, inr, refl, sym, ap, subst, List, [], Option, Some, None, Bool, true, false, ◌&&◌, true≢false, IsTrue, is_some}
 use Rattle.std.specs.Prelude.{◌⊎◌, Any, option_to_list, option_and_then, unwrap_or}
 use Rattle.pv_place.specs.declared.place.Place.{Place}
-use Rattle.pv_tree.specs.Tree.{ExprTree, ArgTree, BlockTree}
+use Rattle.pv_tree.specs.Tree.{ExprTree, ArgTree}
 use Rattle.pv_tree.specs.Scopes.{ProjectTree, Scope}
 use Rattle.pv_tree.specs.Things.{first_place}
-use Rattle.pv_tree.specs.Callees.{How, CallSite, Callee, runs, not_declared, not_callable, unknown, callee_of, called_name, block_of_callee, Param, param_of_arg, param_for}
-use Rattle.pv_tree.specs.Parts.{Loop, Spot, calls_of, calls_of_stmt, calls_of_instruction, operand_of}
+use Rattle.pv_tree.specs.Callees.{CallSite, Callee, runs, not_declared, not_callable, unknown, callee_of, called_name, Param, param_of_arg}
+use Rattle.pv_tree.specs.Parts.{Loop, calls_of, calls_of_stmt, calls_of_instruction, operand_of}
 use Rattle.pv_tree.specs.Rules.Targets.{IsFixedArgument, IsFixedOutput, goes_out_where, isnt_assignable}
 use Rattle.pv_tree.specs.Rules.Misfits.{MisfitsArg, MisfitsParam, CallsDate, is_called_date}
-use Rattle.pv_rules_expr.specs.Members.{HasSome}
 use Rattle.pv_rules_expr.specs.Nearest.{is_before, IsNearest}
-use Rattle.pv_rules_code.specs.AtCalls.{not_declared_at, not_callable_at, first_date_at, second_date_at, date_at, misfits_param, misfit_at, output_at, param_in, arg_place, call_place}
+use Rattle.pv_rules_code.specs.AtCalls.{not_declared_at, first_date_at, second_date_at, date_at, misfits_param, misfit_at, output_at, arg_place, call_place}
 use Rattle.pv_rules_code.specs.Sites.{in_block, project_place}
 use Rattle.pv_rules_expr.specs.Looks.{nearer_of}
-use Rattle.pv_rules_expr.specs.NearestIn.{nearest_in}
-use Rattle.pv_rules_code.specs.declared.site.Site.TheVariants as site
-use Rattle.pv_rules_code.specs.declared.site.Ask.{Ask}
-use Rattle.pv_rules_code.specs.declared.site.Ask.TheVariants as ask
-use Rattle.pv_rules_code.specs.declared.site.Pass.TheVariants as pass
-use Rattle.pv_rules_expr.proofs.ForCallers.{itself, any_has, has_any}
+use Rattle.pv_rules_code.specs.Sought.Site as site
+use Rattle.pv_rules_code.specs.Sought.Ask.{Ask}
+use Rattle.pv_rules_code.specs.Sought.Ask as ask
+use Rattle.pv_rules_code.specs.Sought.Pass as pass
+use Rattle.pv_rules_expr.proofs.ForCallers.{itself}
 use Rattle.pv_rules_expr.proofs.ForCallers.{nearest_same, nearest_both, nearest_where}
 use Rattle.pv_rules_expr.proofs.ForCallers.{in_any, nearest_is}
 use Rattle.pv_rules_code.proofs.AnyLaws.{any_map, any_either, of_option_any}
@@ -81,21 +79,10 @@ declared_nearest (not_declared p) = (refl, λ at e. subst (λ x. IsTrue (is_befo
 declared_nearest (not_callable p) = λ at e. true≢false (ap is_some (sym (ap not_declared_at e)))
 declared_nearest unknown = λ at e. true≢false (ap is_some (sym (ap not_declared_at e)))
 
-callable_nearest : (c : Callee) → IsNearest (λ at. c ≡ not_callable at) (not_callable_at c)
-callable_nearest (runs b) = λ at e. true≢false (ap is_some (sym (ap not_callable_at e)))
-callable_nearest (not_declared p) = λ at e. true≢false (ap is_some (sym (ap not_callable_at e)))
-callable_nearest (not_callable p) = (refl, λ at e. subst (λ x. IsTrue (is_before p x)) (ap (λ c. unwrap_or (not_callable_at c) p) e) (itself p))
-callable_nearest unknown = λ at e. true≢false (ap is_some (sym (ap not_callable_at e)))
-
 pub missing_callee : (project : ProjectTree)
     → IsNearest (λ at. Any (λ b. Any (λ s. callee_of (in_block project b) s ≡ not_declared at) (calls_of b)) project.blocks)
     (project_place (site.Call ask.Missing) project)
 missing_callee project = on_calls ask.Missing (λ scope at s. callee_of scope s ≡ not_declared at) (λ scope loops c. declared_nearest (callee_of scope c)) project
-
-pub wrong_callee : (project : ProjectTree)
-    → IsNearest (λ at. Any (λ b. Any (λ s. callee_of (in_block project b) s ≡ not_callable at) (calls_of b)) project.blocks)
-    (project_place (site.Call ask.NotCallable) project)
-wrong_callee project = on_calls ask.NotCallable (λ scope at s. callee_of scope s ≡ not_callable at) (λ scope loops c. callable_nearest (callee_of scope c)) project
 
 -- ---- dates
 

@@ -1,6 +1,6 @@
 -- What is nearest at the CASEs of a project is the least place at which their rule is broken.
-use Rattle.std.proofs.Common.{◌≡◌, ℕ, inl, inr, refl, sym, ap, subst, ◌∙◌, List, [], ◌∷◌, Option, Some, None, Bool, true, false, not, true≢false, IsTrue}
-use Rattle.std.specs.Prelude.{◌⊎◌, ◌≢◌, Any, nat_eq}
+use Rattle.std.proofs.Common.{◌≡◌, ℕ, inl, inr, refl, sym, ap, ◌∙◌, Option, Bool, true, false, not, true≢false, IsTrue}
+use Rattle.std.specs.Prelude.{◌⊎◌, Any, nat_eq}
 use Rattle.std.proofs.lemmas.Bool.Decides.{Decides-eqb}
 use Rattle.pv_word.specs.declared.types.Ty.{Ty}
 use Rattle.pv_word.specs.declared.types.Ty.TheVariants as ty
@@ -8,7 +8,7 @@ use Rattle.pv_place.specs.declared.place.Place.{Place}
 use Rattle.pv_types.specs.Tree.{plain, array, structure, named, unread}
 use Rattle.pv_tree.specs.declared.stmt.Choice.{Choice}
 use Rattle.pv_tree.specs.declared.stmt.Choice.TheVariants.{Lit, Const}
-use Rattle.pv_tree.specs.Tree.{ExprTree, StmtTree, assign, assign_call, if_, case_, for_, while_, repeat_, exit_, continue_, return_, call_, empty_}
+use Rattle.pv_tree.specs.Tree.{StmtTree, assign, assign_call, if_, case_, for_, while_, repeat_, exit_, continue_, return_, call_, empty_}
 use Rattle.pv_tree.specs.LiteralTypes.{Want, nothing, this, unsure, is_whole_number, type_of_literal}
 use Rattle.pv_tree.specs.Sorts.{taken}
 use Rattle.pv_tree.specs.Scopes.{ProjectTree, Scope}
@@ -20,10 +20,10 @@ use Rattle.pv_tree.specs.Rules.OutOfRange.{want_of_selector}
 use Rattle.pv_tree.specs.Rules.Cases.{IsOtherType, IsNoConstant, IsWrongValue, IsWrongSelector, ChoosesWrong, IsWrongCase}
 use Rattle.pv_rules_expr.specs.Nearest.{IsNearest}
 use Rattle.pv_rules_expr.specs.Looks.{nearer_of}
-use Rattle.pv_rules_code.specs.AtCases.{rank, same_type, is_other_type, is_no_constant, selector_at, selector_place, value_at, values_place}
+use Rattle.pv_rules_code.specs.AtCases.{rank, same_type, is_other_type, is_no_constant, selector_place, value_at, values_place}
 use Rattle.pv_rules_code.specs.Sites.{project_place}
-use Rattle.pv_rules_code.specs.declared.site.Site.TheVariants as site
-use Rattle.pv_rules_code.specs.declared.site.Pick.TheVariants as pick
+use Rattle.pv_rules_code.specs.Sought.Site as site
+use Rattle.pv_rules_code.specs.Sought.Pick as pick
 use Rattle.pv_rules_expr.proofs.ForCallers.{nearest_same, nearest_where}
 use Rattle.pv_rules_expr.proofs.ForCallers.{in_any, nearest_is}
 use Rattle.pv_rules_code.proofs.SiteLaws.{OnSpots, over_project, on_spots, never_at, join_spots, same_spots}

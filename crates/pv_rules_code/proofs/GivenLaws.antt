@@ -1,5 +1,5 @@
 -- What is nearest at the arguments of calls is the least place at which the rule on arguments is broken.
-use Rattle.std.proofs.Common.{◌≡◌, ℕ, inl, inr, refl, sym, ap, subst, ◌∙◌, List, [], ◌∷◌, ◌++◌, map, Option, Some, None, Bool, true, false, ◌&&◌, ◌||◌, not, true≢false, IsTrue, is_some, is_none, cond}
+use Rattle.std.proofs.Common.{◌≡◌, ℕ, inl, inr, refl, sym, ap, subst, List, [], ◌∷◌, ◌++◌, Option, Some, None, Bool, true, false, ◌&&◌, ◌||◌, not, true≢false, IsTrue, is_some, is_none, cond}
 use Rattle.std.specs.Prelude.{◌⊎◌, Any, option_and_then, unwrap_or, bytes_eq, IsSomeAnd}
 use Rattle.std.specs.List.{list_any}
 use Rattle.std.proofs.lemmas.List.Folds.{Any-from_list_any, list_any-from_Any}
@@ -11,22 +11,21 @@ use Rattle.pv_types.specs.declared.declaration.Section.TheVariants.{Input, Outpu
 use Rattle.pv_tree.specs.Tree.{PlacedName, ArgTree, BlockTree}
 use Rattle.pv_tree.specs.Scopes.{ProjectTree, Scope, is_fc, first_var, value_key}
 use Rattle.pv_tree.specs.Callees.{How, CallSite, Callee, runs, not_declared, not_callable, unknown, callee_of, block_of_callee, Param, params_of, params_of_vars, value_param, param_for, is_by_stl, is_param}
-use Rattle.pv_tree.specs.Parts.{Loop, calls_of}
+use Rattle.pv_tree.specs.Parts.{Loop}
 use Rattle.pv_tree.specs.Interfaces.{IsLater}
-use Rattle.pv_tree.specs.Rules.Arguments.{place_of_word, words_of_args, must_be_given, IsGiven, Lacks, GivesWrong, CallGivesWrong, IsWrongArgument}
+use Rattle.pv_tree.specs.Rules.Arguments.{place_of_word, words_of_args, IsGiven, Lacks, CallGivesWrong, IsWrongArgument}
 use Rattle.pv_rules_expr.specs.Members.{HasSome, Has}
 use Rattle.pv_rules_expr.specs.Nearest.{IsNearest}
 use Rattle.pv_rules_expr.specs.Looks.{nearer_of}
 use Rattle.pv_rules_expr.specs.Places.{place_where}
-use Rattle.pv_rules_expr.specs.NearestIn.{nearest_in}
 use Rattle.pv_rules_expr.specs.Members.{IsLaterBehind}
 use Rattle.pv_names.specs.Params.{param_of}
-use Rattle.pv_rules_code.specs.AtCalls.{unknown_at, unknown_in, arg_place, call_place}
+use Rattle.pv_rules_code.specs.AtCalls.{unknown_at, arg_place, call_place}
 use Rattle.pv_rules_code.specs.AtGiven.{gives, is_given, must_be, is_lacking, lacks_some, lacking_at, later_from, later_word, later_at}
-use Rattle.pv_rules_code.specs.Sites.{in_block, project_place}
-use Rattle.pv_rules_code.specs.declared.site.Site.TheVariants as site
-use Rattle.pv_rules_code.specs.declared.site.Ask.TheVariants as ask
-use Rattle.pv_rules_code.specs.declared.site.Pass.TheVariants as pass
+use Rattle.pv_rules_code.specs.Sites.{project_place}
+use Rattle.pv_rules_code.specs.Sought.Site as site
+use Rattle.pv_rules_code.specs.Sought.Ask as ask
+use Rattle.pv_rules_code.specs.Sought.Pass as pass
 use Rattle.pv_rules_expr.proofs.ForCallers.{any_has, has_any}
 use Rattle.pv_rules_expr.proofs.ForCallers.{nearest_same, nearest_both, nearest_where}
 use Rattle.pv_rules_expr.proofs.ForCallers.{in_any, nearest_is}

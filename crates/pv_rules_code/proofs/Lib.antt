@@ -4,6 +4,8 @@ pub mod CaseLaws
 pub mod GivenLaws
 pub mod LoopLaws
 pub mod Meeting
+pub mod Nears
 pub mod PartLaws
+pub mod RuleNears
 pub mod SiteLaws
 pub mod StmtSeen

@@ -1,40 +1,38 @@
 -- What is nearest at the FORs of a project is the least place at which their rules are broken.
-use Rattle.std.proofs.Common.{◌≡◌, ℕ, inl, inr, refl, sym, ap, subst, ◌∙◌, List, [], ◌∷◌, Option, Some, None, Bool, true, false, ◌&&◌, ◌||◌, true≢false, IsTrue}
-use Rattle.std.specs.Prelude.{◌⊎◌, ℤ, pos, Any, option_to_list, option_and_then}
-use Rattle.std.specs.List.{list_any}
+use Rattle.std.proofs.Common.{◌≡◌, ℕ, inl, inr, refl, sym, List, [], ◌∷◌, Option, Some, None, Bool, true, false, ◌&&◌, ◌||◌, true≢false, IsTrue}
+use Rattle.std.specs.Prelude.{◌⊎◌, pos, Any, option_to_list, option_and_then}
 use Rattle.std.specs.Ordering.{int_eq}
 use Rattle.std.proofs.lemmas.Bool.Decides.{Decides-int_eq}
 use Rattle.std.proofs.lemmas.List.Folds.{Any-from_list_any, list_any-from_Any}
 use Rattle.pv_place.specs.declared.place.Place.{Place}
 use Rattle.pv_types.specs.declared.declaration.Literal.{Literal}
-use Rattle.pv_tree.specs.Tree.{PlacedName, ExprTree, OperandTree, ArgTree, StmtTree, assign, assign_call, if_, case_, for_, while_, repeat_, exit_, continue_, return_, call_, empty_, InstrTree}
+use Rattle.pv_tree.specs.Tree.{OperandTree, ArgTree, StmtTree, assign, assign_call, if_, case_, for_, while_, repeat_, exit_, continue_, return_, call_, empty_, InstrTree}
 use Rattle.pv_tree.specs.LiteralTypes.{Want, nothing, this, unsure}
 use Rattle.pv_tree.specs.Scopes.{ProjectTree, Scope}
-use Rattle.pv_tree.specs.Things.{first_place, place_of_operand, thing_of_word, Thing, no_name, a_date, dated}
+use Rattle.pv_tree.specs.Things.{first_place, place_of_operand}
 use Rattle.pv_tree.specs.Callees.{CallSite, callee_of, param_of_arg}
-use Rattle.pv_tree.specs.Parts.{Loop, Spot, spots_of_body, instructions_of, target_of, calls_of_stmt, calls_of_instruction, operand_of, want_of_counter}
+use Rattle.pv_tree.specs.Parts.{Loop, Spot, target_of, calls_of_stmt, calls_of_instruction, operand_of, want_of_counter}
 use Rattle.pv_tree.specs.Rules.MissingNames.{counter_of}
 use Rattle.pv_tree.specs.Rules.Targets.{goes_out_where}
 use Rattle.pv_tree.specs.Rules.Loops.{isnt_counter, counts, IsNoCounter, IsCounted, word_of_operand, IsCountedOperand, WritesCounter, DisturbsCounter, IsWrongCounter, IsWrongBy, StepsWrong, IsWrongStep}
 use Rattle.pv_rules_expr.specs.Nearest.{IsNearest}
 use Rattle.pv_rules_expr.specs.Looks.{nearer_of}
-use Rattle.pv_rules_expr.specs.Places.{place_where}
 use Rattle.pv_rules_expr.specs.NearestIn.{nearest_in}
 use Rattle.pv_rules_code.specs.Counted.{is_counted, is_counted_operand, is_counted_where}
 use Rattle.pv_rules_code.specs.AtCalls.{counter_at, arg_place, call_place}
 use Rattle.pv_rules_code.specs.AtTargets.{counted_at}
 use Rattle.pv_rules_code.specs.AtLoops.{count_at, is_outside_type, by_at, step_place}
-use Rattle.pv_rules_code.specs.Sites.{in_block, project_place}
-use Rattle.pv_rules_code.specs.declared.site.Site.TheVariants as site
-use Rattle.pv_rules_code.specs.declared.site.Ask.TheVariants as ask
-use Rattle.pv_rules_code.specs.declared.site.Pass.TheVariants as pass
-use Rattle.pv_rules_code.specs.declared.site.Count.{Count}
-use Rattle.pv_rules_code.specs.declared.site.Count.TheVariants as count
-use Rattle.pv_rules_code.specs.declared.site.Stride.TheVariants as stride
+use Rattle.pv_rules_code.specs.Sites.{project_place}
+use Rattle.pv_rules_code.specs.Sought.Site as site
+use Rattle.pv_rules_code.specs.Sought.Ask as ask
+use Rattle.pv_rules_code.specs.Sought.Pass as pass
+use Rattle.pv_rules_code.specs.Sought.Count.{Count}
+use Rattle.pv_rules_code.specs.Sought.Count as count
+use Rattle.pv_rules_code.specs.Sought.Stride as stride
 use Rattle.pv_rules_expr.proofs.ForCallers.{any_has, has_any}
-use Rattle.pv_rules_expr.proofs.ForCallers.{nearest_same, nearest_both, nearest_where}
+use Rattle.pv_rules_expr.proofs.ForCallers.{nearest_same, nearest_where}
 use Rattle.pv_rules_expr.proofs.ForCallers.{in_any, nearest_is}
-use Rattle.pv_rules_code.proofs.AnyLaws.{any_map, any_either, any_never, of_option_any}
+use Rattle.pv_rules_code.proofs.AnyLaws.{any_map, any_never, of_option_any}
 use Rattle.pv_rules_code.proofs.SiteLaws.{OnSpots, over_project, on_spots, never_at, join_spots}
 
 -- ---- the step

@@ -1,5 +1,5 @@
 -- Words and parameters that are met one by one.
-use Rattle.std.proofs.Common.{◌≡◌, ℕ, zero, suc, ◌+◌, ◌<◌, refl, sym, ap, subst, ◌∙◌, List, [], ◌∷◌, ◌++◌, map, take, drop, get_or, length, arith, add-one, append_assoc, Option, Some, None, Bool, true, false, ◌||◌, cond, is_some, true≢false, Result, Ok, Err}
+use Rattle.std.proofs.Common.{◌≡◌, ℕ, suc, ◌+◌, ◌<◌, refl, sym, ap, subst, ◌∙◌, List, [], ◌∷◌, ◌++◌, map, take, drop, get_or, length, arith, Option, Some, None, Bool, true, false, ◌||◌, cond, is_some, true≢false, Result, Ok, Err}
 use Rattle.std.specs.Prelude.{filter_map, option_to_list, unwrap_or, bytes_eq, OnOk}
 use Rattle.std.proofs.lemmas.Slice.Eq.{bytes_eq-Decides}
 use Rattle.std.specs.List.{list_any}

@@ -1,8 +1,7 @@
 -- What is nearest at the expressions, the operands and the words of a project is the least place at which its rule is broken.
-use Rattle.std.proofs.Common.{◌≡◌, inl, inr, refl, sym, ap, subst, ◌∙◌, List, [], ◌∷◌, ◌++◌, map, Option, Some, None, Bool, true, false, true≢false, IsTrue, is_some}
+use Rattle.std.proofs.Common.{◌≡◌, inl, inr, refl, sym, ap, subst, [], ◌++◌, map, Option, Some, false, true≢false, IsTrue, is_some}
 use Rattle.std.specs.Prelude.{◌⊎◌, Any, flat_map, option_to_list, option_and_then, unwrap_or}
 use Rattle.pv_place.specs.declared.place.Place.{Place}
-use Rattle.pv_types.specs.declared.declaration.Literal.{Literal}
 use Rattle.pv_tree.specs.declared.stmt.Choice.{Choice}
 use Rattle.pv_tree.specs.declared.stmt.Choice.TheVariants.{Lit, Const}
 use Rattle.pv_tree.specs.Tree.{PlacedName, ExprTree, OperandTree, StmtTree, assign, assign_call, if_, case_, for_, while_, repeat_, exit_, continue_, return_, call_, empty_, InstrTree, BlockTree}
@@ -12,18 +11,17 @@ use Rattle.pv_tree.specs.Scopes.{ProjectTree, Scope}
 use Rattle.pv_tree.specs.Things.{Thing, part, constant, a_block, no_name, no_array, a_date, untold, thing_of, thing_of_word, dated, first_place}
 use Rattle.pv_tree.specs.Types.{sort_of}
 use Rattle.pv_tree.specs.InstructionGroups.{operand_of_instruction}
-use Rattle.pv_tree.specs.Callees.{CallSite, callee_of, not_declared, as_value}
-use Rattle.pv_tree.specs.Parts.{Part, Spot, spots_of_body, instructions_of, parts_of_stmt, parts_of_instruction, operand_of, operands_read, reads_of_parts, path_of, thing_of_path, indexes_of, target_of, assigned_operands, instruction_operands, calls_of, want_of_target, want_of_counter, site}
+use Rattle.pv_tree.specs.Callees.{callee_of, not_declared}
+use Rattle.pv_tree.specs.Parts.{Part, Spot, spots_of_body, parts_of_stmt, parts_of_instruction, operand_of, operands_read, reads_of_parts, path_of, thing_of_path, indexes_of, target_of, assigned_operands, instruction_operands, calls_of, want_of_counter}
 use Rattle.pv_tree.specs.Fits.{doesnt_fit}
 use Rattle.pv_tree.specs.Rules.MissingNames.{MissesName, counter_of, values_of_case, name_of_choice, words_of}
 use Rattle.pv_tree.specs.Rules.OutOfRange.{IsPartOutside, IsLiteralOutside, IsChoiceOutside, IsStmtOutside, is_outside, want_of_selector}
 use Rattle.pv_tree.specs.Rules.Misfits.{MisusesPath, Misapplies, MisfitsCounter, MisfitsStmt, NamesDate, MisfitsArg, MisfitsCall, CallsDate}
 use Rattle.pv_tree.specs.Rules.Arrays.{IsBeyond}
-use Rattle.pv_tree.specs.Rules.Addresses.{is_wrong_operand, HasWrongAddress}
+use Rattle.pv_tree.specs.Rules.Addresses.{HasWrongAddress}
 use Rattle.pv_rules_expr.specs.Nearest.{is_before, IsNearest}
-use Rattle.pv_rules_expr.specs.Looks.{nearer_of, part_place, near_parts}
+use Rattle.pv_rules_expr.specs.Looks.{nearer_of, part_place}
 use Rattle.pv_rules_expr.specs.Operands.{name_at, address_at}
-use Rattle.pv_rules_expr.specs.NearestIn.{nearest_in}
 use Rattle.pv_rules_code.specs.AtAssignments.{assigned_misfits, called_misfits, bound_at, misfit_place}
 use Rattle.pv_rules_code.specs.AtLoops.{date_of, word_date, word_missing, count_at, by_at, step_place}
 use Rattle.pv_rules_code.specs.AtCases.{value_at, values_place}
@@ -34,22 +32,22 @@ use Rattle.pv_rules_code.specs.InCode.{code_parts, code_operands, MissesIn, Misf
 use Rattle.pv_rules_code.specs.Sites.{site_place, instr_place, in_block, project_place}
 use Rattle.pv_rules_expr.specs.declared.search.Look.{Look}
 use Rattle.pv_rules_expr.specs.declared.search.Look.TheVariants as look
-use Rattle.pv_rules_code.specs.declared.site.Site.TheVariants as site
-use Rattle.pv_rules_code.specs.declared.site.Ask.TheVariants as ask
-use Rattle.pv_rules_code.specs.declared.site.Pass.TheVariants as pass
-use Rattle.pv_rules_code.specs.declared.site.Count.{Count}
-use Rattle.pv_rules_code.specs.declared.site.Pick.{Pick}
-use Rattle.pv_rules_code.specs.declared.site.Aim.{Aim}
-use Rattle.pv_rules_code.specs.declared.site.Aim.TheVariants as aim
-use Rattle.pv_rules_code.specs.declared.site.Count.TheVariants as count
-use Rattle.pv_rules_code.specs.declared.site.Pick.TheVariants as pick
-use Rattle.pv_rules_code.specs.declared.site.Stride.TheVariants as stride
+use Rattle.pv_rules_code.specs.Sought.Site as site
+use Rattle.pv_rules_code.specs.Sought.Ask as ask
+use Rattle.pv_rules_code.specs.Sought.Pass as pass
+use Rattle.pv_rules_code.specs.Sought.Count.{Count}
+use Rattle.pv_rules_code.specs.Sought.Pick.{Pick}
+use Rattle.pv_rules_code.specs.Sought.Aim.{Aim}
+use Rattle.pv_rules_code.specs.Sought.Aim as aim
+use Rattle.pv_rules_code.specs.Sought.Count as count
+use Rattle.pv_rules_code.specs.Sought.Pick as pick
+use Rattle.pv_rules_code.specs.Sought.Stride as stride
 use Rattle.pv_rules_expr.proofs.ForCallers.{itself, any_has, has_any}
-use Rattle.pv_rules_expr.proofs.ForCallers.{nearest_same, nearest_both, nearest_where, near_any, misapplied_nearest, outside_nearest}
+use Rattle.pv_rules_expr.proofs.ForCallers.{nearest_both, nearest_where, near_any, misapplied_nearest, outside_nearest}
 use Rattle.pv_rules_expr.proofs.ForCallers.{mapped_to, mapped_from, name_nearest, missing_nearest, address_nearest, IsWrongAt}
 use Rattle.pv_rules_expr.proofs.ForCallers.{misused_path, beyond_path}
 use Rattle.pv_rules_expr.proofs.ForCallers.{in_any, nearest_is}
-use Rattle.pv_rules_code.proofs.AnyLaws.{any_append, any_of_append, any_flat, any_of_flat, any_map, any_never, of_option_any, join_any, same_any}
+use Rattle.pv_rules_code.proofs.AnyLaws.{any_append, any_of_append, any_flat, any_of_flat, of_option_any, join_any, same_any}
 use Rattle.pv_rules_code.proofs.CallLaws.{OnCalls, join_calls, missing_callee, called_date, misfit_argument}
 use Rattle.pv_rules_code.proofs.SiteLaws.{OnSpots, over_project, on_both, on_spots, never_at, join_spots, same_spots}
 

@@ -1,24 +1,24 @@
 -- What is nearest at the statements and instructions of a project is the least place at which its rule is broken.
 use Rattle.std.proofs.Common.{◌≡◌, inl, inr, refl, sym, ap, subst, ◌∙◌, List, [], ◌∷◌, ◌++◌, Option, Some, None, Bool, true, false, true≢false, IsTrue, is_some}
-use Rattle.std.specs.Prelude.{◌⊎◌, Any, flat_map, option_to_list, option_and_then, unwrap_or}
+use Rattle.std.specs.Prelude.{◌⊎◌, Any, flat_map, option_to_list, unwrap_or}
 use Rattle.pv_place.specs.declared.place.Place.{Place}
-use Rattle.pv_tree.specs.Tree.{OperandTree, StmtTree, assign, assign_call, if_, case_, for_, while_, repeat_, exit_, continue_, return_, call_, empty_, InstrTree, BlockTree}
+use Rattle.pv_tree.specs.Tree.{StmtTree, assign, assign_call, if_, case_, for_, while_, repeat_, exit_, continue_, return_, call_, empty_, InstrTree}
 use Rattle.pv_tree.specs.Scopes.{ProjectTree, Scope}
 use Rattle.pv_tree.specs.Things.{first_place, place_of_operand, thing_of}
 use Rattle.pv_tree.specs.InstructionGroups.{written_operand}
-use Rattle.pv_tree.specs.Parts.{Loop, Spot, spots_of_body, instructions_of, target_of, conditions_of, written_operands}
+use Rattle.pv_tree.specs.Parts.{Loop, Spot, spots_of_body, instructions_of, target_of}
 use Rattle.pv_tree.specs.Rules.Conditions.{conditions_of_stmt, IsNoCondition, IsWrongCondition}
 use Rattle.pv_tree.specs.Rules.Loops.{LeavesNothing, IsOutsideLoop}
 use Rattle.pv_tree.specs.Rules.Targets.{IsFixedOperand, IsFixedTarget, is_fixed}
 use Rattle.pv_rules_expr.specs.Nearest.{is_before, IsNearest}
 use Rattle.pv_rules_code.specs.AtTargets.{fixed_at}
-use Rattle.pv_rules_code.specs.AtStatements.{condition_at, conditions_place, leave_of, leave_place}
-use Rattle.pv_rules_code.specs.Sites.{site_place, instr_place, in_block, body_place, block_place, project_place}
+use Rattle.pv_rules_code.specs.AtStatements.{condition_at, leave_of, leave_place}
+use Rattle.pv_rules_code.specs.Sites.{site_place, instr_place, in_block, block_place, project_place}
 use Rattle.pv_rules_expr.specs.Looks.{nearer_of}
 use Rattle.pv_rules_expr.specs.NearestIn.{nearest_in}
-use Rattle.pv_rules_code.specs.declared.site.Site.{Site}
-use Rattle.pv_rules_code.specs.declared.site.Site.TheVariants as site
-use Rattle.pv_rules_code.specs.declared.site.Aim.TheVariants as aim
+use Rattle.pv_rules_code.specs.Sought.Site.{Site}
+use Rattle.pv_rules_code.specs.Sought.Site as site
+use Rattle.pv_rules_code.specs.Sought.Aim as aim
 use Rattle.pv_rules_expr.proofs.ForCallers.{itself}
 use Rattle.pv_rules_expr.proofs.ForCallers.{nearest_same, nearest_both, nearest_where}
 use Rattle.pv_rules_expr.proofs.ForCallers.{in_all_any, in_any, nearest_is}

@@ -1,21 +1,36 @@
 -- Statements of the code as plain data, form by form, and the walk over lists of them, one element more.
 use Rattle.std.proofs.Common.{◌≡◌, ℕ, ◌<◌, ◌+◌, suc, refl, sym, ap, ◌∙◌, List, [], ◌∷◌, ◌++◌, map, drop, get_or, length, arith, Option}
-use Rattle.std.specs.Prelude.{option_to_list, Result, IfOk}
-use Rattle.std.proofs.lemmas.Result.{IfOk-weaker}
+use Rattle.std.specs.Prelude.{option_to_list}
 use Rattle.std.proofs.Math.Seq.{drop-cons}
 use Rattle.pv_place.specs.declared.place.Place.{Place}
 use Rattle.pv_tree.specs.declared.stmt.Choice.{Choice}
-use Rattle.pv_tree.specs.declared.stmt.Stmt.{size-Stmt, the_lemmas}
+use Rattle.pv_tree.specs.declared.stmt.Stmt.{size-Stmt, fold-roll-Stmt, the_lemmas}
+use Rattle.pv_tree.specs.declared.stmt.Stmt.TheOpen.{Stmt-F}
+use Rattle.pv_tree.specs.declared.stmt.Stmt.TheVariants.{rolls-Call, rolls-While, rolls-Repeat}
 use Rattle.pv_tree.specs.declared.stmt.Stmt.TheViews as form
+use Rattle.pv_tree.specs.declared.stmt.Stmt.TheVariants as leaf
 use denote.Param.Weighed.{most}
-use Rattle.pv_tree.specs.Tree.{ExprTree, Choices, StmtTree, StmtTrees, if_, case_, ArmTrees, BranchTrees, ElseTree}
-use Rattle.pv_tree.specs.View.{stmts_of, arms_of, branches_of}
+use Rattle.pv_tree.specs.Tree.{ExprTree, Choices, StmtTree, StmtTrees, if_, case_, while_, repeat_, call_, ArmTrees, BranchTrees, ElseTree}
+use Rattle.pv_tree.specs.View.{call_tree, expr_tree, stmt_tree, stmt_step, stmts_of, arms_of, branches_of}
 use Rattle.pv_tree.specs.Parts.{Loop, Spot, spots_of, spots_of_stmts, spots_of_arms, spots_of_branches, spots_of_else, conditions_of}
 use Rattle.pv_tree.specs.Rules.MissingNames.{values_of_choices, values_of_branches}
 use Rattle.pv_rules_expr.specs.Looks.{nearer_of}
 use Rattle.pv_rules_expr.specs.NearestIn.{nearest_in}
 use Rattle.pv_rules_code.specs.Spots.{spot}
 use Rattle.pv_rules_expr.proofs.ForCallers.{in_append}
+
+-- ---- forms
+
+pub stmt-call : (call : _) → stmt_tree (leaf.Call call) ≡ call_ (call_tree call.value)
+stmt-call call = ap stmt_tree (sym (rolls-Call call)) ∙ fold-roll-Stmt StmtTree stmt_step (Stmt-F.Call call)
+
+pub stmt-while : (cond : _) (body : _) (place : Place) → stmt_tree (form.While cond body place)
+    ≡ while_ (expr_tree cond.value) (stmts_of (map stmt_tree body.items)) place
+stmt-while cond body place = ap stmt_tree (sym (rolls-While cond body place)) ∙ fold-roll-Stmt StmtTree stmt_step (Stmt-F.While cond body place)
+
+pub stmt-repeat : (body : _) (cond : _) (place : Place) → stmt_tree (form.Repeat body cond place)
+    ≡ repeat_ (stmts_of (map stmt_tree body.items)) (expr_tree cond.value) place
+stmt-repeat body cond place = ap stmt_tree (sym (rolls-Repeat body cond place)) ∙ fold-roll-Stmt StmtTree stmt_step (Stmt-F.Repeat body cond place)
 
 -- ---- conditions
 
@@ -35,24 +50,23 @@ begun_by : (f : Spot → Option Place) (loops : List Loop) (s t : StmtTree) (n m
     → m ≡ nearer_of n (f (spot loops t))
 begun_by f loops s t n m is begun = begun ∙ ap (λ t. nearer_of n (f (spot loops t))) is
 
-module _ {E : Type 0} (f : Spot → Option Place) (loops : List Loop) (s : StmtTree) (n m b : Option Place) (result : Result (Option Place) E) where
+module _ (f : Spot → Option Place) (loops : List Loop) (s : StmtTree) (n m b r : Option Place) where
   pub if_walked : (all : ArmTrees) (other : ElseTree) (place : Place) → s ≡ if_ all other place → m ≡ nearer_of n (f (spot loops s))
-      → b ≡ nearest_in f (spots_of_arms loops all) m
-      → IfOk result (λ r. r ≡ nearest_in f (spots_of_else loops other) b) → IfOk result (λ r. r ≡ nearest_in f (spots_of loops s) n)
-  if_walked all other place is begun armed = IfOk-weaker result _ _ (λ r behind. behind
+      → b ≡ nearest_in f (spots_of_arms loops all) m → r ≡ nearest_in f (spots_of_else loops other) b → r ≡ nearest_in f (spots_of loops s) n
+  if_walked all other place is begun armed behind = behind
       ∙ ap (nearest_in f (spots_of_else loops other)) armed
       ∙ sym (in_append f (spots_of_arms loops all) (spots_of_else loops other) m)
       ∙ ap (nearest_in f (spots_of_arms loops all ++ spots_of_else loops other)) (begun_by f loops s (if_ all other place) n m is begun)
-      ∙ ap (λ t. nearest_in f (spots_of loops t) n) (sym is))
+      ∙ ap (λ t. nearest_in f (spots_of loops t) n) (sym is)
 
   pub case_walked : (e : ExprTree) (all : BranchTrees) (other : ElseTree) (place : Place) → s ≡ case_ e all other place
       → m ≡ nearer_of n (f (spot loops s)) → b ≡ nearest_in f (spots_of_branches loops all) m
-      → IfOk result (λ r. r ≡ nearest_in f (spots_of_else loops other) b) → IfOk result (λ r. r ≡ nearest_in f (spots_of loops s) n)
-  case_walked e all other place is begun chosen = IfOk-weaker result _ _ (λ r behind. behind
+      → r ≡ nearest_in f (spots_of_else loops other) b → r ≡ nearest_in f (spots_of loops s) n
+  case_walked e all other place is begun chosen behind = behind
       ∙ ap (nearest_in f (spots_of_else loops other)) chosen
       ∙ sym (in_append f (spots_of_branches loops all) (spots_of_else loops other) m)
       ∙ ap (nearest_in f (spots_of_branches loops all ++ spots_of_else loops other)) (begun_by f loops s (case_ e all other place) n m is begun)
-      ∙ ap (λ t. nearest_in f (spots_of loops t) n) (sym is))
+      ∙ ap (λ t. nearest_in f (spots_of loops t) n) (sym is)
 
 module _ {X : Type 0} (f : Spot → Option Place) (loops : List Loop) (xs : List X) (i j : ℕ) (x : X) (n m total : Option Place) where
   pub next_stmt : (g : X → StmtTree) → i < length xs → x ≡ get_or xs i x → j ≡ i + 1 → m ≡ nearest_in f (spots_of loops (g x)) n

@@ -3,7 +3,7 @@ use Rattle.std.specs.Prelude.{Option, None, Bool as Truth}
 use Rattle.pv_place.specs.declared.place.Place.{Place}
 use Rattle.pv_tree.specs.Tree.{ExprTree, OperandTree, CallPlain, StmtTree, assign, assign_call, for_}
 use Rattle.pv_tree.specs.LiteralTypes.{Want, nothing, this, unsure}
-use Rattle.pv_tree.specs.Sorts.{one, taken, is_whole}
+use Rattle.pv_tree.specs.Sorts.{Sort, one, taken, is_whole}
 use Rattle.pv_tree.specs.Scopes.{Scope}
 use Rattle.pv_tree.specs.Things.{first_place}
 use Rattle.pv_tree.specs.Types.{sort_of}
@@ -21,10 +21,14 @@ assigned_misfits scope target value =
 abbrev pub called_misfits : Scope → OperandTree → CallPlain → Truth
 called_misfits scope target call = doesnt_fit (sort_of_target scope target) (sort_of_callee (callee_of scope (site as_value call)))
 
+-- the start or the end of a FOR, by its sort
+abbrev pub bound_misfits : Want → Sort → Truth
+bound_misfits (this ty) sort = doesnt_fit (one ty) (taken (this ty) sort)
+bound_misfits nothing sort = is_whole sort
+bound_misfits unsure sort = is_whole sort
+
 abbrev pub bound_at : Scope → Want → ExprTree → Option Place
-bound_at scope (this ty) e = place_where (doesnt_fit (one ty) (taken (this ty) (sort_of scope e))) (first_place e)
-bound_at scope nothing e = place_where (is_whole (sort_of scope e)) (first_place e)
-bound_at scope unsure e = place_where (is_whole (sort_of scope e)) (first_place e)
+bound_at scope want e = place_where (bound_misfits want (sort_of scope e)) (first_place e)
 
 abbrev pub misfit_place : Scope → StmtTree → Option Place
 misfit_place scope (assign target place value) = place_where (assigned_misfits scope target value) place

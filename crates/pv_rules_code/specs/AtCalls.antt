@@ -1,39 +1,32 @@
 -- Where a call breaks a rule.
-use Rattle.std.specs.Prelude.{ℕ, List, [], ◌∷◌, ◌++◌, Option, Some, None, option_and_then, is_none, bytes_eq, Bool as Truth, false, ◌&&◌, not}
-use Rattle.std.specs.List.{list_any}
+use Rattle.std.specs.Prelude.{List, Option, Some, None, option_and_then, is_none, Bool as Truth, false, ◌&&◌}
 use Rattle.pv_place.specs.declared.place.Place.{Place}
 use Rattle.pv_tree.specs.Tree.{PlacedName, ExprTree, ArgTree, CallPlain, BlockTree}
 use Rattle.pv_tree.specs.Scopes.{Scope}
 use Rattle.pv_tree.specs.Things.{first_place}
 use Rattle.pv_tree.specs.Sorts.{is_whole}
 use Rattle.pv_tree.specs.Types.{sort_of}
-use Rattle.pv_tree.specs.Callees.{How, CallSite, Callee, runs, not_declared, not_callable, unknown, callee_of, called_name, Param, params_of, param_for, block_of_callee}
-use Rattle.pv_tree.specs.Parts.{Loop, operand_of}
+use Rattle.pv_tree.specs.Callees.{How, CallSite, Callee, runs, not_declared, not_callable, unknown, callee_of, called_name, Param, param_for, block_of_callee, want_of_param}
+use Rattle.pv_tree.specs.Parts.{Loop, Part, parts_of, operand_of}
 use Rattle.pv_tree.specs.Rules.Targets.{goes_out_where, isnt_assignable}
-use Rattle.pv_tree.specs.Rules.Arguments.{place_of_word, words_of_args, must_be_given}
+use Rattle.pv_tree.specs.Rules.Arguments.{place_of_word}
 use Rattle.pv_tree.specs.Rules.Misfits.{is_called_date, doesnt_pass}
 use Rattle.pv_rules_expr.specs.Places.{place_where}
 use Rattle.pv_rules_expr.specs.Looks.{nearer_of}
 use Rattle.pv_rules_expr.specs.NearestIn.{nearest_in}
 use Rattle.pv_rules_code.specs.Counted.{is_counted_value}
 use Rattle.pv_rules_code.specs.AtGiven.{lacking_at, later_at}
-use Rattle.pv_rules_code.specs.declared.site.Pass.{Pass}
-use Rattle.pv_rules_code.specs.declared.site.Pass.TheVariants.{Misfit, Output, Unknown, Counter}
-use Rattle.pv_rules_code.specs.declared.site.Ask.{Ask}
-use Rattle.pv_rules_code.specs.declared.site.Ask.TheVariants.{Missing, NotCallable, Date, Args, Later, Lacking}
+use Rattle.pv_rules_code.specs.Sought.Pass.{Pass}
+use Rattle.pv_rules_code.specs.Sought.Pass.{Misfit, Output, Unknown, Counter}
+use Rattle.pv_rules_code.specs.Sought.Ask.{Ask}
+use Rattle.pv_rules_code.specs.Sought.Ask.{Missing, Date, Args, Later, Lacking}
 
--- a called name that isn't declared, or that can't be called
+-- a called name that isn't declared
 abbrev pub not_declared_at : Callee → Option Place
 not_declared_at (runs b) = None
 not_declared_at (not_declared place) = Some place
 not_declared_at (not_callable place) = None
 not_declared_at unknown = None
-
-abbrev pub not_callable_at : Callee → Option Place
-not_callable_at (runs b) = None
-not_callable_at (not_declared place) = None
-not_callable_at (not_callable place) = Some place
-not_callable_at unknown = None
 
 -- a called name or a second one that is a variable of DATE_AND_TIME
 abbrev pub second_date_at : Scope → PlacedName → Option Place
@@ -65,6 +58,10 @@ unknown_at how block a = place_where (is_none (param_for how block a)) (place_of
 abbrev pub param_in : Callee → How → ArgTree → Option Param
 param_in callee how a = elim (block_of_callee callee) [ None ↦ None | Some b ↦ param_for how b a ]
 
+-- the expressions of an argument, by what is wanted of it
+abbrev pub arg_parts : Scope → Callee → How → ArgTree → List Part
+arg_parts scope callee how a = parts_of scope (want_of_param (param_in callee how a)) a.value
+
 abbrev pub unknown_in : Callee → How → ArgTree → Option Place
 unknown_in callee how a = option_and_then (λ b. unknown_at how b a) (block_of_callee callee)
 
@@ -80,7 +77,6 @@ arg_place Counter scope loops callee how a = counter_at loops (param_in callee h
 
 abbrev pub call_place : Ask → Scope → List Loop → CallSite → Option Place
 call_place Missing scope loops s = not_declared_at (callee_of scope s)
-call_place NotCallable scope loops s = not_callable_at (callee_of scope s)
 call_place Date scope loops s = date_at scope s.call
 call_place Later scope loops s = option_and_then (later_at s) (block_of_callee (callee_of scope s))
 call_place Lacking scope loops s = option_and_then (lacking_at s) (block_of_callee (callee_of scope s))

@@ -19,8 +19,8 @@ use Rattle.pv_tree.specs.Rules.OutOfRange.{is_outside, want_of_selector}
 use Rattle.pv_rules_expr.specs.Places.{place_where}
 use Rattle.pv_rules_expr.specs.NearestIn.{nearest_in}
 use Rattle.pv_rules_code.specs.AtLoops.{word_missing, word_date}
-use Rattle.pv_rules_code.specs.declared.site.Pick.{Pick}
-use Rattle.pv_rules_code.specs.declared.site.Pick.TheVariants.{Missing, Date, Outside, Other}
+use Rattle.pv_rules_code.specs.Sought.Pick.{Pick}
+use Rattle.pv_rules_code.specs.Sought.Pick.{Missing, Date, Outside, Other}
 
 abbrev pub selector_at : Scope → ExprTree → Option Place
 selector_at scope e = place_where (is_of_other_type is_whole_number (taken nothing (sort_of scope e))) (first_place e)

@@ -1,5 +1,5 @@
 -- Which parameters the arguments of a call give, and which words stand twice.
-use Rattle.std.specs.Prelude.{◌≡◌, ℕ, List, [], ◌∷◌, ◌++◌, map, Option, Some, None, option_and_then, bytes_eq, is_some, Bool as Truth, false, ◌&&◌, ◌||◌, not}
+use Rattle.std.specs.Prelude.{◌≡◌, ℕ, List, [], ◌∷◌, ◌++◌, map, Option, Some, None, bytes_eq, is_some, Bool as Truth, false, ◌&&◌, ◌||◌, not}
 use Rattle.std.specs.List.{list_any}
 use Rattle.pv_place.specs.declared.place.Place.{Place}
 use Rattle.pv_types.specs.Tree.{VarTree}
@@ -7,8 +7,8 @@ use Rattle.pv_types.specs.View.{name_of, section_of}
 use Rattle.pv_types.specs.declared.declaration.Section.{Section}
 use Rattle.pv_tree.specs.Tree.{PlacedName, ArgTree, BlockTree}
 use Rattle.pv_tree.specs.Scopes.{is_fc}
-use Rattle.pv_tree.specs.Callees.{How, CallSite, Param, params_of, param_for, is_input, is_in_out}
-use Rattle.pv_tree.specs.Rules.Arguments.{words_of_args, must_be_given}
+use Rattle.pv_tree.specs.Callees.{How, CallSite, Param, param_for, is_input, is_in_out}
+use Rattle.pv_tree.specs.Rules.Arguments.{words_of_args}
 use Rattle.pv_names.specs.Firsts.{number_in}
 use Rattle.pv_rules_expr.specs.Places.{place_where}
 use Rattle.pv_rules_expr.specs.Looks.{nearer_of}

@@ -16,10 +16,10 @@ use Rattle.pv_rules_expr.specs.Places.{place_where}
 use Rattle.pv_rules_expr.specs.Operands.{name_at}
 use Rattle.pv_rules_expr.specs.NearestIn.{nearest_in}
 use Rattle.pv_rules_code.specs.Counted.{is_counted}
-use Rattle.pv_rules_code.specs.declared.site.Count.{Count}
-use Rattle.pv_rules_code.specs.declared.site.Count.TheVariants.{Missing, Date, Other, Inner}
-use Rattle.pv_rules_code.specs.declared.site.Stride.{Stride}
-use Rattle.pv_rules_code.specs.declared.site.Stride.TheVariants.{Wrong, Outside}
+use Rattle.pv_rules_code.specs.Sought.Count.{Count}
+use Rattle.pv_rules_code.specs.Sought.Count.{Missing, Date, Other, Inner}
+use Rattle.pv_rules_code.specs.Sought.Stride.{Stride}
+use Rattle.pv_rules_code.specs.Sought.Stride.{Wrong, Outside}
 
 -- the name of a variable of DATE_AND_TIME
 abbrev pub date_of : Thing → Option Place

@@ -29,3 +29,8 @@ leave_of s = None
 abbrev pub leave_place : List Loop → StmtTree → Option Place
 leave_place [] s = leave_of s
 leave_place (l ∷ loops) s = None
+
+-- the same, by its place
+abbrev pub left_place : List Loop → Place → Option Place
+left_place [] place = Some place
+left_place (l ∷ loops) place = None

@@ -1,3 +1,4 @@
+pub mod AreInCode
 pub mod AtAssignments
 pub mod AtCalls
 pub mod AtCases
@@ -7,5 +8,7 @@ pub mod AtStatements
 pub mod AtTargets
 pub mod Counted
 pub mod InCode
+pub mod Nears
 pub mod Sites
+pub mod Sought
 pub mod Spots

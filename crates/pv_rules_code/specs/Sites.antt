@@ -13,10 +13,10 @@ use Rattle.pv_rules_code.specs.AtAssignments.{misfit_place}
 use Rattle.pv_rules_expr.specs.Looks.{near_parts}
 use Rattle.pv_rules_code.specs.AtCases.{selector_place, values_place}
 use Rattle.pv_rules_code.specs.AtStatements.{conditions_place, leave_place}
-use Rattle.pv_rules_code.specs.declared.site.Aim.{Aim}
-use Rattle.pv_rules_code.specs.declared.site.Aim.TheVariants.{Fixed, Missing, Address, Misused, Beyond}
-use Rattle.pv_rules_code.specs.declared.site.Site.{Site}
-use Rattle.pv_rules_code.specs.declared.site.Site.TheVariants.{Parts, Misfit, Target, CountedTarget, Call, Counter, By, Selector, Value, Condition, Leave}
+use Rattle.pv_rules_code.specs.Sought.Aim.{Aim}
+use Rattle.pv_rules_code.specs.Sought.Aim.{Fixed, Missing, Address, Misused, Beyond}
+use Rattle.pv_rules_code.specs.Sought.Site.{Site}
+use Rattle.pv_rules_code.specs.Sought.Site.{Parts, Misfit, Target, CountedTarget, Call, Counter, By, Selector, Value, Condition, Leave}
 
 abbrev pub site_place : Site → Scope → Spot → Option Place
 site_place (Parts look) scope s = near_parts look scope (parts_of_stmt scope s.stmt) None

@@ -1,5 +1,6 @@
 //! Arguments of calls, each by itself.
-ghost use Rattle.std.specs.Prelude.{◌≡◌, IfOk, None, map, option_map};
+ghost use Rattle.std.specs.Prelude.{◌≡◌, OnOk, flat_map, map, option_map};
+ghost use Rattle.pv_tree.specs.Callees as callees;
 ghost use Rattle.pv_tree.specs.Parts as parts;
 ghost use Rattle.pv_tree.specs.Rules.Arguments.{place_of_word};
 ghost use Rattle.pv_tree.specs.Rules.Targets as targets;
@@ -7,17 +8,21 @@ ghost use Rattle.pv_tree.specs.Rules.Loops.{counts};
 ghost use Rattle.pv_tree.specs.View.{arg_tree, expr_tree, operand_tree};
 ghost use Rattle.pv_names.specs.InScope.{scope_of};
 ghost use Rattle.pv_names.specs.Callees.{how_tree, callee_tree, param_tree};
-ghost use Rattle.pv_rules_expr.specs.NearestIn.{nearest_in};
-ghost use Rattle.pv_rules_code.specs.AtCalls.{param_in, unknown_in, misfit_at, output_at, counter_at, arg_place};
+ghost use Rattle.pv_names.specs.Sorts.{want_tree};
+ghost use Rattle.pv_rules_code.specs.AtCalls.{param_in, arg_parts, unknown_in, output_at, counter_at, arg_place};
 ghost use Rattle.pv_rules_code.specs.Counted.{is_counted, is_counted_operand, is_counted_value};
+ghost use Rattle.pv_rules_code.specs.Nears.{HasParts, HasPasses, HasPassesIn};
 ghost use Rattle.pv_rules_code.specs.Spots.{loop_tree};
 
-use crate::fit::misfits_param;
-use crate::site::{Loop, Pass};
-use crate::target::is_fixed_operand;
-use pv_names::{Callee, How, Param, Scope, first_place, param_for, section_of_param};
+use crate::around::Loop;
+use crate::fit::{misfits_param, want_of_type};
+use crate::near::PassNear;
+use crate::target::is_fixed;
+use pv_names::{
+    Callee, How, Param, Scope, Want, first_place, param_for, section_of_param, type_of_param,
+};
 use pv_place::Place;
-use pv_rules_expr::{nearer_of, operand_of};
+use pv_rules_expr::{Near, look_for_all, nearer_of, operand_of, where_is};
 use pv_tree::{Arg, Expr, Operand, Root};
 use pv_types::{Name, Section};
 use std::alloc::{AllocError, Global};
@@ -144,7 +149,7 @@ fn isnt_assignable(scope: &Scope, e: &Expr) -> bool
         (parts.operand_of (expr_tree e.now)) }
 {
     match operand_of(e) {
-        Some(operand) => is_fixed_operand(scope, operand),
+        Some(operand) => is_fixed(scope.thing_of(operand)),
         None => true,
     }
 }
@@ -161,62 +166,63 @@ fn output_place(scope: &Scope, param: Option<Param>, arg: &Arg) -> Option<Place>
     }
 }
 
-/// The place of an argument that doesn't fit its parameter.
-fn misfit_place(
-    scope: &Scope,
-    alloc: Global,
-    param: Option<Param>,
-    arg: &Arg,
-) -> Result<Option<Place>, AllocError>
-    ensures { IfOk result (λ o. o ≡ misfit_at (scope_of scope.now)
-        (option_map param_tree param.entry) (arg_tree arg.now)) }
+/// What is wanted of an argument for this parameter.
+fn want_of_param(param: Option<Param>) -> Want
+    ensures { want_tree result ≡ callees.want_of_param (option_map param_tree param.entry) }
 {
-    if misfits_param(scope, alloc, param, &arg.value)? {
-        Ok(Some(arg.place))
-    } else {
-        Ok(None)
+    match param {
+        Some(param) => want_of_type(type_of_param(param)),
+        None => Want::Unsure,
     }
 }
 
-/// Where an argument breaks the rule.
-fn arg_place<'p>(
+/// The nearest places, with those of an argument.
+pub(crate) fn add_arg<'p>(
     scope: &Scope<'p>,
     alloc: Global,
-    what: Pass,
     loops: &[Loop],
     callee: Callee<'p>,
     how: How,
     arg: &Arg,
-) -> Result<Option<Place>, AllocError>
-    ensures { IfOk result (λ o. o ≡ arg_place what (scope_of scope.now)
-        (map loop_tree loops.now) (callee_tree callee.entry) (how_tree how) (arg_tree arg.now)) }
+    near: &mut Near,
+    passes: &mut PassNear,
+) -> Result<(), AllocError>
+    ensures parts { OnOk result (HasParts (scope_of scope.now) (arg_parts (scope_of scope.now)
+        (callee_tree callee.entry) (how_tree how) (arg_tree arg.now)) near.old near.new) }
+    ensures passes { OnOk result (HasPasses (λ what. arg_place what (scope_of scope.now)
+        (map loop_tree loops.now) (callee_tree callee.entry) (how_tree how) (arg_tree arg.now))
+        passes.old passes.new) }
 {
-    match what {
-        Pass::Misfit => misfit_place(scope, alloc, param_in(callee, how, arg), arg),
-        Pass::Output => Ok(output_place(scope, param_in(callee, how, arg), arg)),
-        Pass::Unknown => Ok(unknown_place(callee, how, arg)),
-        Pass::Counter => Ok(counter_place(loops, param_in(callee, how, arg), arg)),
-    }
+    let param = param_in(callee, how, arg);
+    let sort = look_for_all(scope, alloc, want_of_param(param), &arg.value, near)?;
+    let misfit = where_is(misfits_param(scope, param, &arg.value, sort), arg.place);
+    passes.misfit = nearer_of(passes.misfit, misfit);
+    passes.output = nearer_of(passes.output, output_place(scope, param, arg));
+    passes.unknown = nearer_of(passes.unknown, unknown_place(callee, how, arg));
+    passes.counter = nearer_of(passes.counter, counter_place(loops, param, arg));
+    Ok(())
 }
 
-/// The nearest place of an argument that breaks the rule.
-pub(crate) fn args_place<'p>(
+/// The nearest places, with those of arguments.
+pub(crate) fn add_args<'p>(
     scope: &Scope<'p>,
     alloc: Global,
-    what: Pass,
     loops: &[Loop],
     callee: Callee<'p>,
     how: How,
     args: &[Arg],
-) -> Result<Option<Place>, AllocError>
-    ensures { IfOk result (λ o. o ≡ nearest_in (arg_place what (scope_of scope.now)
+    near: &mut Near,
+    passes: &mut PassNear,
+) -> Result<(), AllocError>
+    ensures parts { OnOk result (HasParts (scope_of scope.now) (flat_map (arg_parts
+        (scope_of scope.now) (callee_tree callee.entry) (how_tree how)) (map arg_tree args.now))
+        near.old near.new) }
+    ensures passes { OnOk result (HasPassesIn (λ what. arg_place what (scope_of scope.now)
         (map loop_tree loops.now) (callee_tree callee.entry) (how_tree how))
-        (map arg_tree args.now) None) }
+        (map arg_tree args.now) passes.old passes.new) }
 {
-    let mut best = None;
     for arg in args {
-        let found = arg_place(scope, alloc, what, loops, callee, how, arg)?;
-        best = nearer_of(best, found);
+        add_arg(scope, alloc, loops, callee, how, arg, near, passes)?;
     }
-    Ok(best)
+    Ok(())
 }

@@ -1,24 +1,31 @@
-//! The selector and the values of a CASE, each by itself: where one breaks a rule.
-ghost use Rattle.std.specs.Prelude.{◌≡◌, ◌∷◌, IfOk, option_to_list};
+//! The selector and the values of a CASE: where one breaks a rule.
+ghost use Rattle.std.specs.Prelude.{◌≡◌, ◌∷◌, List, OnOk, map, option_to_list};
+ghost use Rattle.pv_place.specs.declared.place.Place.{Place};
+ghost use Rattle.pv_tree.specs.Tree.{ElseTree, case_};
 ghost use Rattle.pv_tree.specs.LiteralTypes as literals;
 ghost use Rattle.pv_tree.specs.Fits as fits;
-ghost use Rattle.pv_tree.specs.Rules.MissingNames.{values_of_choices};
+ghost use Rattle.pv_tree.specs.Sorts as sorts;
+ghost use Rattle.pv_tree.specs.Parts.{Loop};
+ghost use Rattle.pv_tree.specs.Rules.MissingNames.{values_of_choices, values_of_branches};
 ghost use Rattle.pv_tree.specs.declared.stmt.Choice.TheVariants.{Const};
 ghost use Rattle.pv_tree.specs.Rules.OutOfRange as range;
-ghost use Rattle.pv_tree.specs.View.{expr_tree, stmt_tree};
+ghost use Rattle.pv_tree.specs.View.{branches_of, expr_tree, stmt_trees};
 ghost use Rattle.pv_names.specs.InScope.{scope_of};
 ghost use Rattle.pv_names.specs.Sorts.{sort_tree, want_tree};
 ghost use Rattle.pv_names.specs.Views.{thing_tree};
-ghost use Rattle.pv_rules_expr.specs.NearestIn.{nearest_in};
-ghost use Rattle.pv_rules_code.specs.AtCases.{selector_at, selector_place, rank, same_type, is_other_type, is_no_constant, literal_at, value_at, values_place};
+ghost use Rattle.pv_rules_code.specs.AtCases.{rank, same_type, is_other_type, is_no_constant, literal_at, value_at};
+ghost use Rattle.pv_rules_code.specs.Nears.{HasPicks, HasPicksIn, HasSites};
+ghost use Rattle.pv_rules_code.specs.Sites.{site_place};
+ghost use Rattle.pv_rules_code.specs.Spots.{spot};
 
-use crate::counter::{literal_outside, word_date, word_missing, written_of};
-use crate::site::Pick;
+use crate::counter::{date_of, literal_outside, written_of};
+use crate::near::{PickNear, SiteNear};
 use pv_names::{
-    Held, Scope, Sort, Thing, Want, first_place, is_whole_number, own_type, taken, type_of_literal,
+    Held, Scope, Sort, Thing, Want, dated, first_place, is_whole_number, own_type, taken,
+    type_of_literal,
 };
 use pv_place::Place;
-use pv_rules_expr::{is_whole, nearer_of, where_is};
+use pv_rules_expr::{is_whole, look_for_all, name_of_missing, nearer_of, where_is};
 use pv_tree::{Choice, Expr, Stmt};
 use pv_types::{Literal, Name};
 use pv_word::Ty;
@@ -68,23 +75,8 @@ fn is_no_constant(want: Want, thing: Thing) -> bool
     }
 }
 
-/// Where a literal among the values breaks the rule.
-fn literal_place(what: Pick, want: Want, literal: &Literal) -> Option<Place>
-    ensures { result ≡ literal_at what (want_tree want) literal.now }
-{
-    match what {
-        Pick::Missing => None,
-        Pick::Date => None,
-        Pick::Outside => literal_outside(want, literal),
-        Pick::Other => {
-            let ty = type_of_literal(want, written_of(literal));
-            where_is(is_other_type(want, ty), literal.place)
-        }
-    }
-}
-
 /// Whether a part is whole or of another type than INT and DINT.
-pub(crate) fn isnt_whole_number(sort: Sort) -> bool
+fn isnt_whole_number(sort: Sort) -> bool
     ensures { result ≡ fits.is_of_other_type literals.is_whole_number (sort_tree sort) }
 {
     if is_whole(sort) {
@@ -96,150 +88,114 @@ pub(crate) fn isnt_whole_number(sort: Sort) -> bool
     }
 }
 
-/// Where a constant among the values breaks the rule.
-fn const_place(scope: &Scope, what: Pick, want: Want, name: &Name, place: Place) -> Option<Place>
-    ensures { result ≡ value_at what (scope_of scope.now) (want_tree want)
-        (Const name.now place) }
+/// The nearest places, with those of a literal among the values.
+fn add_literal(want: Want, literal: &Literal, picks: &mut PickNear)
+    ensures { HasPicks (λ what. literal_at what (want_tree want) literal.now) picks.old picks.new }
 {
-    match what {
-        Pick::Missing => word_missing(scope, name, place),
-        Pick::Date => word_date(scope, name, place),
-        Pick::Outside => None,
-        Pick::Other => where_is(is_no_constant(want, scope.word(name, false, place)), place),
-    }
+    let ty = type_of_literal(want, written_of(literal));
+    let other = where_is(is_other_type(want, ty), literal.place);
+    picks.outside = nearer_of(picks.outside, literal_outside(want, literal));
+    picks.other = nearer_of(picks.other, other);
 }
 
-/// Where a value breaks the rule.
-fn value_place(scope: &Scope, what: Pick, want: Want, choice: &Choice) -> Option<Place>
-    ensures { result ≡ value_at what (scope_of scope.now) (want_tree want) choice.now }
+/// The nearest places, with those of a constant among the values.
+fn add_const(scope: &Scope, want: Want, name: &Name, place: Place, picks: &mut PickNear)
+    ensures { HasPicks (λ what. value_at what (scope_of scope.now) (want_tree want)
+        (Const name.now place)) picks.old picks.new }
+{
+    let thing = scope.word(name, false, place);
+    picks.missing = nearer_of(picks.missing, name_of_missing(thing));
+    picks.date = nearer_of(picks.date, date_of(dated(place, thing)));
+    picks.other = nearer_of(picks.other, where_is(is_no_constant(want, thing), place));
+}
+
+/// The nearest places, with those of a value.
+fn add_value(scope: &Scope, want: Want, choice: &Choice, picks: &mut PickNear)
+    ensures { HasPicks (λ what. value_at what (scope_of scope.now) (want_tree want) choice.now)
+        picks.old picks.new }
 {
     match choice {
-        Choice::Lit(literal) => literal_place(what, want, literal),
-        Choice::Const(name, place) => const_place(scope, what, want, name, *place),
+        Choice::Lit(literal) => add_literal(want, literal, picks),
+        Choice::Const(name, place) => add_const(scope, want, name, *place, picks),
     }
 }
 
-/// The nearest place, with those of a value or of both ends of a range.
-fn range_place(
-    scope: &Scope,
-    what: Pick,
-    want: Want,
-    range: &(Choice, Option<Choice>),
-    nearest: Option<Place>,
-) -> Option<Place>
-    ensures { result ≡ nearest_in (value_at what (scope_of scope.now) (want_tree want))
-        (range.now.0 ∷ option_to_list range.now.1) nearest }
+/// The nearest places, with those of a value or of both ends of a range.
+fn add_range(scope: &Scope, want: Want, range: &(Choice, Option<Choice>), picks: &mut PickNear)
+    ensures { HasPicksIn (λ what. value_at what (scope_of scope.now) (want_tree want))
+        (range.now.0 ∷ option_to_list range.now.1) picks.old picks.new }
 {
-    let so_far = nearer_of(nearest, value_place(scope, what, want, &range.0));
+    add_value(scope, want, &range.0, picks);
     match &range.1 {
-        Some(high) => nearer_of(so_far, value_place(scope, what, want, high)),
-        None => so_far,
+        Some(high) => add_value(scope, want, high, picks),
+        None => {}
     }
 }
 
-/// The nearest place, with those of the values of a branch.
-fn choices_place(
+/// The nearest places, with those of the values of a branch.
+fn add_choices(
     scope: &Scope,
-    what: Pick,
     want: Want,
     choices: &[(Choice, Option<Choice>)],
-    nearest: Option<Place>,
-) -> Option<Place>
-    ensures { result ≡ nearest_in (value_at what (scope_of scope.now) (want_tree want))
-        (values_of_choices choices.now) nearest }
+    picks: &mut PickNear,
+)
+    ensures { HasPicksIn (λ what. value_at what (scope_of scope.now) (want_tree want))
+        (values_of_choices choices.now) picks.old picks.new }
 {
-    let mut best = nearest;
     for choice in choices {
-        best = range_place(scope, what, want, choice, best);
+        add_range(scope, want, choice, picks);
     }
-    best
 }
 
-/// What the values of a CASE are to be: of its selector's type.
-fn want_of_selector(scope: &Scope, alloc: Global, e: &Expr) -> Result<Want, AllocError>
-    ensures { IfOk result (λ w. want_tree w
-        ≡ range.want_of_selector (scope_of scope.now) (expr_tree e.now)) }
+/// The nearest places, with those of the values of all branches.
+fn add_branches(
+    scope: &Scope,
+    want: Want,
+    branches: &Vec<(Vec<(Choice, Option<Choice>)>, Vec<Stmt>)>,
+    picks: &mut PickNear,
+)
+    ensures { HasPicksIn (λ what. value_at what (scope_of scope.now) (want_tree want))
+        (values_of_branches (branches_of (map (λ b. (b.0.items, stmt_trees b.1.items))
+        branches.now.items))) picks.old picks.new }
 {
-    match scope.type_of(alloc, Want::Nothing, e)? {
+    for branch in branches {
+        add_choices(scope, want, branch.0.as_slice(), picks);
+    }
+}
+
+/// What the values of a CASE are to be, by the sort of its selector: of its type.
+fn want_of_selector(sort: Sort) -> Want
+    ensures { want_tree result ≡ range.want_of_type_where (sorts.own_type
+        (sorts.taken literals.nothing (sort_tree sort))) }
+{
+    match own_type(taken(Want::Nothing, sort)) {
         Some(ty) => {
             if is_whole_number(ty) {
-                Ok(Want::This(ty))
+                Want::This(ty)
             } else {
-                Ok(Want::Unsure)
+                Want::Unsure
             }
         }
-        None => Ok(Want::Unsure),
+        None => Want::Unsure,
     }
 }
 
-/// Where a value of a CASE breaks the rule, if a statement is one.
-pub(crate) fn values_place(
+/// The nearest places, with those of a CASE.
+pub(crate) fn add_case(
     scope: &Scope,
     alloc: Global,
-    what: Pick,
-    stmt: &Stmt,
-) -> Result<Option<Place>, AllocError>
-    ensures { IfOk result (λ o. o ≡ values_place what (scope_of scope.now) (stmt_tree stmt.now)) }
+    selector: &Expr,
+    branches: &Vec<(Vec<(Choice, Option<Choice>)>, Vec<Stmt>)>,
+    near: &mut SiteNear,
+) -> Result<(), AllocError>
+    ensures { (loops : List Loop) (other : ElseTree) (place : Place) → OnOk result (HasSites
+        (λ what. site_place what (scope_of scope.now) (spot loops (case_ (expr_tree selector.now)
+        (branches_of (map (λ b. (b.0.items, stmt_trees b.1.items)) branches.now.items))
+        other place))) near.old near.new) }
 {
-    match stmt {
-        Stmt::Case {
-            selector,
-            branches,
-            ..
-        } => {
-            let want = want_of_selector(scope, alloc, selector)?;
-            let mut best = None;
-            for branch in branches {
-                best = choices_place(scope, what, want, branch.0.as_slice(), best);
-            }
-            Ok(best)
-        }
-        Stmt::For { .. } => Ok(None),
-        Stmt::Assign { .. } => Ok(None),
-        Stmt::AssignCall { .. } => Ok(None),
-        Stmt::If { .. } => Ok(None),
-        Stmt::While { .. } => Ok(None),
-        Stmt::Repeat { .. } => Ok(None),
-        Stmt::Exit(_) => Ok(None),
-        Stmt::Continue(_) => Ok(None),
-        Stmt::Return(_) => Ok(None),
-        Stmt::Call(_) => Ok(None),
-        Stmt::Empty(_) => Ok(None),
-    }
-}
-
-/// The place of a selector that isn't INT or DINT.
-fn selector_at(scope: &Scope, alloc: Global, e: &Expr) -> Result<Option<Place>, AllocError>
-    ensures { IfOk result (λ o. o ≡ selector_at (scope_of scope.now) (expr_tree e.now)) }
-{
-    let sort = scope.sort_of(alloc, e)?;
-    if isnt_whole_number(taken(Want::Nothing, sort)) {
-        Ok(Some(first_place(e)))
-    } else {
-        Ok(None)
-    }
-}
-
-/// The place of the selector of a CASE that isn't INT or DINT, if a statement is one.
-pub(crate) fn selector_place(
-    scope: &Scope,
-    alloc: Global,
-    stmt: &Stmt,
-) -> Result<Option<Place>, AllocError>
-    ensures { IfOk result (λ o. o ≡ selector_place (scope_of scope.now) (stmt_tree stmt.now)) }
-{
-    match stmt {
-        Stmt::Case { selector, .. } => selector_at(scope, alloc, selector),
-        Stmt::For { .. } => Ok(None),
-        Stmt::Assign { .. } => Ok(None),
-        Stmt::AssignCall { .. } => Ok(None),
-        Stmt::If { .. } => Ok(None),
-        Stmt::While { .. } => Ok(None),
-        Stmt::Repeat { .. } => Ok(None),
-        Stmt::Exit(_) => Ok(None),
-        Stmt::Continue(_) => Ok(None),
-        Stmt::Return(_) => Ok(None),
-        Stmt::Call(_) => Ok(None),
-        Stmt::Empty(_) => Ok(None),
-    }
+    let sort = look_for_all(scope, alloc, Want::Nothing, selector, &mut near.parts)?;
+    let isnt = isnt_whole_number(taken(Want::Nothing, sort));
+    near.selector = nearer_of(near.selector, where_is(isnt, first_place(selector)));
+    add_branches(scope, want_of_selector(sort), branches, &mut near.picks);
+    Ok(())
 }

@@ -1,30 +1,39 @@
-//! The words and literals of a FOR, each by itself: where one breaks a rule.
-ghost use Rattle.std.specs.Prelude.{◌≡◌, ◌||◌, map, option_and_then};
+//! What stands before DO in a FOR: where it breaks a rule.
+ghost use Rattle.std.specs.Prelude.{◌≡◌, ◌||◌, OnOk, map, option_and_then};
+ghost use Rattle.pv_place.specs.declared.place.Place.{Place};
 ghost use Rattle.pv_types.specs.View.{type_tree, var_tree, section_of, declared_type_of};
+ghost use Rattle.pv_tree.specs.Tree.{StmtTrees, for_};
 ghost use Rattle.pv_tree.specs.Scopes.{is_const};
 ghost use Rattle.pv_tree.specs.Parts as parts;
 ghost use Rattle.pv_tree.specs.Rules.Loops as rule;
-ghost use Rattle.pv_tree.specs.View.{stmt_tree};
+ghost use Rattle.pv_tree.specs.View.{expr_tree};
 ghost use Rattle.pv_names.specs.InScope.{scope_of};
-ghost use Rattle.pv_names.specs.Sorts.{number_value, want_tree};
+ghost use Rattle.pv_names.specs.Sorts.{number_value, sort_tree, want_tree};
 ghost use Rattle.pv_names.specs.Views.{thing_tree};
-ghost use Rattle.pv_rules_code.specs.Spots.{loop_tree};
-ghost use Rattle.pv_rules_code.specs.declared.site.Stride.TheVariants.{Wrong, Outside};
-ghost use Rattle.pv_rules_code.specs.AtLoops.{date_of, word_date, word_missing, count_at, count_place, is_outside_type, by_at, step_place};
+ghost use Rattle.pv_rules_expr.specs.Nearest.{nearer_of};
+ghost use Rattle.pv_rules_code.specs.Spots.{loop_tree, spot};
+ghost use Rattle.pv_rules_code.specs.Sought.Stride.{Wrong, Outside};
+ghost use Rattle.pv_rules_code.specs.AtAssignments.{bound_misfits, bound_at};
+ghost use Rattle.pv_rules_code.specs.AtLoops.{date_of, count_at, is_outside_type, by_at};
+ghost use Rattle.pv_rules_code.specs.Nears.{HasCounts, HasParts, HasSites, HasStrides};
+ghost use Rattle.pv_rules_code.specs.Sites.{site_place};
 
 use crate::argument::is_counted;
-use crate::site::{Count, Loop, Stride};
+use crate::around::Loop;
+use crate::fit::doesnt_fit;
+use crate::near::{CountNear, SiteNear, StrideNear};
 use pv_names::{
-    Held, Number, Scope, Thing, Want, Written, dated, is_const, is_outside, is_whole_number,
-    type_of_literal, widens,
+    Held, Number, Scope, Sort, Thing, Want, Written, dated, first_place, is_const, is_outside,
+    is_whole_number, taken, type_of_literal, widens,
 };
 use pv_place::Place;
-use pv_rules_expr::{name_of_missing, where_is};
-use pv_tree::{ForHead, Stmt};
+use pv_rules_expr::{Near, is_whole, look_for_all, name_of_missing, nearer_of, where_is};
+use pv_tree::{Expr, ForHead};
 use pv_types::{DeclType, Literal, Name, Var};
+use std::alloc::{AllocError, Global};
 
 /// The name of a variable of DATE_AND_TIME that is used.
-fn date_of(thing: Thing) -> Option<Place>
+pub(crate) fn date_of(thing: Thing) -> Option<Place>
     ensures { result ≡ date_of (thing_tree thing.entry) }
 {
     match thing {
@@ -100,40 +109,6 @@ fn wrong_step(want: Want, literal: &Literal) -> Option<Place>
     }
 }
 
-/// Where a step breaks the rule.
-fn by_place(what: Stride, want: Want, literal: &Literal) -> Option<Place>
-    ensures { result ≡ by_at what (want_tree want) literal.now }
-{
-    match what {
-        Stride::Wrong => wrong_step(want, literal),
-        Stride::Outside => literal_outside(want, literal),
-    }
-}
-
-/// Where a step, if there is one, breaks the rule.
-fn step_at(what: Stride, want: Want, by: &Option<Literal>) -> Option<Place>
-    ensures { result ≡ option_and_then (by_at what (want_tree want)) by.now }
-{
-    match by {
-        Some(literal) => by_place(what, want, literal),
-        None => None,
-    }
-}
-
-/// The place of a word that isn't declared.
-pub(crate) fn word_missing(scope: &Scope, name: &Name, place: Place) -> Option<Place>
-    ensures { result ≡ word_missing (scope_of scope.now) (name.now, place) }
-{
-    name_of_missing(scope.word(name, false, place))
-}
-
-/// The place of a word that is a variable of DATE_AND_TIME.
-pub(crate) fn word_date(scope: &Scope, name: &Name, place: Place) -> Option<Place>
-    ensures { result ≡ word_date (scope_of scope.now) (name.now, place) }
-{
-    date_of(dated(place, scope.word(name, false, place)))
-}
-
 /// Whether a type isn't INT or DINT.
 fn doesnt_count(scope: &Scope, ty: &DeclType) -> bool
     ensures { result ≡ rule.doesnt_count (scope_of scope.now) (type_tree ty.now) }
@@ -165,50 +140,36 @@ fn isnt_counter(scope: &Scope, name: &Name, place: Place) -> bool
     }
 }
 
-/// Where the variable of a FOR breaks the rule.
-fn count_at(scope: &Scope, what: Count, loops: &[Loop], name: &Name, place: Place) -> Option<Place>
-    ensures { result ≡ count_at what (scope_of scope.now) (map loop_tree loops.now)
-        (name.now, place) }
+/// The nearest places, with those of the variable of a FOR.
+fn add_counter(scope: &Scope, loops: &[Loop], name: &Name, place: Place, counts: &mut CountNear)
+    ensures { HasCounts (λ what. count_at what (scope_of scope.now) (map loop_tree loops.now)
+        (name.now, place)) counts.old counts.new }
 {
-    match what {
-        Count::Missing => word_missing(scope, name, place),
-        Count::Date => word_date(scope, name, place),
-        Count::Other => where_is(isnt_counter(scope, name, place), place),
-        Count::Inner => where_is(is_counted(loops, name), place),
-    }
+    let thing = scope.word(name, false, place);
+    let other = where_is(isnt_counter(scope, name, place), place);
+    let inner = where_is(is_counted(loops, name), place);
+    counts.missing = nearer_of(counts.missing, name_of_missing(thing));
+    counts.date = nearer_of(counts.date, date_of(dated(place, thing)));
+    counts.other = nearer_of(counts.other, other);
+    counts.inner = nearer_of(counts.inner, inner);
 }
 
-/// The same, by what stands before DO in the FOR.
-fn count_of(scope: &Scope, what: Count, loops: &[Loop], head: &ForHead) -> Option<Place>
-    ensures { result ≡ count_at what (scope_of scope.now) (map loop_tree loops.now)
-        (head.now.var, head.now.var_place) }
+/// The nearest places, with those of the step of a FOR, if there is one.
+fn add_step(want: Want, by: &Option<Literal>, strides: &mut StrideNear)
+    ensures { HasStrides (λ what. option_and_then (by_at what (want_tree want)) by.now)
+        strides.old strides.new }
 {
-    count_at(scope, what, loops, &head.var, head.var_place)
-}
-
-/// Where the variable of a FOR breaks the rule, if a statement is one.
-pub(crate) fn count_place(scope: &Scope, what: Count, loops: &[Loop], stmt: &Stmt) -> Option<Place>
-    ensures { result ≡ count_place what (scope_of scope.now) (map loop_tree loops.now)
-        (stmt_tree stmt.now) }
-{
-    match stmt {
-        Stmt::For { head, .. } => count_of(scope, what, loops, head),
-        Stmt::Assign { .. } => None,
-        Stmt::AssignCall { .. } => None,
-        Stmt::If { .. } => None,
-        Stmt::Case { .. } => None,
-        Stmt::While { .. } => None,
-        Stmt::Repeat { .. } => None,
-        Stmt::Exit(_) => None,
-        Stmt::Continue(_) => None,
-        Stmt::Return(_) => None,
-        Stmt::Call(_) => None,
-        Stmt::Empty(_) => None,
+    match by {
+        Some(literal) => {
+            strides.wrong = nearer_of(strides.wrong, wrong_step(want, literal));
+            strides.outside = nearer_of(strides.outside, literal_outside(want, literal));
+        }
+        None => {}
     }
 }
 
 /// What a FOR wants of its start, its end and its step: its variable's type.
-pub(crate) fn want_of_counter(scope: &Scope, name: &Name, place: Place) -> Want
+fn want_of_counter(scope: &Scope, name: &Name, place: Place) -> Want
     ensures { want_tree result ≡ parts.want_of_counter (scope_of scope.now) name.now place }
 {
     match scope.word(name, false, place) {
@@ -223,34 +184,68 @@ pub(crate) fn want_of_counter(scope: &Scope, name: &Name, place: Place) -> Want
     }
 }
 
-/// Where the step of a FOR breaks the rule, by what stands before DO.
-fn step_of(scope: &Scope, what: Stride, head: &ForHead) -> Option<Place>
-    ensures { let want = parts.want_of_counter (scope_of scope.now) head.now.var
-        head.now.var_place in result ≡ option_and_then (by_at what want) head.now.by }
+/// Whether a start or an end of this sort doesn't fit the variable of its FOR.
+fn bound_misfits(want: Want, sort: Sort) -> bool
+    ensures { result ≡ bound_misfits (want_tree want) (sort_tree sort) }
 {
-    step_at(
-        what,
-        want_of_counter(scope, &head.var, head.var_place),
-        &head.by,
-    )
+    match want {
+        Want::This(ty) => doesnt_fit(Sort::One(ty), taken(want, sort)),
+        Want::Nothing => is_whole(sort),
+        Want::Unsure => is_whole(sort),
+    }
 }
 
-/// Where the step of a FOR breaks the rule, if a statement is one.
-pub(crate) fn step_place(scope: &Scope, what: Stride, stmt: &Stmt) -> Option<Place>
-    ensures { result ≡ step_place what (scope_of scope.now) (stmt_tree stmt.now) }
+/// The nearest places, with those of a start or an end of a FOR.
+fn add_bound(
+    scope: &Scope,
+    alloc: Global,
+    want: Want,
+    e: &Expr,
+    near: &mut Near,
+    misfit: &mut Option<Place>,
+) -> Result<(), AllocError>
+    ensures parts { OnOk result (HasParts (scope_of scope.now) (parts.parts_of (scope_of scope.now)
+        (want_tree want) (expr_tree e.now)) near.old near.new) }
+    ensures misfit { OnOk result (misfit.new ≡ nearer_of misfit.old
+        (bound_at (scope_of scope.now) (want_tree want) (expr_tree e.now))) }
 {
-    match stmt {
-        Stmt::For { head, .. } => step_of(scope, what, head),
-        Stmt::Assign { .. } => None,
-        Stmt::AssignCall { .. } => None,
-        Stmt::If { .. } => None,
-        Stmt::Case { .. } => None,
-        Stmt::While { .. } => None,
-        Stmt::Repeat { .. } => None,
-        Stmt::Exit(_) => None,
-        Stmt::Continue(_) => None,
-        Stmt::Return(_) => None,
-        Stmt::Call(_) => None,
-        Stmt::Empty(_) => None,
-    }
+    let sort = look_for_all(scope, alloc, want, e, near)?;
+    let found = where_is(bound_misfits(want, sort), first_place(e));
+    *misfit = nearer_of(*misfit, found);
+    Ok(())
+}
+
+/// The nearest places, with those of what stands before DO in a FOR.
+pub(crate) fn add_head(
+    scope: &Scope,
+    alloc: Global,
+    loops: &[Loop],
+    head: &ForHead,
+    near: &mut SiteNear,
+) -> Result<(), AllocError>
+    ensures { (body : StmtTrees) (place : Place) → OnOk result (HasSites (λ what. site_place what
+        (scope_of scope.now) (spot (map loop_tree loops.now) (for_ head.now.var head.now.var_place
+        (expr_tree head.now.first) (expr_tree head.now.last) head.now.by body place)))
+        near.old near.new) }
+{
+    let want = want_of_counter(scope, &head.var, head.var_place);
+    add_bound(
+        scope,
+        alloc,
+        want,
+        &head.first,
+        &mut near.parts,
+        &mut near.misfit,
+    )?;
+    add_bound(
+        scope,
+        alloc,
+        want,
+        &head.last,
+        &mut near.parts,
+        &mut near.misfit,
+    )?;
+    add_counter(scope, loops, &head.var, head.var_place, &mut near.counts);
+    add_step(want, &head.by, &mut near.strides);
+    Ok(())
 }

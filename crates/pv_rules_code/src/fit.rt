@@ -1,10 +1,9 @@
 //! Whether a value fits what takes it.
-ghost use Rattle.std.specs.Prelude.{◌≡◌, ◌||◌, IfOk, not, option_map};
-ghost use Rattle.pv_types.specs.declared.declaration.Section.TheVariants.{Input, Output, InOut};
+ghost use Rattle.std.specs.Prelude.{◌≡◌, ◌||◌, option_map};
+ghost use Rattle.pv_types.specs.declared.declaration.Section.TheVariants.{InOut};
 ghost use Rattle.pv_tree.specs.Callees as callees;
 ghost use Rattle.pv_tree.specs.Fits as fits;
 ghost use Rattle.pv_tree.specs.Parts as parts;
-ghost use Rattle.pv_tree.specs.Sorts as sorts;
 ghost use Rattle.pv_tree.specs.Types as types;
 ghost use Rattle.pv_tree.specs.Rules.Misfits as misfits;
 ghost use Rattle.pv_tree.specs.View.{expr_tree, operand_tree};
@@ -21,7 +20,6 @@ use pv_rules_expr::{is_whole, operand_of};
 use pv_tree::{Expr, Operand};
 use pv_types::Section;
 use pv_word::Ty;
-use std::alloc::{AllocError, Global};
 
 /// Whether a value of the first type stands where one of the second is taken; what has no type is no fault here.
 fn widens_from(from: Option<Ty>, to: Option<Ty>) -> bool
@@ -56,120 +54,83 @@ pub(crate) fn want_of_type(ty: Held) -> Want
     }
 }
 
-/// What an assignable operand takes.
-pub(crate) fn sort_of_target(
-    scope: &Scope,
-    alloc: Global,
-    operand: &Operand,
-) -> Result<Sort, AllocError>
-    ensures { IfOk result (λ s. sort_tree s
-        ≡ fits.sort_of_target (scope_of scope.now) (operand_tree operand.now)) }
+/// What an assignable operand of this sort takes.
+pub(crate) fn sort_of_target(scope: &Scope, operand: &Operand, sort: Sort) -> Sort
+    requires { sort_tree sort ≡ types.sort_of_operand (scope_of scope.now) (operand_tree operand.now) }
+    ensures { sort_tree result
+        ≡ fits.sort_of_target (scope_of scope.now) (operand_tree operand.now) }
 {
     match scope.thing_of(operand) {
-        Thing::Part(_) => scope.sort_of_operand(alloc, operand),
-        Thing::Constant(_) => Ok(Sort::Broken),
-        Thing::Block(_) => Ok(Sort::Broken),
-        Thing::NoName(_) => Ok(Sort::Broken),
-        Thing::NoArray(_) => Ok(Sort::Broken),
-        Thing::ADate(_) => Ok(Sort::Broken),
-        Thing::Untold => Ok(Sort::Broken),
+        Thing::Part(_) => sort,
+        Thing::Constant(_) => Sort::Broken,
+        Thing::Block(_) => Sort::Broken,
+        Thing::NoName(_) => Sort::Broken,
+        Thing::NoArray(_) => Sort::Broken,
+        Thing::ADate(_) => Sort::Broken,
+        Thing::Untold => Sort::Broken,
     }
 }
 
-/// What an argument that the called block writes takes.
-fn sort_of_argument(scope: &Scope, alloc: Global, e: &Expr) -> Result<Sort, AllocError>
-    ensures { let scope = scope_of scope.now in IfOk result (λ s. sort_tree s
-        ≡ misfits.sort_of_argument scope (expr_tree e.now) (parts.operand_of (expr_tree e.now))) }
+/// What an argument of this sort that the called block writes takes.
+fn sort_of_argument(scope: &Scope, e: &Expr, sort: Sort) -> Sort
+    requires { sort_tree sort ≡ types.sort_of (scope_of scope.now) (expr_tree e.now) }
+    ensures { sort_tree result ≡ misfits.sort_of_argument (scope_of scope.now)
+        (expr_tree e.now) (parts.operand_of (expr_tree e.now)) }
 {
     match operand_of(e) {
-        Some(operand) => sort_of_target(scope, alloc, operand),
+        Some(operand) => sort_of_target(scope, operand, sort),
         None => {
-            let sort = scope.sort_of(alloc, e)?;
             if is_whole(sort) {
-                Ok(Sort::Whole)
+                Sort::Whole
             } else {
-                Ok(Sort::Broken)
+                Sort::Broken
             }
         }
     }
 }
 
-/// Whether an expression is a whole array, structure, instance or block.
-fn is_whole_value(scope: &Scope, alloc: Global, e: &Expr) -> Result<bool, AllocError>
-    ensures { IfOk result (λ b. b ≡ sorts.is_whole (types.sort_of (scope_of scope.now) (expr_tree e.now))) }
+/// Whether an argument of this sort isn't of the type of this VAR_IN_OUT.
+fn doesnt_pass_both(scope: &Scope, ty: Held, e: &Expr, sort: Sort) -> bool
+    requires { sort_tree sort ≡ types.sort_of (scope_of scope.now) (expr_tree e.now) }
+    ensures { result ≡ misfits.doesnt_pass (scope_of scope.now) InOut (held_tree ty.entry)
+        (expr_tree e.now) }
 {
-    let sort = scope.sort_of(alloc, e)?;
-    Ok(is_whole(sort))
-}
-
-/// Whether a value doesn't fit an input of this type.
-fn doesnt_pass_in(scope: &Scope, alloc: Global, ty: Held, e: &Expr) -> Result<bool, AllocError>
-    ensures { IfOk result (λ b. b ≡ misfits.doesnt_pass (scope_of scope.now) Input
-        (held_tree ty.entry) (expr_tree e.now)) }
-{
-    let sort = scope.sort_of(alloc, e)?;
-    Ok(doesnt_fit(scope.sort_of_type(ty), taken(want_of_type(ty), sort)))
-}
-
-/// Whether an argument doesn't take an output of this type.
-fn doesnt_pass_out(scope: &Scope, alloc: Global, ty: Held, e: &Expr) -> Result<bool, AllocError>
-    ensures { IfOk result (λ b. b ≡ misfits.doesnt_pass (scope_of scope.now) Output
-        (held_tree ty.entry) (expr_tree e.now)) }
-{
-    let sort = sort_of_argument(scope, alloc, e)?;
-    Ok(doesnt_fit(sort, scope.sort_of_type(ty)))
-}
-
-/// Whether an argument isn't of the type of this VAR_IN_OUT.
-fn doesnt_pass_both(scope: &Scope, alloc: Global, ty: Held, e: &Expr) -> Result<bool, AllocError>
-    ensures { IfOk result (λ b. b ≡ misfits.doesnt_pass (scope_of scope.now) InOut
-        (held_tree ty.entry) (expr_tree e.now)) }
-{
-    let sort = sort_of_argument(scope, alloc, e)?;
+    let takes = sort_of_argument(scope, e, sort);
     let param = scope.sort_of_type(ty);
-    Ok(doesnt_fit(sort, param) || doesnt_fit(param, sort))
+    doesnt_fit(takes, param) || doesnt_fit(param, takes)
 }
 
-/// Whether an argument doesn't fit a parameter of this section and type.
-fn doesnt_pass(
-    scope: &Scope,
-    alloc: Global,
-    section: Section,
-    ty: Held,
-    e: &Expr,
-) -> Result<bool, AllocError>
-    ensures { IfOk result (λ b. b ≡ misfits.doesnt_pass (scope_of scope.now) section
-        (held_tree ty.entry) (expr_tree e.now)) }
+/// Whether an argument of this sort doesn't fit a parameter of this section and type.
+fn doesnt_pass(scope: &Scope, section: Section, ty: Held, e: &Expr, sort: Sort) -> bool
+    requires { sort_tree sort ≡ types.sort_of (scope_of scope.now) (expr_tree e.now) }
+    ensures { result ≡ misfits.doesnt_pass (scope_of scope.now) section (held_tree ty.entry)
+        (expr_tree e.now) }
 {
     match section {
-        Section::Input => doesnt_pass_in(scope, alloc, ty, e),
-        Section::Output => doesnt_pass_out(scope, alloc, ty, e),
-        Section::InOut => doesnt_pass_both(scope, alloc, ty, e),
-        Section::Static => is_whole_value(scope, alloc, e),
-        Section::Temp => is_whole_value(scope, alloc, e),
-        Section::Const => is_whole_value(scope, alloc, e),
+        Section::Input => doesnt_fit(scope.sort_of_type(ty), taken(want_of_type(ty), sort)),
+        Section::Output => doesnt_fit(sort_of_argument(scope, e, sort), scope.sort_of_type(ty)),
+        Section::InOut => doesnt_pass_both(scope, ty, e, sort),
+        Section::Static => is_whole(sort),
+        Section::Temp => is_whole(sort),
+        Section::Const => is_whole(sort),
     }
 }
 
-/// Whether an argument doesn't fit its parameter.
-pub(crate) fn misfits_param(
-    scope: &Scope,
-    alloc: Global,
-    param: Option<Param>,
-    e: &Expr,
-) -> Result<bool, AllocError>
-    ensures { IfOk result (λ b. b ≡ misfits_param (scope_of scope.now) (expr_tree e.now)
-        (option_map param_tree param.entry)) }
+/// Whether an argument of this sort doesn't fit its parameter.
+pub(crate) fn misfits_param(scope: &Scope, param: Option<Param>, e: &Expr, sort: Sort) -> bool
+    requires { sort_tree sort ≡ types.sort_of (scope_of scope.now) (expr_tree e.now) }
+    ensures { result ≡ misfits_param (scope_of scope.now) (expr_tree e.now)
+        (option_map param_tree param.entry) }
 {
     match param {
-        None => is_whole_value(scope, alloc, e),
+        None => is_whole(sort),
         Some(param) => {
             doesnt_pass(
                 scope,
-                alloc,
                 section_of_param(param),
                 type_of_param(param),
                 e,
+                sort,
             )
         }
     }

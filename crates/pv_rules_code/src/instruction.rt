@@ -1,22 +1,21 @@
 //! STL instructions, each by itself: where one breaks a rule at its operand or its call.
-ghost use Rattle.std.specs.Prelude.{◌≡◌, IfOk, None, flat_map, map, option_map, option_to_list};
+ghost use Rattle.std.specs.Prelude.{◌≡◌, [], OnOk, None, flat_map, map, option_and_then, option_to_list};
 ghost use Rattle.pv_tree.specs.InstructionGroups as groups;
-ghost use Rattle.pv_tree.specs.Parts.{how_of, parts_of_instruction, parts_of_operand};
-ghost use Rattle.pv_tree.specs.View.{operand_tree, instr_tree};
+ghost use Rattle.pv_tree.specs.Parts.{calls_of_instruction, parts_of_call, parts_of_operand};
+ghost use Rattle.pv_tree.specs.View.{instr_tree};
 ghost use Rattle.pv_names.specs.InScope.{scope_of};
-ghost use Rattle.pv_names.specs.Callees.{how_tree};
 ghost use Rattle.pv_rules_expr.specs.NearestIn.{nearest_in};
-ghost use Rattle.pv_rules_expr.specs.Looks.{near_parts};
-ghost use Rattle.pv_rules_code.specs.Sites.{aimed_operand, instr_target, instr_place};
+ghost use Rattle.pv_rules_code.specs.AtCalls.{call_place};
+ghost use Rattle.pv_rules_code.specs.AtTargets.{named_place};
+ghost use Rattle.pv_rules_code.specs.Nears.{HasAims, HasAsks, HasParts, HasSites, HasSitesIn};
+ghost use Rattle.pv_rules_code.specs.Sites.{instr_place};
 
-use crate::called::call_place;
-use crate::parts::look_in_call;
-use crate::site::{Aim, Site};
-use crate::target::aimed_place;
+use crate::called::add_call;
+use crate::near::{AimNear, AskNear, SiteNear};
+use crate::target::add_aims;
 use pv_names::{Scope, how_of};
-use pv_place::Place;
-use pv_rules_expr::{Look, look_in_operand, nearer_of};
-use pv_tree::{Instr, Op, Operand, operand_of_instruction};
+use pv_rules_expr::{Near, look_in_operand_for_all};
+use pv_tree::{Instr, Op, operand_of_instruction};
 use std::alloc::{AllocError, Global};
 
 /// Whether an instruction writes its operand.
@@ -26,123 +25,76 @@ fn is_written(op: Op) -> bool
     matches!(op, Op::Assign | Op::S | Op::R | Op::Fp | Op::Fn | Op::T)
 }
 
-/// The operand that an instruction writes.
-fn written_operand(instr: &Instr) -> Option<&Operand>
-    ensures { option_map (λ o. operand_tree o.now) result
-        ≡ groups.written_operand (instr_tree instr.now) }
-{
-    if is_written(instr.op) {
-        instr.operand()
-    } else {
-        None
-    }
-}
-
-/// The operand of an instruction that a rule speaks of.
-fn aimed_operand(what: Aim, instr: &Instr) -> Option<&Operand>
-    ensures { option_map (λ o. operand_tree o.now) result ≡ aimed_operand what (instr_tree instr.now) }
-{
-    match what {
-        Aim::Fixed => written_operand(instr),
-        Aim::Missing => operand_of_instruction(instr),
-        Aim::Address => operand_of_instruction(instr),
-        Aim::Misused => operand_of_instruction(instr),
-        Aim::Beyond => operand_of_instruction(instr),
-    }
-}
-
-/// Where the operand of an instruction breaks the rule.
-fn instr_target(
+/// The nearest places, with those of the operand of an instruction, if it has one.
+fn add_operand(
     scope: &Scope,
     alloc: Global,
-    what: Aim,
     instr: &Instr,
-) -> Result<Option<Place>, AllocError>
-    ensures { IfOk result (λ o. o
-        ≡ instr_target what (scope_of scope.now) (instr_tree instr.now)) }
-{
-    match aimed_operand(what, instr) {
-        Some(operand) => aimed_place(scope, alloc, what, operand),
-        None => Ok(None),
-    }
-}
-
-/// Where an expression in the operand of an instruction breaks the rule.
-fn look_in_named(
-    scope: &Scope,
-    alloc: Global,
-    what: Look,
-    instr: &Instr,
-) -> Result<Option<Place>, AllocError>
-    ensures { let scope = scope_of scope.now in IfOk result (λ o. o ≡ near_parts what scope (flat_map
-        (parts_of_operand scope) (option_to_list (groups.operand_of_instruction (instr_tree instr.now)))) None) }
+    near: &mut Near,
+    aims: &mut AimNear,
+) -> Result<(), AllocError>
+    ensures parts { OnOk result (HasParts (scope_of scope.now) (flat_map (parts_of_operand
+        (scope_of scope.now)) (option_to_list (groups.operand_of_instruction
+        (instr_tree instr.now)))) near.old near.new) }
+    ensures aims { OnOk result (HasAims (λ what. option_and_then (named_place (groups.is_written
+        (groups.group_of instr.now.op)) what (scope_of scope.now))
+        (groups.operand_of_instruction (instr_tree instr.now))) aims.old aims.new) }
 {
     match operand_of_instruction(instr) {
-        Some(operand) => look_in_operand(scope, alloc, what, operand, None),
-        None => Ok(None),
+        Some(operand) => {
+            look_in_operand_for_all(scope, alloc, operand, near)?;
+            add_aims(scope, alloc, is_written(instr.op), operand, aims)
+        }
+        None => Ok(()),
     }
 }
 
-/// Where an expression of an instruction breaks the rule.
-fn instr_parts(
+/// The nearest places, with those of the call of an instruction, if it is one.
+fn add_called(
     scope: &Scope,
     alloc: Global,
-    what: Look,
     instr: &Instr,
-) -> Result<Option<Place>, AllocError>
-    ensures { let scope = scope_of scope.now in IfOk result (λ o. o
-        ≡ near_parts what scope (parts_of_instruction scope (instr_tree instr.now)) None) }
+    near: &mut Near,
+    asks: &mut AskNear,
+) -> Result<(), AllocError>
+    ensures parts { OnOk result (HasParts (scope_of scope.now) (flat_map (parts_of_call
+        (scope_of scope.now)) (calls_of_instruction (instr_tree instr.now)))
+        near.old near.new) }
+    ensures asks { OnOk result (HasAsks (λ what. nearest_in (call_place what (scope_of scope.now)
+        []) (calls_of_instruction (instr_tree instr.now)) None) asks.old asks.new) }
 {
-    let so_far = look_in_named(scope, alloc, what, instr)?;
     match instr.call() {
-        Some(call) => look_in_call(scope, alloc, what, how_of(instr.op), call, so_far),
-        None => Ok(so_far),
+        Some(call) => add_call(scope, alloc, &[], how_of(instr.op), call, near, asks),
+        None => Ok(()),
     }
 }
 
-/// Where an instruction breaks the rule.
-fn instr_place(
+/// The nearest places, with those of an instruction.
+fn add_instr(
     scope: &Scope,
     alloc: Global,
-    what: Site,
     instr: &Instr,
-) -> Result<Option<Place>, AllocError>
-    ensures { IfOk result (λ o. o
-        ≡ instr_place what (scope_of scope.now) (instr_tree instr.now)) }
+    near: &mut SiteNear,
+) -> Result<(), AllocError>
+    ensures { OnOk result (HasSites (λ what. instr_place what (scope_of scope.now)
+        (instr_tree instr.now)) near.old near.new) }
 {
-    match what {
-        Site::Parts(look) => instr_parts(scope, alloc, look, instr),
-        Site::Misfit => Ok(None),
-        Site::Target(aim) => instr_target(scope, alloc, aim, instr),
-        Site::Call(ask) => match instr.call() {
-            Some(call) => call_place(scope, alloc, ask, &[], how_of(instr.op), call),
-            None => Ok(None),
-        },
-        Site::CountedTarget => Ok(None),
-        Site::Counter(_) => Ok(None),
-        Site::By(_) => Ok(None),
-        Site::Selector => Ok(None),
-        Site::Value(_) => Ok(None),
-        Site::Condition => Ok(None),
-        Site::Leave => Ok(None),
-    }
+    add_operand(scope, alloc, instr, &mut near.parts, &mut near.aims)?;
+    add_called(scope, alloc, instr, &mut near.parts, &mut near.asks)
 }
 
-/// The nearest place, with those of instructions.
-pub(crate) fn instrs_place(
+/// The nearest places, with those of instructions.
+pub(crate) fn add_instrs(
     scope: &Scope,
     alloc: Global,
-    what: Site,
     list: &[Instr],
-    nearest: Option<Place>,
-) -> Result<Option<Place>, AllocError>
-    ensures { IfOk result (λ new. new ≡ nearest_in (instr_place what (scope_of scope.now))
-        (map instr_tree list.now) nearest) }
+    near: &mut SiteNear,
+) -> Result<(), AllocError>
+    ensures { OnOk result (HasSitesIn (λ what. instr_place what (scope_of scope.now))
+        (map instr_tree list.now) near.old near.new) }
 {
-    let mut best = nearest;
     for instr in list {
-        let found = instr_place(scope, alloc, what, instr)?;
-        best = nearer_of(best, found);
+        add_instr(scope, alloc, instr, near)?;
     }
-    Ok(best)
+    Ok(())
 }

@@ -1,10 +1,11 @@
 //! The rules of the language on statements and calls: the least place at which the code of a project breaks one.
 //!
-//! What breaks a rule is looked for at one statement, target, call or argument by itself (`site`), and one walk goes over the
-//! statements (`walk`). It looks for one rule at a time.
+//! What breaks a rule is looked for at one statement, target, call or argument by itself (`sites`), and one walk goes over the
+//! statements (`walk`). Of all that is looked for it keeps the nearest place so far (`near`).
 #![tactic(auto)]
 
 mod argument;
+mod around;
 mod assignment;
 mod called;
 mod case;
@@ -12,15 +13,11 @@ mod counter;
 mod fit;
 mod given;
 mod instruction;
+mod near;
 mod on_statements;
-mod parts;
-mod site;
 mod sites;
 mod target;
 mod walk;
 
-pub use on_statements::{
-    address_in_code, beyond_in_code, fixed_output, fixed_target, misfit_in_code, missing_in_code,
-    misused_in_code, outside_in_code, outside_loop, wrong_argument, wrong_case, wrong_condition,
-    wrong_counter, wrong_step,
-};
+pub use near::CodeNear;
+pub use on_statements::nearest_in_code;

@@ -12,7 +12,6 @@ ghost use Rattle.pv_tree.specs.View.{start_tree, operand_tree};
 ghost use Rattle.pv_names.specs.InScope.{scope_of};
 ghost use Rattle.pv_names.specs.Views.{held_tree, thing_tree};
 ghost use Rattle.pv_rules_expr.specs.Looks.{near_parts};
-ghost use Rattle.pv_rules_expr.specs.Operands.{name_at};
 ghost use Rattle.pv_rules_decl.specs.Starts.{near_vars, misfit_at, is_thing_outside, start_place, near_starts};
 
 use pv_names::{
@@ -21,8 +20,8 @@ use pv_names::{
 };
 use pv_place::Place;
 use pv_rules_expr::{
-    IndexFault, Look, index_behind, look_in_operand, misused_behind, nearer_of, thing_behind,
-    where_is,
+    IndexFault, Look, index_behind, look_in_operand, misused_behind, name_of_missing, nearer_of,
+    thing_behind, where_is,
 };
 use pv_tree::{Operand, Root};
 use pv_types::{Literal, Vars};
@@ -97,21 +96,6 @@ fn is_outside_thing(thing: Thing, literal: &Literal) -> bool
         Thing::NoArray(_) => is_outside(Want::Unsure, w),
         Thing::ADate(_) => is_outside(Want::Unsure, w),
         Thing::Untold => is_outside(Want::Unsure, w),
-    }
-}
-
-/// The name that a thing lacks.
-fn missing_of(thing: Thing) -> Option<Place>
-    ensures { result ≡ name_at (thing_tree thing.entry) }
-{
-    match thing {
-        Thing::NoName(at) => Some(at),
-        Thing::Part(_) => None,
-        Thing::Constant(_) => None,
-        Thing::Block(_) => None,
-        Thing::NoArray(_) => None,
-        Thing::ADate(_) => None,
-        Thing::Untold => None,
     }
 }
 
@@ -237,7 +221,7 @@ fn start_place(
     let name = root_place(&operand.root, operand.place);
     let steps = operand.steps.as_slice();
     match what {
-        StartLook::Missing => Ok(missing_of(thing_of_start(scope, operand))),
+        StartLook::Missing => Ok(name_of_missing(thing_of_start(scope, operand))),
         StartLook::Misused => misused_behind(scope, alloc, from, name, steps),
         StartLook::Misfit => Ok(misfit_of_thing(scope, thing_of_start(scope, operand), literal)),
         StartLook::Outside => Ok(where_is(

@@ -1,10 +1,14 @@
+pub mod Adding
+pub mod Along
 pub mod IndexWalks
 pub mod Looking
 pub mod MemberLaws
-pub mod Misapplying
 pub mod NearIndexes
 pub mod NearParts
 pub mod NearReads
 pub mod NearestLists
+pub mod NearerLaws
 pub mod Nearing
+pub mod Walking
+pub mod Within
 pub mod ForCallers

@@ -1,7 +1,9 @@
 pub mod Indexes
 pub mod Looks
 pub mod Members
+pub mod Near
 pub mod Nearest
 pub mod NearestIn
 pub mod Operands
 pub mod Places
+pub mod Walks

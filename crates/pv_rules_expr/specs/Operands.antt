@@ -19,6 +19,9 @@ name_at (a_date at) = None
 name_at untold = None
 
 -- the name of a function without a value
+abbrev pub void_where : Thing → OperandTree → Option Place
+void_where thing (operand root more place) = place_where (is_void_thing thing) (root_place root place)
+
 abbrev pub void_at : Scope → OperandTree → Option Place
 void_at scope (operand root more place) = place_where (is_void_thing (thing_of scope
     (operand root more place))) (root_place root place)

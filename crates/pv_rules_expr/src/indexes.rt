@@ -1,7 +1,7 @@
 //! Indexes that break a rule, and what an operand that an expression reads misuses on its way.
 //!
 //! The steps of an operand are gone through from what it begins with; each index is looked at with the thing before it.
-ghost use Rattle.std.specs.Prelude.{◌≡◌, ◌&&◌, not, IfOk, map, option_and_then};
+ghost use Rattle.std.specs.Prelude.{◌≡◌, ◌&&◌, not, IfOk, map};
 ghost use Rattle.pv_tree.specs.LiteralTypes.{nothing, is_whole_number};
 ghost use Rattle.pv_tree.specs.Sorts as sorts;
 ghost use Rattle.pv_tree.specs.Types as types;
@@ -14,10 +14,9 @@ ghost use Rattle.pv_names.specs.InScope.{scope_of};
 ghost use Rattle.pv_names.specs.Sorts.{sort_tree};
 ghost use Rattle.pv_names.specs.Views.{thing_tree};
 ghost use Rattle.pv_rules_expr.specs.Nearest.{nearer_of};
-ghost use Rattle.pv_rules_expr.specs.Indexes.{index_place, near_indexes, index_at, misuse_at, misused_at, divides_at};
+ghost use Rattle.pv_rules_expr.specs.Indexes.{index_place, near_indexes, index_at, misuse_at, misused_at};
 
 use crate::misfit::{is_whole, where_is};
-use crate::operand::operand_of;
 use crate::search::nearer_of;
 use pv_names::{
     Scope, Sort, Thing, Want, dated, first_place, is_index_type, is_literal, is_whole_number,
@@ -39,7 +38,7 @@ pub enum IndexFault {
 }
 
 /// Whether a part has a type and that is neither INT nor DINT.
-fn is_no_index(sort: Sort) -> bool
+pub(crate) fn is_no_index(sort: Sort) -> bool
     ensures { result ≡ is_of_other_type is_whole_number (sorts.taken nothing (sort_tree sort)) }
 {
     let part = taken(Want::Nothing, sort);
@@ -53,7 +52,7 @@ fn is_no_index(sort: Sort) -> bool
 }
 
 /// Whether an index is an INT or a DINT, and a literal beyond the bounds of what it stands behind.
-fn is_beyond(thing: Thing, sort: Sort) -> bool
+pub(crate) fn is_beyond(thing: Thing, sort: Sort) -> bool
     ensures { result ≡ (types.is_index_type (sorts.own_type (sorts.taken nothing (sort_tree sort)))
         && not (types.lies_in (thing_tree thing.entry) (sort_tree sort))) }
 {
@@ -65,7 +64,7 @@ fn is_beyond(thing: Thing, sort: Sort) -> bool
 }
 
 /// The index at what is no array, or the variable of DATE_AND_TIME, that a thing is.
-fn misuse_of(thing: Thing) -> Option<Place>
+pub(crate) fn misuse_of(thing: Thing) -> Option<Place>
     ensures { result ≡ misuse_at (thing_tree thing.entry) }
 {
     match thing {
@@ -80,24 +79,10 @@ fn misuse_of(thing: Thing) -> Option<Place>
 }
 
 /// Whether the operator divides.
-fn divides(op: BinaryOp) -> bool
+pub(crate) fn divides(op: BinaryOp) -> bool
     ensures { result ≡ pattern.divides op }
 {
     matches!(op, BinaryOp::Div | BinaryOp::Mod)
-}
-
-/// The place of an operator that divides.
-pub(crate) fn division_place(e: &Expr) -> Option<Place>
-    ensures { result ≡ divides_at (expr_tree e.now) }
-{
-    match e {
-        Expr::Binary { op, place, .. } => where_is(divides(*op), *place),
-        Expr::Lit { .. } => None,
-        Expr::Read(_) => None,
-        Expr::Unary { .. } => None,
-        Expr::Std { .. } => None,
-        Expr::Paren(..) => None,
-    }
 }
 
 /// Where an index behind a thing has the fault.
@@ -240,35 +225,4 @@ pub fn index_in_operand(
     let from = scope.root(&operand.root, operand.place);
     let name = root_place(&operand.root, operand.place);
     index_behind(scope, alloc, what, from, name, operand.steps.as_slice())
-}
-
-/// The same of the operand that an expression reads.
-pub(crate) fn misused_place(
-    scope: &Scope,
-    alloc: Global,
-    e: &Expr,
-) -> Result<Option<Place>, AllocError>
-    ensures { let scope = scope_of scope.now in IfOk result (λ p. p ≡ option_and_then
-        (λ o. misused_at scope (parts.path_of scope o)) (parts.operand_of (expr_tree e.now))) }
-{
-    match operand_of(e) {
-        Some(operand) => misused_in_operand(scope, alloc, operand),
-        None => Ok(None),
-    }
-}
-
-/// The nearest of the indexes of the operand that an expression reads.
-pub(crate) fn index_fault_place(
-    scope: &Scope,
-    alloc: Global,
-    what: IndexFault,
-    e: &Expr,
-) -> Result<Option<Place>, AllocError>
-    ensures { let scope = scope_of scope.now in IfOk result (λ p. p ≡ option_and_then
-        (λ o. index_at what scope (parts.path_of scope o)) (parts.operand_of (expr_tree e.now))) }
-{
-    match operand_of(e) {
-        Some(operand) => index_in_operand(scope, alloc, what, operand),
-        None => Ok(None),
-    }
 }

@@ -1,11 +1,11 @@
 //! Operands that break a rule: a name that isn't declared, the value of a function without one, an address that there isn't.
-ghost use Rattle.std.specs.Prelude.{◌≡◌, option_and_then, option_map};
+ghost use Rattle.std.specs.Prelude.{◌≡◌, option_map};
 ghost use Rattle.pv_tree.specs.Things as things;
 ghost use Rattle.pv_tree.specs.Parts as parts;
 ghost use Rattle.pv_tree.specs.View.{expr_tree, operand_tree};
 ghost use Rattle.pv_names.specs.InScope.{scope_of};
 ghost use Rattle.pv_names.specs.Views.{thing_tree};
-ghost use Rattle.pv_rules_expr.specs.Operands.{name_at, void_at, address_at};
+ghost use Rattle.pv_rules_expr.specs.Operands.{name_at, void_where, address_at};
 
 use pv_names::{Scope, Thing, is_address, is_void, root_place};
 use pv_place::Place;
@@ -47,16 +47,6 @@ pub fn wrong_address(operand: &Operand) -> Option<Place>
     }
 }
 
-/// The address that an expression reads, where there is none such.
-pub(crate) fn address_place(e: &Expr) -> Option<Place>
-    ensures { result ≡ option_and_then address_at (parts.operand_of (expr_tree e.now)) }
-{
-    match operand_of(e) {
-        Some(operand) => wrong_address(operand),
-        None => None,
-    }
-}
-
 /// The name that isn't declared.
 pub fn name_of_missing(thing: Thing) -> Option<Place>
     ensures { result ≡ name_at (thing_tree thing.entry) }
@@ -79,11 +69,11 @@ pub fn missing_name(scope: &Scope, operand: &Operand) -> Option<Place>
     name_of_missing(scope.thing_of(operand))
 }
 
-/// The name of a function without a value that an operand is.
-fn void_name(scope: &Scope, operand: &Operand) -> Option<Place>
-    ensures { result ≡ void_at (scope_of scope.now) (operand_tree operand.now) }
+/// The name of a function without a value that an operand is which means this thing.
+pub(crate) fn void_name(thing: Thing, operand: &Operand) -> Option<Place>
+    ensures { result ≡ void_where (thing_tree thing.entry) (operand_tree operand.now) }
 {
-    match scope.thing_of(operand) {
+    match thing {
         Thing::Block(entry) => {
             if is_void(entry.block) {
                 Some(root_place(&operand.root, operand.place))
@@ -97,27 +87,5 @@ fn void_name(scope: &Scope, operand: &Operand) -> Option<Place>
         Thing::NoArray(_) => None,
         Thing::ADate(_) => None,
         Thing::Untold => None,
-    }
-}
-
-/// The name in an operand that an expression reads, where it isn't declared.
-pub(crate) fn missing_place(scope: &Scope, e: &Expr) -> Option<Place>
-    ensures { let scope = scope_of scope.now in result ≡ option_and_then
-        (λ o. name_at (things.thing_of scope o)) (parts.operand_of (expr_tree e.now)) }
-{
-    match operand_of(e) {
-        Some(operand) => missing_name(scope, operand),
-        None => None,
-    }
-}
-
-/// The name of a function without a value that an expression reads.
-pub(crate) fn void_place(scope: &Scope, e: &Expr) -> Option<Place>
-    ensures { result ≡ option_and_then (void_at (scope_of scope.now))
-        (parts.operand_of (expr_tree e.now)) }
-{
-    match operand_of(e) {
-        Some(operand) => void_name(scope, operand),
-        None => None,
     }
 }

@@ -1,29 +1,23 @@
-//! The walk over an expression with all in it, each with what is wanted of it, to the nearest place that breaks a rule.
-//!
-//! What is looked for is a rule on one expression by itself; the walk knows only where the parts are, and what is wanted of
-//! each.
-ghost use Rattle.std.specs.Prelude.{◌≡◌, ◌∷◌, [], Any, IfOk, map};
+//! What is looked for in expressions, and the nearest place of one thing alone.
+ghost use Rattle.std.specs.Prelude.{◌≡◌, Any, IfOk, map};
 ghost use Rattle.pv_tree.specs.Sorts as sorts;
-ghost use Rattle.pv_tree.specs.Types.{sort_of};
 ghost use Rattle.pv_tree.specs.declared.expr.StdFunction.TheVariants.{Sel};
-ghost use Rattle.pv_tree.specs.Parts.{parts_of, parts_of_operand, parts_of_step};
-ghost use Rattle.pv_tree.specs.View.{expr_tree, operand_tree, step_tree};
+ghost use Rattle.pv_tree.specs.Parts.{parts_of, parts_of_operand};
+ghost use Rattle.pv_tree.specs.View.{expr_tree, operand_tree};
 ghost use Rattle.pv_tree.specs.Rules.Misfits.{Misapplies};
 ghost use Rattle.pv_tree.specs.Rules.{BreaksInParts, missing_name, not_callable, wrong_address};
 ghost use Rattle.pv_tree.specs.Rules.OutOfRange.{IsPartOutside};
 ghost use Rattle.pv_rules_expr.specs.Nearest.{IsNearest};
 ghost use Rattle.pv_names.specs.Sorts.{sort_tree, want_tree};
-ghost use Rattle.pv_rules_expr.specs.Places.{outside};
 ghost use Rattle.pv_names.specs.InScope.{scope_of};
-ghost use Rattle.pv_rules_expr.specs.Looks.{nearer_of, part_place, near_parts, first_then};
+ghost use Rattle.pv_rules_expr.specs.Looks.{nearer_of, near_parts, first_then};
 
-use crate::indexes::{IndexFault, division_place, index_fault_place, misused_place};
-use crate::misfit::misapplied_place;
+use crate::near::nothing_near;
 use crate::nearest::is_before;
-use crate::operand::{address_place, missing_place, void_place};
-use pv_names::{Scope, Sort, Want, first_place, is_literal, is_outside, literal_of, wanted_beside};
+use crate::walk::{look_for_all, look_in_operand_for_all};
+use pv_names::{Scope, Sort, Want, wanted_beside};
 use pv_place::Place;
-use pv_tree::{Expr, Operand, StdFunction, Step};
+use pv_tree::{Expr, Operand, StdFunction};
 use std::alloc::{AllocError, Global};
 
 /// What is looked for in an expression.
@@ -52,8 +46,8 @@ pub enum Look {
 /// What a function wants of its first argument, and of each other.
 #[derive(Clone, Copy)]
 pub(crate) struct Wants {
-    first: Want,
-    others: Want,
+    pub first: Want,
+    pub others: Want,
 }
 
 /// The nearer of two places.
@@ -74,7 +68,7 @@ pub fn nearer_of(a: Option<Place>, b: Option<Place>) -> Option<Place>
 }
 
 /// What a function wants of its arguments.
-fn wants_of(function: StdFunction, parts: &[Sort]) -> Wants
+pub(crate) fn wants_of(function: StdFunction, parts: &[Sort]) -> Wants
     ensures { sorts.wants_of function (map sort_tree parts.now)
         ≡ first_then (want_tree result.first) (want_tree result.others) (map sort_tree parts.now) }
 {
@@ -115,64 +109,7 @@ fn choice_wants(parts: &[Sort]) -> Wants
     }
 }
 
-/// The place of an expression that is a literal outside its type.
-fn outside_place(want: Want, e: &Expr) -> Option<Place>
-    ensures { result ≡ outside (want_tree want) (expr_tree e.now) }
-{
-    match literal_of(e) {
-        Some(w) => {
-            if is_outside(want, w) {
-                Some(first_place(e))
-            } else {
-                None
-            }
-        }
-        None => None,
-    }
-}
-
-/// What the operands of an operator want of a literal among them.
-fn wanted_between(
-    scope: &Scope,
-    alloc: Global,
-    left: &Expr,
-    right: &Expr,
-) -> Result<Want, AllocError>
-    ensures { let scope = scope_of scope.now in IfOk result (λ w. want_tree w ≡ sorts.wanted_beside
-        (sort_of scope (expr_tree left.now) ∷ sort_of scope (expr_tree right.now) ∷ [])) }
-{
-    let left = scope.sort_of(alloc, left)?;
-    let right = scope.sort_of(alloc, right)?;
-    let pair = [left, right];
-    Ok(wanted_beside(pair.as_slice()))
-}
-
-/// Where an expression by itself breaks the rule.
-fn part_place(
-    scope: &Scope,
-    alloc: Global,
-    what: Look,
-    want: Want,
-    e: &Expr,
-) -> Result<Option<Place>, AllocError>
-    ensures { IfOk result (λ o. o
-        ≡ part_place what (scope_of scope.now) (want_tree want) (expr_tree e.now)) }
-{
-    match what {
-        Look::Misapplied => misapplied_place(scope, alloc, e),
-        Look::Outside => Ok(outside_place(want, e)),
-        Look::Missing => Ok(missing_place(scope, e)),
-        Look::Void => Ok(void_place(scope, e)),
-        Look::Address => Ok(address_place(e)),
-        Look::Misused => misused_place(scope, alloc, e),
-        Look::Beyond => index_fault_place(scope, alloc, IndexFault::Beyond, e),
-        Look::Moving => index_fault_place(scope, alloc, IndexFault::Moving, e),
-        Look::Divides => Ok(division_place(e)),
-    }
-}
-
 /// The nearest place, with those of an expression and all in it.
-#[cycle(looking)]
 pub fn look_in(
     scope: &Scope,
     alloc: Global,
@@ -184,62 +121,12 @@ pub fn look_in(
     ensures { let scope = scope_of scope.now in IfOk result (λ new. new
         ≡ near_parts what scope (parts_of scope (want_tree want) (expr_tree e.now)) nearest) }
 {
-    let found = part_place(scope, alloc, what, want, e)?;
-    let so_far = nearer_of(nearest, found);
-    match e {
-        Expr::Lit { .. } => Ok(so_far),
-        Expr::Read(operand) => look_in_operand(scope, alloc, what, operand, so_far),
-        Expr::Unary { arg, .. } => {
-            if is_literal(e) {
-                return Ok(so_far);
-            }
-            look_in(scope, alloc, what, Want::Nothing, arg, so_far)
-        }
-        Expr::Binary { left, right, .. } => {
-            let beside = wanted_between(scope, alloc, left, right)?;
-            let behind = look_in(scope, alloc, what, beside, left, so_far)?;
-            look_in(scope, alloc, what, beside, right, behind)
-        }
-        Expr::Std { function, args, .. } => {
-            let parts = scope.sorts_of(alloc, args.as_slice())?;
-            let wants = wants_of(*function, parts.as_slice());
-            let mut next = wants.first;
-            let mut best = so_far;
-            for arg in args {
-                best = look_in(scope, alloc, what, next, arg, best)?;
-                next = wants.others;
-            }
-            Ok(best)
-        }
-        Expr::Paren(_, inner) => {
-            if is_literal(inner) {
-                return Ok(so_far);
-            }
-            look_in(scope, alloc, what, want, inner, so_far)
-        }
-    }
-}
-
-/// The nearest place, with those of a step's index.
-#[cycle(looking)]
-fn look_in_step(
-    scope: &Scope,
-    alloc: Global,
-    what: Look,
-    step: &Step,
-    nearest: Option<Place>,
-) -> Result<Option<Place>, AllocError>
-    ensures { let scope = scope_of scope.now in IfOk result (λ new. new
-        ≡ near_parts what scope (parts_of_step scope (step_tree step.now)) nearest) }
-{
-    match step {
-        Step::Field(..) => Ok(nearest),
-        Step::Index(e, _) => look_in(scope, alloc, what, Want::Nothing, e, nearest),
-    }
+    let mut near = nothing_near();
+    look_for_all(scope, alloc, want, e, &mut near)?;
+    Ok(nearer_of(nearest, near.at(what)))
 }
 
 /// The nearest place, with those of an operand's indexes.
-#[cycle(looking)]
 pub fn look_in_operand(
     scope: &Scope,
     alloc: Global,
@@ -250,11 +137,9 @@ pub fn look_in_operand(
     ensures { let scope = scope_of scope.now in IfOk result (λ new. new
         ≡ near_parts what scope (parts_of_operand scope (operand_tree operand.now)) nearest) }
 {
-    let mut best = nearest;
-    for step in &operand.steps {
-        best = look_in_step(scope, alloc, what, step, best)?;
-    }
-    Ok(best)
+    let mut near = nothing_near();
+    look_in_operand_for_all(scope, alloc, operand, &mut near)?;
+    Ok(nearer_of(nearest, near.at(what)))
 }
 
 /// The nearest operator or function in an expression, its indexes included, whose operands don't fit it.

@@ -10,4 +10,5 @@ pub mod Starting
 pub mod Grounded
 mod Indexes
 pub mod Differing
+mod Passing
 mod Searching

@@ -214,7 +214,7 @@ implied_covered types old new a b implies covers = λ n all met.
 
 -- ---- what has no leaf adds nothing to a walk
 
-no_length : (ls : List Leaf) → length ls ≡ 0 → ls ≡ []
+pub no_length : (ls : List Leaf) → length ls ≡ 0 → ls ≡ []
 no_length [] none = refl
 no_length (l ∷ ls) none = absurd (omega (arith, none))
 

@@ -1,29 +1,5 @@
 -- Steps of a walk: the first variable, or the first element, and what stays on the stack.
-use Rattle.std.specs.Prelude.{
-  ◌≡◌,
-  ◌<◌,
-  ◌≤◌,
-  ℕ,
-  ◌+◌,
-  ◌-◌,
-  ℤ,
-  List,
-  [],
-  ◌∷◌,
-  ◌++◌,
-  Some,
-  None,
-  Result,
-  Ok,
-  Err,
-  OnOk,
-  length,
-  take,
-  drop,
-  refl,
-  true,
-  false,
-}
+use Rattle.std.specs.Prelude.{◌≡◌, ◌<◌, ◌≤◌, ℕ, ◌+◌, ◌-◌, ℤ, List, [], ◌∷◌, ◌++◌, Some, Result, Ok, Err, OnOk, length, take, drop, refl, true, false}
 use Rattle.std.proofs.Common.{ap, subst, sym, ◌∙◌, append_assoc, arith, length-take-le, true≢false}
 use Rattle.std.specs.Fmt.{signed_decimal}
 use Rattle.std.proofs.lemmas.List.{append_cancel_left, length-append, take-append-drop}
@@ -118,15 +94,6 @@ pub leaves_first : (expand : List ℕ → List ℕ → Section → List Leaf) (a
 leaves_first expand around path v vs all s are some =
     ap (λ o. leaves_where o (λ s. leaves_of_type expand (field_path path v.name.now) (start_value v.of.now.start) s (type_tree v.of.now.ty))
     ++ leaves_of_vars expand around path (listed vs)) some
-    ∙ ap (λ l. leaves_of_vars expand around path (listed l)) (sym are)
-
-pub leaves_passed : (expand : List ℕ → List ℕ → Section → List Leaf) (around : Around) (path : List ℕ) (v : Var) (vs all : List VarTree)
-    → all ≡ var_tree v ∷ vs
-    → None ≡ section_within around v.of.now.section
-    → leaves_of_vars expand around path (listed vs) ≡ leaves_of_vars expand around path (listed all)
-leaves_passed expand around path v vs all are none =
-    ap (λ o. leaves_where o (λ s. leaves_of_type expand (field_path path v.name.now) (start_value v.of.now.start) s (type_tree v.of.now.ty))
-    ++ leaves_of_vars expand around path (listed vs)) none
     ∙ ap (λ l. leaves_of_vars expand around path (listed l)) (sym are)
 
 pub work_first : (work : List ℕ → ℕ) (v : Var) (vs all : List VarTree) → all ≡ var_tree v ∷ vs

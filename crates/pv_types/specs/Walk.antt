@@ -19,7 +19,12 @@ use Rattle.std.specs.Prelude.{
   ◌++◌,
   take,
   unwrap_or,
+  Option,
+  Some,
+  None,
 }
+use Rattle.pv_types.specs.declared.declaration.Section.{Section}
+use Rattle.pv_types.specs.declared.declaration.Vars as declaration
 use Rattle.pv_types.specs.declared.leaf.Leaf.{Leaf}
 use Rattle.pv_types.specs.declared.walk.Around as declared
 use Rattle.pv_types.specs.declared.walk.Around.TheVariants as around
@@ -42,11 +47,13 @@ use Rattle.pv_types.specs.Tree.{
 }
 use Rattle.pv_types.specs.View.{type_tree, trees_from, listed}
 use Rattle.pv_types.specs.Named.{NamedType, look_up}
+use Rattle.pv_types.specs.Sizes.{number_where, size_of_type, size_of_named}
 use Rattle.pv_types.specs.Leaves.{
   Around,
   block,
   instance,
   fields,
+  section_within,
   element_path,
   count_between,
   leaves_of_elements,
@@ -143,6 +150,14 @@ pub record Pops (types : List NamedType) (old new : Walk) (f : Frame) : Type 0 w
       ++ pending types new.path.items new.frames.items
   pub work : work_left types old.frames.items
       ≡ work_left types new.frames.items + work_of_rest types f.levels f.rest
+
+-- where variables that are declared at once have leaves, this is the section of these
+abbrev pub IsLeafSection : List NamedType → declared.Around → declaration.Vars → Option Section → Type 0
+IsLeafSection types around v (Some section) =
+    Some section ≡ section_within (around_view around) v.section
+IsLeafSection types around v None = (n : ℕ) → number_where
+    (section_within (around_view around) v.section)
+    (size_of_type (size_of_named types n) (type_tree v.ty)) ≡ 0
 
 -- a step leaves the leaves as they are; there was one where fewer steps are left, and none where
 -- nothing lies on the stack

@@ -17,8 +17,9 @@ pub struct Var<'p> {
 
 /// The variable of one of the names that are declared at once.
 pub fn var_of<'p>(of: &'p Vars, word: &'p (Name, Place)) -> Var<'p>
-    ensures { var_tree result
+    ensures tree { var_tree result
         ≡ word_tree of.now.section (type_tree of.now.ty) of.now.start word.now }
+    ensures shared { result.of.now ≡ of.now }
 {
     Var {
         name: &word.0,
@@ -84,19 +85,23 @@ pub fn are_at_most(declared: &[Vars], most: usize) -> bool
     true
 }
 
-/// A variable, and those behind it: of the first of these declarations the names from this number
-/// on, and all of the others.
+/// A variable, and those behind it: of the first of these declarations, which is its own, the names
+/// from this number on, and all of the others.
 #[derive(Clone, Copy)]
 pub(crate) struct First<'p> {
     pub(crate) var: Var<'p>,
     pub(crate) vars: &'p [Vars],
     pub(crate) from: usize,
+    /// The declarations behind its own.
+    pub(crate) behind: &'p [Vars],
 }
 
 /// The first variable of declarations.
 fn first_of<'p>(vars: &'p [Vars]) -> Option<First<'p>>
     ensures some { IfSome result (λ first. var_trees vars.now
         ≡ var_tree first.var ∷ trees_from first.vars.now first.from) }
+    ensures shared { IfSome result
+        (λ first. first.vars.now ≡ first.var.of.now ∷ first.behind.now) }
     ensures none { IfNone result (var_trees vars.now ≡ []) }
 {
     let mut left = vars;
@@ -107,6 +112,7 @@ fn first_of<'p>(vars: &'p [Vars]) -> Option<First<'p>>
                 var,
                 vars: left,
                 from: 1,
+                behind,
             });
         }
         left = behind;
@@ -118,6 +124,8 @@ fn first_of<'p>(vars: &'p [Vars]) -> Option<First<'p>>
 pub(crate) fn first_from<'p>(vars: &'p [Vars], from: usize) -> Option<First<'p>>
     ensures some { IfSome result (λ first. trees_from vars.now from
         ≡ var_tree first.var ∷ trees_from first.vars.now first.from) }
+    ensures shared { IfSome result
+        (λ first. first.vars.now ≡ first.var.of.now ∷ first.behind.now) }
     ensures none { IfNone result (trees_from vars.now from ≡ []) }
 {
     let Some((of, behind)) = vars.split_first() else {
@@ -130,6 +138,7 @@ pub(crate) fn first_from<'p>(vars: &'p [Vars], from: usize) -> Option<First<'p>>
                 var,
                 vars,
                 from: from + 1,
+                behind,
             })
         }
         None => first_of(behind),

@@ -57,6 +57,7 @@ ghost use Rattle.pv_types.specs.Walk.{
   Pops,
   Steps,
   all_leaves,
+  IsLeafSection,
 };
 ghost use Rattle.pv_types.specs.Named.{NamedType, types_of};
 
@@ -67,7 +68,7 @@ use crate::leaf::{Leaf, Leaves};
 use crate::name::Name;
 use crate::named::Types;
 use crate::search::has_leaf;
-use crate::var::first_from;
+use crate::var::{First, first_from};
 use itoa::Buffer;
 use pv_edge::Text;
 use pv_word::Ty;
@@ -131,6 +132,28 @@ fn start_value_of(start: Option<Literal>) -> i128
         Some(literal) => literal.value,
         None => 0,
     }
+}
+
+/// The section of the leaves of a variable, or none where those that are declared with it have no
+/// leaves, however many elements their type may have. Only the first of their names asks that of
+/// the type.
+fn leaf_section<'p>(
+    alloc: Global,
+    first: &First<'p>,
+    around: Around,
+    named: &Types<'p>,
+) -> Result<Option<Section>, AllocError>
+    ensures { IfOk result
+        (λ section. IsLeafSection (types_of named.now) around first.now.var.of.now section) }
+{
+    let of = first.var.of;
+    let Some(section) = around.section_of(of.section) else {
+        return Ok(None);
+    };
+    if first.from == 1 && !has_leaf(alloc, &of.ty, named)? {
+        return Ok(None);
+    }
+    Ok(Some(section))
 }
 
 /// Puts a variable's name behind the path, after a dot where there is something before it.
@@ -363,34 +386,8 @@ impl<'p> Walk<'p> {
         self.add_vars(vars, around, below)
     }
 
-    /// Lays out a type beneath the path, unless it has no leaf, however many elements it may have.
-    fn lay_out(
-        &mut self,
-        alloc: Global,
-        ty: &'p DeclType,
-        start: Option<Literal>,
-        section: Section,
-        levels: usize,
-        named: &Types<'p>,
-    ) -> Result<(), FlattenFault>
-        requires { IsSound self.old }
-        ensures adds { let types = types_of named.now in
-            OnOk result (Adds types self.old self.new
-            (leaves_of_type (leaves_of_named types levels) self.old.path.items (start_value start)
-            section (type_tree ty.now))
-            (work_of_type (work_of_named types levels) (type_tree ty.now))) }
-        ensures too_large { let types = types_of named.now in
-            IsErrOf result FlattenFault.TooLarge → MAX_LEAVES < length self.old.leaves.items
-            + length (leaves_of_type (leaves_of_named types levels) self.old.path.items
-            (start_value start) section (type_tree ty.now)) }
-    {
-        if !has_leaf(alloc, ty, named)? {
-            return Ok(());
-        }
-        self.lay_out_type(alloc, ty, start, section, levels, named)
-    }
-
-    /// Lays out the first of the variables, and puts the others on the stack.
+    /// Lays out the first of the variables, and puts the others on the stack. Those that share a
+    /// type without a leaf are passed over at once.
     fn lay_out_vars(
         &mut self,
         alloc: Global,
@@ -414,18 +411,18 @@ impl<'p> Walk<'p> {
         let Some(first) = first_from(vars, from) else {
             return Ok(());
         };
-        let behind = Rest::Vars {
-            vars: first.vars,
-            from: first.from,
-            around,
-        };
-        self.add_frame(behind, levels)?;
-        match around.section_of(first.var.of.section) {
-            None => Ok(()),
+        match leaf_section(alloc, &first, around, named)? {
+            None => self.add_vars(first.behind, around, levels),
             Some(section) => {
+                let behind = Rest::Vars {
+                    vars: first.vars,
+                    from: first.from,
+                    around,
+                };
+                self.add_frame(behind, levels)?;
                 let var = first.var;
                 append_name(&mut self.path, var.name)?;
-                self.lay_out(alloc, &var.of.ty, var.of.start, section, levels, named)
+                self.lay_out_type(alloc, &var.of.ty, var.of.start, section, levels, named)
             }
         }
     }
@@ -483,7 +480,7 @@ impl<'p> Walk<'p> {
         }
         self.add_next_elements(of, span, section, levels)?;
         append_index(&mut self.path, &span.index)?;
-        self.lay_out(alloc, of, None, section, levels, named)
+        self.lay_out_type(alloc, of, None, section, levels, named)
     }
 
     /// Lays out the first of what lies beneath the path, and puts the rest on the stack.

@@ -29,8 +29,8 @@ returns-in_err-sources-clause-stopped g c =
     c.from_residual-in_err-sources.ensures.1
     (stops_source told _ file (data_of c.in_ok-case.case) stop c.in_ok-case.ensures.files found.0 found.1 c.in_err-sources.ensures.stopped)
 
-pub first_project-requires : goal.first_project-requires
-first_project-requires g c =
+pub first_project-requires-clause-read : goal.first_project-requires-clause-read
+first_project-requires-clause-read g c =
     are_read _ _ c.in_ok-sources.sources c.as_slice.result.now c.as_slice.ensures.value c.in_ok-sources.ensures.found
 
 pub returns-in_err-project-clause-stopped : goal.returns-in_err-project-clause-stopped
@@ -150,9 +150,30 @@ returns-in_err-view-clause-counted g c =
     passed_counts c.from_residual-in_err-view.result stop _ _ _ c.from_residual-in_err-view.ensures.1
     (stays (first_stop_status stop) _ _ (fit_unread c.in_err-view.field-0.0) (c.in_ok-sources.ensures.counted ∙ c.in_ok-case.ensures.counted))
 
-pub program_in-made-requires : goal.program_in-made-requires
-program_in-made-requires g c =
+pub program_in-made-requires-clause-short : goal.program_in-made-requires-clause-short
+program_in-made-requires-clause-short g c =
     let said = data_of c.in_ok-case.case in code_short said _ (held_texts _ _ said c.in_ok-case.ensures.found.0) refl
+
+pub program_in-made-requires-clause-first : goal.program_in-made-requires-clause-first
+program_in-made-requires-clause-first g c =
+    let told = g.F.Files.told c.args.files.now in
+    let file = c.args.case_file.now in
+    let case = c.in_ok-case.case in
+    let sources = c.in_ok-sources.sources in
+    let found = c.in_ok-case.ensures.found in
+    let has = c.in_ok-sources.ensures.found in
+    let given = given_by (data_of case) has.read in
+    let are = are_given _ case sources c.as_slice.result.now [] c.as_slice.ensures.value (no_symbols case found.1) has in
+    let reads = reads_kept told _ file (data_of case) sources c.in_ok-case.ensures.files found.0 has in
+    let project = c.in_ok-project.ensures.found given refl found.1 are in
+    let first = are_first given found.1 project.1 in
+    let kept = reads_project told file given c.in_ok-project.project reads project.0 in
+    let made = c.in_ok-entry.ensures.found given (is_case case) project.0 in
+    let filled = reads_table told file given made.0 c.in_ok-entry.entry c.in_ok-entry.table kept made.1 in
+    let fit = c.in_ok-view.ensures.found given made.0 (is_case case) project.0 made.1 in
+    let s = data_by given made.0 c.in_ok-view.view fit.0 in
+    let all = reads_all told file given made.0 c.in_ok-entry.entry c.in_ok-view.view c.in_ok-view.pattern fit.0 filled fit.1 in
+    record { told = told; file = file; subject = s; of_case = is_case case; are = first; reads = all; is = project.0; there = made.1.is }
 
 pub returns-clause-found : goal.returns-clause-found
 returns-clause-found g c =

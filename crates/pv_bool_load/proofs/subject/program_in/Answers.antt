@@ -1,15 +1,33 @@
-use Rattle.std.proofs.Common.{[], inr}
+use Rattle.std.proofs.Common.{[], inr, ap, ◌∙◌}
 use Rattle.std.specs.Prelude.{All, List, ℕ, ◌≡◌}
 use Rattle.std.proofs.lemmas.List.Elements.{All-nil}
 use Rattle.pv_tree.specs.Tree.{OperandTree}
+use Rattle.pv_tree.specs.Scopes.{ProjectTree}
 use Rattle.pv_tree.specs.View.{block_tree}
 use Rattle.pv_bool.specs.declared.program.Program.{Program}
 use Rattle.pv_bool.specs.Programs.{program_tree}
 use Rattle.pv_bool_form.specs.FirstForm.{IsFirstOperand}
 use Rattle.pv_bool_form.specs.Programs.{first_source, pattern_program}
-use Rattle.pv_bool_load.proofs.Working.{some_is, some_meets, none_isnt}
+use Rattle.pv_bool_load.proofs.Working.{some_is, some_meets, none_meets, none_isnt}
 use Rattle.pv_bool_load.proofs.Stages.{entered_there, pattern_there, other_requirement, program_made}
 use Rattle.pv_bool_load.proofs.subject.program_in.Goals as goal
+
+pub program_by-requires-clause-read : goal.program_by-requires-clause-read
+program_by-requires-clause-read c =
+    let of = c.requires.first in
+    let s = of.subject in
+    let project = c.args.project.now in record {
+      entered = s.entered.block;
+      there = entered_there s.given s.entered project c.args.entry of.is of.there;
+      pattern = s.pattern;
+      reads = pattern_there s.given s.entered c.args.case.now project s.pattern c.as_slice-texts.result.now of.of_case of.is c.as_slice-texts.ensures.value
+          of.reads.fitted.pattern;
+    }
+
+pub unreachable-requires : goal.unreachable-requires
+unreachable-requires c =
+    let of = c.requires.first in
+    none_meets c.only_block.result c.in_default.is c.only_block.ensures.none of.are.project.block (ap (λ (p : ProjectTree). p.blocks) of.is.same ∙ of.are.project.only)
 
 pub returns-in-Some-2-clause-found : goal.returns-in-Some-2-clause-found
 returns-in-Some-2-clause-found c = λ told s of_case are reads is there.

@@ -1,7 +1,13 @@
 use Rattle.std.proofs.Common.{◌≡◌, ap, ◌∙◌}
-use Rattle.pv_command_verdict.specs.Verdicts.{verdict_text}
+use Rattle.pv_command_verdict.specs.Verdicts.{source_lines, verdict_text}
+use Rattle.pv_command_verdict.proofs.ForCallers.{no_place}
 use Rattle.pv_command_check.proofs.Deciding.{joined_as}
 use Rattle.pv_command_check.proofs.texts.texts_of.Goals as goal
+
+pub report_of-report-requires : goal.report_of-report-requires
+report_of-report-requires c =
+    no_place (source_lines c.args.subject.now.sources.items) c.reported-verdict.result c.args.evidence.certificate c.args.evidence.ending
+    c.reported-verdict.ensures c.requires.ending
 
 pub returns-clause-report : goal.returns-clause-report
 returns-clause-report c = λ s is.

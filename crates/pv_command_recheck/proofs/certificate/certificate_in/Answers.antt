@@ -10,9 +10,6 @@ returns-clause-found g c =
     holds_text (g.F.Files.told c.args.files.now) c.args.file.now c.in_ok-bytes.bytes.items c.as_slice.result.now c.in_ok-bytes.ensures.held
     c.as_slice.ensures.value c.in_ok-certificate.certificate c.in_ok-certificate.ensures.found
 
-pub returns-clause-form : goal.returns-clause-form
-returns-clause-form g c = c.in_ok-certificate.ensures.writable.trace
-
 pub returns-in_err-certificate-clause-stopped : goal.returns-in_err-certificate-clause-stopped
 returns-in_err-certificate-clause-stopped g c =
     passed _ c.from_residual-in_err-certificate.result (no_certificate c.in_err-certificate.field-0.0)

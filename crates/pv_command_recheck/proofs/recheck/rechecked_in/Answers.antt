@@ -3,6 +3,12 @@ use Rattle.pv_command_recheck.proofs.Unread.{recheck_other}
 use Rattle.pv_command_recheck.proofs.Reporting.{err_said, err_counted, err_told, read_counted}
 use Rattle.pv_command_recheck.proofs.recheck.rechecked_in.Goals as goal
 
+pub rechecked_of-requires-clause-read : goal.rechecked_of-requires-clause-read
+rechecked_of-requires-clause-read g c = record {
+  bytes = c.in_ok-certificate.ensures.found.bytes;
+  is = c.in_ok-certificate.ensures.found.are;
+}
+
 pub returns-clause-says : goal.returns-clause-says
 returns-clause-says g c = λ case_file s reads is.
     c.rechecked_of.ensures.says (g.F.Files.told c.args.files.now) case_file c.args.file.now s reads is c.in_ok-certificate.ensures.found

@@ -9,7 +9,7 @@ returns-clause-scans c = λ told file s reads.
     (subject_starts told file s reads.reads)
 
 pub returns-clause-verdicts : goal.returns-clause-verdicts
-returns-clause-verdicts c = λ told file s bytes certificate ending reads is.
+returns-clause-verdicts c = λ told file s certificate ending reads says.
     done.claims (source_in s) s.pattern s.given.case.limits certificate ending certificate.claim
     (done.scans_are_done (source_in s) s.pattern (c.subjects_are_their_programs.ensures told file s reads).machines
-    (subject_starts told file s reads.reads)) is.says
+    (subject_starts told file s reads.reads)) says

@@ -1,12 +1,18 @@
-use Rattle.std.proofs.Common.{List, map, ◌∙◌, ap}
-use Rattle.std.specs.Prelude.{string_bytes}
-use Rattle.pv_report.specs.Places.{file_lines}
+use Rattle.std.proofs.Common.{List, map, ◌∙◌, ap, sym, subst}
+use Rattle.std.specs.Prelude.{IfSome, string_bytes}
+use Rattle.pv_report.specs.Places.{Lines, file_lines}
 use Rattle.pv_report.specs.Reports.{report_text}
+use Rattle.pv_report.specs.Correct.{EndsIn}
 use Rattle.pv_bool_load.specs.Handed.{SourceText}
 use Rattle.pv_command_verdict.specs.Verdicts.{verdict_text}
 use Rattle.pv_command_verdict.proofs.Places.{lines_by}
 use Rattle.pv_command_verdict.proofs.Reports.{text_is, report_is}
 use Rattle.pv_command_verdict.proofs.report.report_of.Goals as goal
+
+pub text-made-requires : goal.text-made-requires
+text-made-requires c =
+    let same = c.in_ok-places.ensures ∙ ap (λ (ts : List SourceText). map lines_by ts) c.as_slice.ensures.value in
+    subst (λ (files : List Lines). IfSome c.args.verdict.now.ending (EndsIn files)) (sym same) c.requires
 
 pub returns : goal.returns
 returns c = λ s certificate told is said.

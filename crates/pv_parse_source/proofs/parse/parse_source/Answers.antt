@@ -19,7 +19,7 @@ read_source-requires-clause-order c =
     order_before c.args.its c.requires.tokens.0 text c.args.tokens.now inner c.requires.tokens.1 (ends c.args.its c.requires.tokens.0 text c.args.tokens.now inner c.requires.tokens.1 c.split_at.ensures.front)
 
 pub read_source-requires-clause-reads : goal.read_source-requires-clause-reads
-read_source-requires-clause-reads c = c.requires.reads
+read_source-requires-clause-reads c = (c.args.its, c.requires.reads)
 
 pub offset_bounds-tokens-at : goal.offset_bounds-tokens-at
 offset_bounds-tokens-at c =
@@ -29,7 +29,7 @@ offset_bounds-tokens-at c =
     fault_lies c.args.its text c.args.tokens.now inner c.in-Syntax.at
     (ends c.args.its c.requires.tokens.0 text c.args.tokens.now inner c.requires.tokens.1 c.split_at.ensures.front)
     (subst (λ fault. AnswersSource c.args.its (lexemes_of text inner) (Err fault)) c.in-Syntax.is
-    (subst (λ answer. AnswersSource c.args.its (lexemes_of text inner) answer) c.in-Err.is c.in_ok-blocks.ensures)) in
+    (subst (λ answer. AnswersSource c.args.its (lexemes_of text inner) answer) c.in-Err.is (c.in_ok-blocks.ensures c.args.its c.requires.reads))) in
     search rules
 
 pub bounds-tokens-at : goal.bounds-tokens-at
@@ -39,7 +39,7 @@ bounds-tokens-at c =
     fault_lies c.args.its text c.args.tokens.now inner c.in-Syntax.at
     (ends c.args.its c.requires.tokens.0 text c.args.tokens.now inner c.requires.tokens.1 c.split_at.ensures.front)
     (subst (λ fault. AnswersSource c.args.its (lexemes_of text inner) (Err fault)) c.in-Syntax.is
-    (subst (λ answer. AnswersSource c.args.its (lexemes_of text inner) answer) c.in-Err.is c.in_ok-blocks.ensures))
+    (subst (λ answer. AnswersSource c.args.its (lexemes_of text inner) answer) c.in-Err.is (c.in_ok-blocks.ensures c.args.its c.requires.reads)))
 
 pub returns-in-Ok : goal.returns-in-Ok
 returns-in-Ok c =
@@ -47,7 +47,7 @@ returns-in-Ok c =
     let inner = c.split_at.result.0.now in
     only_blocks c.args.its text c.args.tokens.now inner (block_trees c.in-Ok.blocks.list.items)
     (ends c.args.its c.requires.tokens.0 text c.args.tokens.now inner c.requires.tokens.1 c.split_at.ensures.front) c.in_default.ensures.none
-    (subst (λ answer. AnswersSource c.args.its (lexemes_of text inner) answer) c.in-Ok.is c.in_ok-blocks.ensures)
+    (subst (λ answer. AnswersSource c.args.its (lexemes_of text inner) answer) c.in-Ok.is (c.in_ok-blocks.ensures c.args.its c.requires.reads))
 
 pub returns-in-Syntax : goal.returns-in-Syntax
 returns-in-Syntax c =
@@ -56,7 +56,7 @@ returns-in-Syntax c =
     source_fault_at c.args.its text c.args.tokens.now inner c.in-Syntax.at _
     (ends c.args.its c.requires.tokens.0 text c.args.tokens.now inner c.requires.tokens.1 c.split_at.ensures.front) c.in_default.ensures.none
     (subst (λ fault. AnswersSource c.args.its (lexemes_of text inner) (Err fault)) c.in-Syntax.is
-    (subst (λ answer. AnswersSource c.args.its (lexemes_of text inner) answer) c.in-Err.is c.in_ok-blocks.ensures))
+    (subst (λ answer. AnswersSource c.args.its (lexemes_of text inner) answer) c.in-Err.is (c.in_ok-blocks.ensures c.args.its c.requires.reads)))
 
 pub returns-in-Deep : goal.returns-in-Deep
 returns-in-Deep c =
@@ -65,4 +65,4 @@ returns-in-Deep c =
     blocks_too_deep c.args.its text c.args.tokens.now inner c.in-Deep.place
     (ends c.args.its c.requires.tokens.0 text c.args.tokens.now inner c.requires.tokens.1 c.split_at.ensures.front) c.in_default.ensures.none
     (subst (λ fault. AnswersSource c.args.its (lexemes_of text inner) (Err fault)) c.in-Deep.is
-    (subst (λ answer. AnswersSource c.args.its (lexemes_of text inner) answer) c.in-Err.is c.in_ok-blocks.ensures))
+    (subst (λ answer. AnswersSource c.args.its (lexemes_of text inner) answer) c.in-Err.is (c.in_ok-blocks.ensures c.args.its c.requires.reads)))

@@ -1,9 +1,9 @@
-use Rattle.std.proofs.Common.{◌≡◌, ◌+◌, ◌++◌, ◌∷◌, [], drop, sym, ap, ◌∙◌, arith, rules}
+use Rattle.std.proofs.Common.{◌+◌, ◌++◌, ◌∷◌, [], drop, sym, ap, ◌∙◌, arith}
 use Rattle.pv_report.specs.Places.{starts_behind}
 use Rattle.pv_report.proofs.Values.{whole, stepped, all_dropped}
 use Rattle.pv_report.proofs.Starts.{starts_yes, starts_no}
 use Rattle.pv_report.proofs.places.add_starts.Goals as goal
-use Rattle.pv_report.proofs.places.add_starts.Goals.{then-byte-eq10+in-Ok+in_ok-push-in-Ok, else-byte-eq10}
+use Rattle.pv_report.proofs.places.add_starts.Goals.{then-byte-eq10+in_ok-push, else-byte-eq10}
 
 pub loop-at-preserved : goal.loop-at-preserved
 loop-at-preserved c =
@@ -11,11 +11,9 @@ loop-at-preserved c =
     let bytes = c.args.bytes.now in
     let rest = starts_behind (l.at + 1) (drop (l.at + 1) bytes) in
     elim c.if-byte-eq10.branch [
-      | then-byte-eq10+in-Ok+in_ok-push-in-Ok w ↦
-          let start : w.in-Ok.start ≡ l.at + 1 = search rules in
+      | then-byte-eq10+in_ok-push w ↦
           ap (λ s. s.items ++ rest) w.starts-is
-          ∙ ap (λ s. s ++ rest) w.in_ok-push-in-Ok.ensures.items
-          ∙ ap (λ n. (l.starts.items ++ n ∷ []) ++ rest) start
+          ∙ ap (λ s. s ++ rest) w.in_ok-push.ensures.items
           ∙ stepped l.starts.items ((l.at + 1) ∷ []) (starts_behind l.at (drop l.at bytes)) rest _ l.invariant
           (starts_yes bytes l.at 0 c.loop-at-test.true w.if-byte-eq10.true)
       | else-byte-eq10 w ↦ ap (λ s. s.items ++ rest) w.starts-is

@@ -26,6 +26,7 @@ returns-clause-context c =
       areas = behind_exact p source.project source.entry c.of_entry-data_first.result c.of_data_blocks-behind.result first
           c.of_data_blocks-behind.ensures (omega arith) sizes;
       bytes = sym bytes;
+      number = tt;
       firsts = tt;
     }
 

@@ -21,7 +21,7 @@ returns-in-Some c =
       memory = tt;
       most = λ most is. subst (λ o. IsMostOf c.args.nodes.now.items o most) c.in-Some.is is;
       leads = λ source block base root more w.
-          subst (λ o. IsWalk source block base c.args.nodes.now.items (record { begin = c.args.walk.begin; address = o }) root more) c.in-Some.is w;
+          subst (λ o. IsWalk source block base c.args.nodes.now.items (record { begin = c.args.walk.begin; address = o; block = c.args.walk.block }) root more) c.in-Some.is w;
     }
 
 pub returns-in-None : goal.returns-in-None
@@ -33,7 +33,7 @@ returns-in-None c =
       most = λ most is. IfOk-weaker c.push.result _ _ (λ n adds. added_most _ _ (Constant (pos 0)) n most adds
           (ap Some (sym (subst (λ o. IsMostOf c.args.nodes.now.items o most) c.in-None.is is)))) c.push.ensures.adds;
       leads = λ source block base root more w. IfOk-weaker c.push.result _ _
-          (λ n adds. walk_addressed source block base _ _ c.args.walk.begin n root more adds
-          (subst (λ o. IsWalk source block base c.args.nodes.now.items (record { begin = c.args.walk.begin; address = o }) root more) c.in-None.is w))
+          (λ n adds. walk_addressed source block base _ _ c.args.walk.begin c.args.walk.block n root more adds
+          (subst (λ o. IsWalk source block base c.args.nodes.now.items (record { begin = c.args.walk.begin; address = o; block = c.args.walk.block }) root more) c.in-None.is w))
           c.push.ensures.adds;
     }

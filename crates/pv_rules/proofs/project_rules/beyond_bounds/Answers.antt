@@ -9,6 +9,6 @@ use Rattle.pv_rules.proofs.project_rules.beyond_bounds.Goals as goal
 pub returns : goal.returns
 returns c =
     let project = project_of c.args.tables.now in
-    nearest_is (IsBeyondBounds project) c.nearer_of.result (nearer_of c.in_ok-code.code (nearer_of c.in_ok-value.value c.in_ok-index.index))
-    (c.nearer_of.ensures ∙ ap (nearer_of c.in_ok-code.code) c.nearer_of-rest.ensures)
-    (beyond_all project c.in_ok-code.code c.in_ok-value.value c.in_ok-index.index c.in_ok-code.ensures c.in_ok-value.ensures c.in_ok-index.ensures)
+    nearest_is (IsBeyondBounds project) c.nearer_of.result (nearer_of c.args.code.beyond (nearer_of c.in_ok-value.value c.in_ok-index.index))
+    (c.nearer_of.ensures ∙ ap (nearer_of c.args.code.beyond) c.nearer_of-rest.ensures)
+    (beyond_all project c.args.code.beyond c.in_ok-value.value c.in_ok-index.index c.requires.beyond c.in_ok-value.ensures c.in_ok-index.ensures)

@@ -9,8 +9,8 @@ use Rattle.pv_rules.proofs.project_rules.misfit.Goals as goal
 pub returns : goal.returns
 returns c =
     let project = project_of c.args.tables.now in
-    let a = c.in_ok-code.code in
-    let b = c.in_ok-misused.misused in
+    let a = c.args.code.misfit in
+    let b = c.args.code.misused in
     let d = c.in_ok-date.date in
     let s = c.in_ok-start.start in
     let p = c.in_ok-part.part in
@@ -19,4 +19,4 @@ returns c =
     nearest_is (IsMisfit project) c.nearer_of.result (nearer_of a (nearer_of b (nearer_of d (nearer_of s (nearer_of p (nearer_of w i))))))
     (c.nearer_of.ensures ∙ ap (nearer_of a) (c.nearer_of-rest.ensures ∙ ap (nearer_of b) (c.nearer_of-declared.ensures
     ∙ ap (nearer_of d) (c.nearer_of-starts.ensures ∙ ap (nearer_of s) (c.nearer_of-values.ensures ∙ ap (nearer_of p) c.nearer_of-places.ensures)))))
-    (misfit_all project a b d s p w i c.in_ok-code.ensures c.in_ok-misused.ensures (c.in_ok-date.ensures project c.requires) c.in_ok-start.ensures c.in_ok-part.ensures c.in_ok-way.ensures c.in_ok-index.ensures)
+    (misfit_all project a b d s p w i c.requires.code.misfit c.requires.code.misused (c.in_ok-date.ensures project c.requires.blocks) c.in_ok-start.ensures c.in_ok-part.ensures c.in_ok-way.ensures c.in_ok-index.ensures)

@@ -8,5 +8,5 @@ use Rattle.pv_rules.proofs.project_rules.wrong_address.Goals as goal
 pub returns : goal.returns
 returns c =
     let project = project_of c.args.tables.now in
-    nearest_is (IsWrongAddress project) c.nearer_of.result (nearer_of c.in_ok-code.code c.in_ok-index.index) c.nearer_of.ensures
-    (address_all project c.in_ok-code.code c.in_ok-index.index c.in_ok-code.ensures c.in_ok-index.ensures)
+    nearest_is (IsWrongAddress project) c.nearer_of.result (nearer_of c.args.code.address c.in_ok-index.index) c.nearer_of.ensures
+    (address_all project c.args.code.address c.in_ok-index.index c.requires.address c.in_ok-index.ensures)

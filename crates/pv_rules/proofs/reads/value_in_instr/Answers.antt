@@ -15,10 +15,10 @@ returns-in-Some c =
     let f = value_at (scope_of c.args.scope.now) (calls_of_code c.args.code) in
     let i = instr_tree c.args.instr.now in
     near_three f (flat_map operands_within (option_to_list (groups.operand_of_instruction i))) (flat_map reads_of_call (option_to_list i.call))
-    (option_to_list (read_operand i)) c.args.nearest c.value_in_named-named.result c.value_in_called-called.result c.nearer_of.result
+    (option_to_list (read_operand i)) c.args.nearest c.value_in_named-named.result c.value_in_called-called.result c.value_name.result
     c.value_in_named-named.ensures c.value_in_called-called.ensures
     (near_one (λ o. operand_tree o.now) c.read_operand.result (read_operand i) c.read_operand.ensures f c.in-Some.operand c.value_in_called-called.result
-    c.nearer_of.result c.value_name.result c.in-Some.is c.value_name.ensures c.nearer_of.ensures)
+    c.value_name.result c.in-Some.is c.value_name.ensures)
 
 pub returns-in-None : goal.returns-in-None
 returns-in-None c =

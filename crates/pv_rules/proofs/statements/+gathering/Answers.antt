@@ -7,7 +7,8 @@ use Rattle.pv_tree.specs.View.{expr_tree, stmt_tree, stmt_trees, stmts_of, arms_
 use Rattle.pv_tree.proofs.ForCallers.{stmt-if, stmt-case, stmt-for}
 use Rattle.pv_rules.specs.Statements.{all_in, all_of, all_of_arms, all_of_branches, all_of_else}
 use Rattle.pv_tree.specs.declared.stmt.Stmt.TheViews as form
-use Rattle.pv_rules.proofs.Gathering.{begun, ended, formed, stmt-while, stmt-repeat, under_most, case_falls}
+use Rattle.pv_rules_call.proofs.ForCallers.{case_falls, stmt-repeat, stmt-while, under_most}
+use Rattle.pv_rules.proofs.Gathering.{begun, ended, formed}
 use Rattle.pv_rules.proofs.statements.+gathering.Goals as goal
 
 pub add_statement-loop-arm-init : goal.add_statement-loop-arm-init

@@ -7,8 +7,10 @@ use Rattle.pv_tree.specs.Parts.{spots_of_stmts, spots_of_arms, spots_of_branches
 use Rattle.pv_tree.specs.View.{expr_tree, stmt_tree, stmts_of, arms_of, branches_of}
 use Rattle.pv_names.specs.InScope.{scope_of}
 use Rattle.pv_rules_expr.specs.NearestIn.{nearest_in}
+use Rattle.pv_rules_code.specs.Nears.{near_site}
 use Rattle.pv_rules_code.specs.Sites.{site_place}
 use Rattle.pv_rules_code.specs.Spots.{loop_tree}
+use Rattle.pv_rules_code.specs.Sought.Site.{Site}
 use Rattle.pv_rules_code.proofs.walk.+walking.Given as goal
 
 -- how deep statements stand behind ELSE at most
@@ -35,21 +37,21 @@ abbrev pub decreases-walk_loop : goal.decreases-walk_loop
 decreases-walk_loop l = 4 * most size-Stmt l.body.now.items + 2
 
 abbrev pub invariant-walk_arms-loop-arm : goal.invariant-walk_arms-loop-arm
-invariant-walk_arms-loop-arm l =
-    nearest_in (site_place l.what (scope_of l.scope)) (spots_of_arms (map loop_tree l.loops)
-    (arms_of (map (λ a. (expr_tree a.0, stmts_of (map stmt_tree a.1.items))) (drop l.arm-index l.arm-items)))) l.best
-    ≡ nearest_in (site_place l.what (scope_of l.scope)) (spots_of_arms (map loop_tree l.loops)
-    (arms_of (map (λ a. (expr_tree a.0, stmts_of (map stmt_tree a.1.items))) l.fn.arms.items))) l.fn.nearest
+invariant-walk_arms-loop-arm l = (what : Site) →
+    nearest_in (site_place what (scope_of l.scope)) (spots_of_arms (map loop_tree l.loops)
+    (arms_of (map (λ a. (expr_tree a.0, stmts_of (map stmt_tree a.1.items))) (drop l.arm-index l.arm-items)))) (near_site what l.near)
+    ≡ nearest_in (site_place what (scope_of l.scope)) (spots_of_arms (map loop_tree l.loops)
+    (arms_of (map (λ a. (expr_tree a.0, stmts_of (map stmt_tree a.1.items))) l.fn.arms.items))) (near_site what l.fn.near)
 
 abbrev pub invariant-walk_branches-loop-branch : goal.invariant-walk_branches-loop-branch
-invariant-walk_branches-loop-branch l =
-    nearest_in (site_place l.what (scope_of l.scope)) (spots_of_branches (map loop_tree l.loops)
-    (branches_of (map (λ b. (b.0.items, stmts_of (map stmt_tree b.1.items))) (drop l.branch-index l.branch-items)))) l.best
-    ≡ nearest_in (site_place l.what (scope_of l.scope)) (spots_of_branches (map loop_tree l.loops)
-    (branches_of (map (λ b. (b.0.items, stmts_of (map stmt_tree b.1.items))) l.fn.branches.items))) l.fn.nearest
+invariant-walk_branches-loop-branch l = (what : Site) →
+    nearest_in (site_place what (scope_of l.scope)) (spots_of_branches (map loop_tree l.loops)
+    (branches_of (map (λ b. (b.0.items, stmts_of (map stmt_tree b.1.items))) (drop l.branch-index l.branch-items)))) (near_site what l.near)
+    ≡ nearest_in (site_place what (scope_of l.scope)) (spots_of_branches (map loop_tree l.loops)
+    (branches_of (map (λ b. (b.0.items, stmts_of (map stmt_tree b.1.items))) l.fn.branches.items))) (near_site what l.fn.near)
 
 abbrev pub invariant-walk_all-loop-stmt : goal.invariant-walk_all-loop-stmt
-invariant-walk_all-loop-stmt l =
-    nearest_in (site_place l.what (scope_of l.scope)) (spots_of_stmts (map loop_tree l.loops)
-    (stmts_of (map stmt_tree (drop l.stmt-index l.list)))) l.best
-    ≡ nearest_in (site_place l.what (scope_of l.scope)) (spots_of_stmts (map loop_tree l.loops) (stmts_of (map stmt_tree l.list))) l.fn.nearest
+invariant-walk_all-loop-stmt l = (what : Site) →
+    nearest_in (site_place what (scope_of l.scope)) (spots_of_stmts (map loop_tree l.loops)
+    (stmts_of (map stmt_tree (drop l.stmt-index l.list)))) (near_site what l.near)
+    ≡ nearest_in (site_place what (scope_of l.scope)) (spots_of_stmts (map loop_tree l.loops) (stmts_of (map stmt_tree l.list))) (near_site what l.fn.near)

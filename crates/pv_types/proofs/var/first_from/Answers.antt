@@ -13,8 +13,12 @@ returns-in-Some-get-clause-some c =
     let l = c.in-Some-get.ensures.lookup in
     first_named v c.in-Some.behind.now all n w c.in-Some.ensures.cases.0
     (got_at v.names.items c.as_slice.result.now n w c.as_slice.ensures.value l.3.0 l.1)
-    ∙ ap (λ t. t ∷ trees_from all (suc n)) (sym c.var_of-var.ensures)
+    ∙ ap (λ t. t ∷ trees_from all (suc n)) (sym c.var_of-var.ensures.tree)
     ∙ ap (λ m. var_tree c.var_of-var.result ∷ trees_from all m) (sym (add-one n))
+
+pub returns-in-Some-get-clause-shared : goal.returns-in-Some-get-clause-shared
+returns-in-Some-get-clause-shared c =
+    c.in-Some.ensures.cases.0 ∙ ap (λ v. v ∷ c.in-Some.behind.now) (sym c.var_of-var.ensures.shared)
 
 pub returns-in-None-clause-some : goal.returns-in-None-clause-some
 returns-in-None-clause-some c =

@@ -1,18 +1,16 @@
-use Rattle.std.proofs.Common.{ap, ◌∙◌, option_map, subst}
-use Rattle.std.specs.Prelude.{IfSome}
+use Rattle.std.proofs.Common.{refl, ap, ◌∙◌, option_map}
+use Rattle.std.proofs.Math.Path.{fun_ext}
+use Rattle.pv_tree.specs.Tree.{BlockTree}
+use Rattle.pv_tree.specs.View.{block_tree}
 use Rattle.pv_mean.specs.Layout as layout
 use Rattle.pv_mean.specs.LaidOut.{capped_laid}
 use Rattle.pv_resolve.specs.Contexts.{block_in}
-use Rattle.pv_resolve.specs.Firsts.{AreFirsts}
 use Rattle.pv_resolve.proofs.context.Context.brief_found.Goals as goal
 
-pub returns-in-Some : goal.returns-in-Some
-returns-in-Some c = λ source is.
+pub returns : goal.returns
+returns c = λ source is.
     let block = block_in c.args.self.now in
-    c.brief.ensures source.project block (subst (λ o. IfSome o (λ f. AreFirsts f.now source.project block)) c.in-Some.is is.firsts)
-
-pub returns-in-None : goal.returns-in-None
-returns-in-None c = λ source is.
-    let s = c.args.self.now in
-    c.brief_walked.ensures
-    ∙ ap (λ p. option_map capped_laid (layout.laid_among p (layout.is_brief_in (block_in s)) (block_in s).vars c.args.name.now.key 0)) is.sizes
+    let seen = block_tree c.block.result.now in
+    c.variable_in.ensures source is is.number
+    ∙ ap (λ t. option_map capped_laid (layout.laid_among source.project t block.vars c.args.name.now.key 0))
+    (fun_ext (λ s. c.activation_part-part.ensures seen s refl ∙ ap (λ (b : BlockTree). layout.is_brief_in b s) c.block.ensures))

@@ -27,4 +27,4 @@ returns-in-In-clause-room c =
 
 pub returns-in-At-clause-room : goal.returns-in-At-clause-room
 returns-in-At-clause-room c =
-    λ source more is most h. (tt, record { most = 0; is_most = refl; roomy = tt })
+    λ source more is most h. (tt, record { most = 0; is_most = refl; roomy = tt; holds = tt })

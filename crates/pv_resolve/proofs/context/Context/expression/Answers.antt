@@ -13,8 +13,8 @@ expr-requires c =
 
 pub returns-clause-evaluates : goal.returns-clause-evaluates
 returns-clause-evaluates c = λ source is. c.in_ok-expression.ensures.evaluates source (block_in c.args.self.now) (expr_tree c.args.e.now)
-    (expression_alone source (block_in c.args.self.now) _ _ _ _ (expr_tree c.args.e.now) c.new-nodes.ensures.items c.as_slice.ensures.value (c.in_ok-n.ensures.means source is))
+    (expression_alone source (block_in c.args.self.now) _ _ _ _ (expr_tree c.args.e.now) c.new-nodes.ensures.items c.as_slice.ensures.value (c.in_ok-made.ensures.means source is))
 
-pub returns-in_err-n-clause-room : goal.returns-in_err-n-clause-room
-returns-in_err-n-clause-room c =
-    λ source is h fits. failed _ _ c.from_residual.ensures.1 (c.in_err-n.ensures.room source is h fits)
+pub returns-in_err-made-clause-room : goal.returns-in_err-made-clause-room
+returns-in_err-made-clause-room c =
+    λ source is h fits. failed _ _ c.from_residual.ensures.1 (c.in_err-made.ensures.room source is h fits)

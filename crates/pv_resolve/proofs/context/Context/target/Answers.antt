@@ -13,8 +13,8 @@ operand-requires c =
 
 pub returns-clause-locates : goal.returns-clause-locates
 returns-clause-locates c = λ source is. c.in_ok-target.ensures.locates source (block_in c.args.self.now) (operand_tree c.args.operand.now)
-    (target_alone source (block_in c.args.self.now) _ _ _ _ (operand_tree c.args.operand.now) c.new-nodes.ensures.items c.as_slice.ensures.value (c.in_ok-at.ensures.names source is))
+    (target_alone source (block_in c.args.self.now) _ _ _ _ (operand_tree c.args.operand.now) c.new-nodes.ensures.items c.as_slice.ensures.value (c.in_ok-found.ensures.names source is))
 
-pub returns-in_err-at-clause-room : goal.returns-in_err-at-clause-room
-returns-in_err-at-clause-room c =
-    λ source is h fits. failed _ _ c.from_residual.ensures.1 (c.in_err-at.ensures.room source is h fits)
+pub returns-in_err-found-clause-room : goal.returns-in_err-found-clause-room
+returns-in_err-found-clause-room c =
+    λ source is h fits. failed _ _ c.from_residual.ensures.1 (c.in_err-found.ensures.room source is h fits)

@@ -8,8 +8,8 @@ use Rattle.pv_types.proofs.Elements.{count_some, elements_fall}
 use Rattle.pv_types.proofs.Walking.{on_ok, deeper, re_adds, longer_sound, element_behind}
 use Rattle.pv_types.proofs.walk.Walk.lay_out_elements.Goals as goal
 
-pub lay_out-requires : goal.lay_out-requires
-lay_out-requires c =
+pub lay_out_type-requires : goal.lay_out_type-requires
+lay_out_type-requires c =
     longer_sound c.add_next_elements.new.self _ (element_behind c.args.span.now.index)
     (c.in_ok-add_next_elements.ensures.adds (types_of c.args.named.now)).sound refl refl
     c.in_ok-append_index.ensures
@@ -32,15 +32,15 @@ returns-clause-adds c =
     let m = 1 + count * (1 + w) + w in
     let n = 1 + count_between index high * (1 + w) - 1 in
     let falls : m ≤ n = elements_fall count w (count_between index high) some in
-    on_ok c.lay_out.result
-    (λ a. re_adds types c.args.self.now c.lay_out.new.self _ _ m n
+    on_ok c.lay_out_type.result
+    (λ a. re_adds types c.args.self.now c.lay_out_type.new.self _ _ m n
     (ap (λ p. leaves_of_type expand p (pos 0) c.args.section (type_tree c.args.of.now) ++ rest) at
     ∙ sym (ap (leaves_of_elements element index) some))
     falls
-    (deeper types c.args.self.now mid _ c.lay_out.new.self rest _ (element_behind index) _ _ c.in_ok-add_next_elements.ensures.leaves refl
+    (deeper types c.args.self.now mid _ c.lay_out_type.new.self rest _ (element_behind index) _ _ c.in_ok-add_next_elements.ensures.leaves refl
     refl
     c.in_ok-append_index.ensures (c.in_ok-add_next_elements.ensures.adds types) a))
-    c.lay_out.ensures.adds
+    c.lay_out_type.ensures.adds
 
 pub returns-clause-too_large : goal.returns-clause-too_large
 returns-clause-too_large c = λ is.
@@ -59,5 +59,5 @@ returns-clause-too_large c = λ is.
     let whole : first ++ rest ≡ leaves_of_elements element index (count_between index high) =
     ap (λ p. leaves_of_type expand p (pos 0) c.args.section (type_tree c.args.of.now) ++ rest) at
     ∙ sym (ap (leaves_of_elements element index) some) in
-    let over = c.lay_out.ensures.too_large is in
+    let over = c.lay_out_type.ensures.too_large is in
     omega (arith, over, length-append first rest, ap length whole, ap length c.in_ok-add_next_elements.ensures.leaves)
