@@ -25,7 +25,7 @@ APART = ("pv_rows", "pv_contracts_")
 # Words of definitions that say by an equation what an answer is and what the call leaves.
 EQUATIONS = {"Finds", "Gives", "Leaves", "Pops"}
 
-NEAREST = "its clause is that of `wrong_condition`, the nearest place of a rule; `check` of pv_rules, which is tested, is proved from it"
+NEAREST = "its clause is that of `wrong_label`, the nearest place of a rule; `check` of pv_rules, which is tested, is proved from it"
 READING = "`parse` of pv_scl_parse and of pv_stl_parse and `expression`, which are tested, say the same of their languages and are proved from it"
 COPYING = "it says by equations what stands in the vector after the call, or what each field of the answer is; `inline` of pv_inline, which is tested, is proved from it"
 LEARNING = "`solve` of pv_solver, which is tested, is proved from it"
@@ -41,7 +41,6 @@ EXCEPTIONS = {
     "pv_ll::recognize_sample": "`recognize`, which is tested, at one grammar",
     "pv_parse_source::*": READING,
     "pv_rules_call::call_too_deep": NEAREST,
-    "pv_rules_code::*": NEAREST,
     "pv_rules_decl::*": NEAREST,
     "pv_rules_expr::*": NEAREST,
     "pv_rules_instr::*": NEAREST,

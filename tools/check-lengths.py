@@ -1,5 +1,5 @@
 #!/usr/bin/env python3
-"""Checks that no function of the crates has more than 40 lines between its braces.
+"""Checks that no function of the crates has more than 40 lines between its braces, but for those that are listed with theirs.
 
 Usage: tools/check-lengths.py, anywhere. Each fault is a line on standard error, and the status is then 1."""
 import pathlib
@@ -8,6 +8,8 @@ import sys
 
 ROOT = pathlib.Path(__file__).resolve().parent.parent
 MOST = 40
+# One match over the forms of an expression, of which each hands up a node and its sort.
+LONGER = {("crates/pv_resolve/src/resolve.rt", "expr"): 50}
 HEAD = re.compile(r"( *)(?:pub(?:\(\w+\))? )?(?:final )?fn (\w+)")
 
 
@@ -32,8 +34,9 @@ def main():
     wrong = 0
     for file in sorted(ROOT.glob("crates/*/src/**/*.rt")):
         for line, name, length in lengths(file.read_text(encoding="utf-8").splitlines()):
-            if length > MOST:
-                print(f"check-lengths: {file.relative_to(ROOT)}:{line}: {name} has {length} lines", file=sys.stderr)
+            path = file.relative_to(ROOT).as_posix()
+            if length > LONGER.get((path, name), MOST):
+                print(f"check-lengths: {path}:{line}: {name} has {length} lines", file=sys.stderr)
                 wrong = 1
     return wrong
 

@@ -2,8 +2,8 @@
 """Checks that each recipe of docs/recipes lists every file that such a change touches.
 
 A recipe has a line `Example: ..`, whose words in backticks are the names that an example of its kind has in the code: `Xor`. Every
-file of a crate's src/, specs/ and proofs/ that has one of them as a word, comments aside, has to be listed in the recipe: in
-backticks, as `crates/NAME/src/file.rt`, as `src/file.rt` after a file of the same crate, or by a pattern in which `*` stands for
+file of a crate's src/, specs/ and proofs/ that has one of them as a word, comments and names of modules of lemmas aside, has to be
+listed in the recipe: in backticks, as `crates/NAME/src/file.rt`, as `src/file.rt` after a file of the same crate, or by a pattern in which `*` stands for
 any letters. A listed path without `*` has to be there.
 
 Usage: tools/check-recipes.py, anywhere. Each fault is a line on standard error, and the status is then 1."""
@@ -15,6 +15,7 @@ import sys
 ROOT = pathlib.Path(__file__).resolve().parent.parent
 FOLDERS = ("src", "specs", "proofs")
 COMMENT = {".rt": re.compile(r"//.*"), ".antt": re.compile(r"^\s*--.*")}
+LEMMAS = re.compile(r"\bproofs\.\w+|\bpub mod \w+")
 
 
 def sources():
@@ -31,7 +32,7 @@ def found(names, path, text):
     comment = COMMENT[pathlib.PurePath(path).suffix]
     if any(name in text for name in names):
         for line in text.splitlines():
-            match = word.search(comment.sub("", line))
+            match = word.search(LEMMAS.sub("", comment.sub("", line)))
             if match:
                 return match.group(0)
     return None

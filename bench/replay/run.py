@@ -1,5 +1,6 @@
 #!/usr/bin/env python3
-"""Times `plcv replay`, and `plcv show`, on blocks and traces of a size and of twice that size, and beside C.
+"""Times `plcv replay`, and `plcv show`, on blocks and traces of a size and of twice that size, and beside C; also on n/2 and n fields
+of a data block, outputs of an instance and arguments of a call.
 
 Usage: run.py [n [scans]]: blocks of n and 2n variables (10,000) and traces of so many and twice so many scans (100,000). A block
 has at most 20,000 cells, so n is at most 10,000. The script `plcv` at the top builds the program where it is missing.
@@ -76,6 +77,34 @@ def dense(size):
     """A source of exactly so many bytes with as many tokens as it holds."""
     room = size - len(block(["b"], ["a"], ""))
     return block(["b"], ["a"], "a:=b;" * (room // 5) + " " * (room % 5)), 1
+
+
+def lines_of(n, form):
+    """A line for each of n names, with the next but some."""
+    return "".join(form.format(k, (k * 7919 + 1) % n) for k in range(n))
+
+
+def data_block(n):
+    """A block that assigns each of the n fields of a data block another one."""
+    declared = lines_of(n, "f{0:05} : INT;\n")
+    held = f"DATA_BLOCK d STRUCT\n{declared}END_STRUCT BEGIN END_DATA_BLOCK\n"
+    return held + block(["b"], ["a"], lines_of(n, "d.f{0:05} := d.f{1:05};\n")), 1
+
+
+def instance(n):
+    """A block that reads each of the n outputs of an instance."""
+    declared = lines_of(n, "f{0:05} : BOOL;\n")
+    held = f"FUNCTION_BLOCK Held VAR_OUTPUT\n{declared}END_VAR BEGIN END_FUNCTION_BLOCK\n"
+    own = block(["b"], ["a"], lines_of(n, "a := x.f{1:05};\n")).replace("BEGIN", "VAR x : Held; END_VAR BEGIN")
+    return held + own, 1
+
+
+def call(n):
+    """A block that calls an instance with n arguments."""
+    declared = lines_of(n, "f{0:05} : BOOL;\n")
+    held = f"FUNCTION_BLOCK Held VAR_INPUT\n{declared}END_VAR BEGIN END_FUNCTION_BLOCK\n"
+    given = ",\n".join(f"f{k * 7919 % n:05} := b" for k in range(n))
+    return held + block(["b"], ["a"], f"x({given});\n").replace("BEGIN", "VAR x : Held; END_VAR BEGIN"), 1
 
 
 def parentheses(size):
@@ -188,6 +217,8 @@ def main():
     with tempfile.TemporaryDirectory() as folder:
         place = pathlib.Path(folder)
         pair(place, f"{n} and {2 * n} variables and assignments", [mixed(n), mixed(2 * n)], [10, 10])
+        for make in data_block, instance, call:
+            pair(place, f"{make.__name__}, {n // 2} and {n}", [make(n // 2), make(n)], [1, 1])
         for make in chain, dense, parentheses:
             pair(place, make.__name__, [make(2 * MIB), make(4 * MIB)], [2, 2])
         for name, reads in ("near", lambda k: (k, k + 1, k + 2)), ("far", lambda k: (k * 7919, k * 104729, k * 31)):
