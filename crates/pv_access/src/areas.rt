@@ -7,12 +7,11 @@ ghost use Rattle.pv_access.specs.Accesses as accesses;
 
 use crate::numbers::{added, other_bits, times};
 use pv_flow::{BinaryOp as Two, Node, UnaryOp as One};
-use pv_terms::{converted, push_binary, push_constant, push_unary, push_variable};
+use pv_terms::{TermFault, converted, push_binary, push_constant, push_unary, push_variable};
 use pv_word::Ty;
-use std::alloc::AllocError;
 
 /// So many places lower; none is no operator.
-pub(crate) fn push_right(nodes: &mut Vec<Node>, ty: Ty, n: u32, a: u32) -> Result<u32, AllocError>
+pub(crate) fn push_right(nodes: &mut Vec<Node>, ty: Ty, n: u32, a: u32) -> Result<u32, TermFault>
     ensures { (t : terms.Term) → IsTable nodes.old.items → IsAt nodes.old.items a t
         → IfOk result (λ r. Puts nodes.old.items nodes.new.items r (accesses.right_by ty n t)) }
 {
@@ -23,7 +22,7 @@ pub(crate) fn push_right(nodes: &mut Vec<Node>, ty: Ty, n: u32, a: u32) -> Resul
 }
 
 /// So many places higher; none is no operator.
-fn push_left(nodes: &mut Vec<Node>, ty: Ty, n: u32, a: u32) -> Result<u32, AllocError>
+fn push_left(nodes: &mut Vec<Node>, ty: Ty, n: u32, a: u32) -> Result<u32, TermFault>
     ensures { (t : terms.Term) → IsTable nodes.old.items → IsAt nodes.old.items a t
         → IfOk result (λ r. Puts nodes.old.items nodes.new.items r (accesses.left_by ty n t)) }
 {
@@ -34,7 +33,7 @@ fn push_left(nodes: &mut Vec<Node>, ty: Ty, n: u32, a: u32) -> Result<u32, Alloc
 }
 
 /// A bit of the byte in a variable.
-pub(crate) fn push_bit(nodes: &mut Vec<Node>, n: u32, b: u32) -> Result<u32, AllocError>
+pub(crate) fn push_bit(nodes: &mut Vec<Node>, n: u32, b: u32) -> Result<u32, TermFault>
     ensures { IsTable nodes.old.items
         → IfOk result (λ r. Puts nodes.old.items nodes.new.items r (accesses.bit_term n b)) }
 {
@@ -44,7 +43,7 @@ pub(crate) fn push_bit(nodes: &mut Vec<Node>, n: u32, b: u32) -> Result<u32, All
 }
 
 /// The byte in a variable without this bit.
-fn push_others(nodes: &mut Vec<Node>, n: u32, b: u32) -> Result<u32, AllocError>
+fn push_others(nodes: &mut Vec<Node>, n: u32, b: u32) -> Result<u32, TermFault>
     ensures { IsTable nodes.old.items
         → IfOk result (λ r. Puts nodes.old.items nodes.new.items r (accesses.others_term n b)) }
 {
@@ -55,7 +54,7 @@ fn push_others(nodes: &mut Vec<Node>, n: u32, b: u32) -> Result<u32, AllocError>
 }
 
 /// A BOOL in the place of this bit.
-fn push_placed(nodes: &mut Vec<Node>, b: u32, value: u32) -> Result<u32, AllocError>
+fn push_placed(nodes: &mut Vec<Node>, b: u32, value: u32) -> Result<u32, TermFault>
     ensures { (t : terms.Term) → IsTable nodes.old.items → IsAt nodes.old.items value t
         → IfOk result (λ r. Puts nodes.old.items nodes.new.items r (accesses.left_by Byte b (accesses.wide_bit t))) }
 {
@@ -69,7 +68,7 @@ pub(crate) fn push_with_bit(
     n: u32,
     b: u32,
     value: u32,
-) -> Result<u32, AllocError>
+) -> Result<u32, TermFault>
     ensures { (t : terms.Term) → IsTable nodes.old.items → IsAt nodes.old.items value t
         → IfOk result (λ r. Puts nodes.old.items nodes.new.items r (accesses.with_bit_term n b t)) }
 {
@@ -92,7 +91,7 @@ pub(crate) fn pattern_type(count: u32) -> Ty
 }
 
 /// The byte in a variable, so many bytes from the lowest.
-fn push_byte(nodes: &mut Vec<Node>, ty: Ty, n: u32, k: u32) -> Result<u32, AllocError>
+fn push_byte(nodes: &mut Vec<Node>, ty: Ty, n: u32, k: u32) -> Result<u32, TermFault>
     ensures { IsTable nodes.old.items
         → IfOk result (λ r. Puts nodes.old.items nodes.new.items r (accesses.byte_term ty n k)) }
 {
@@ -109,7 +108,7 @@ fn push_behind(
     n: u32,
     count: u32,
     before: u32,
-) -> Result<u32, AllocError>
+) -> Result<u32, TermFault>
     ensures { (t : terms.Term) → IsTable nodes.old.items → IsAt nodes.old.items before t
         → IfOk result (λ r. Puts nodes.old.items nodes.new.items r (accesses.bytes_behind ty n count t)) }
 {
@@ -123,7 +122,7 @@ fn push_behind(
 }
 
 /// The pattern of so many bytes.
-fn push_pattern(nodes: &mut Vec<Node>, ty: Ty, n: u32, count: u32) -> Result<u32, AllocError>
+fn push_pattern(nodes: &mut Vec<Node>, ty: Ty, n: u32, count: u32) -> Result<u32, TermFault>
     ensures { IsTable nodes.old.items
         → IfOk result (λ r. Puts nodes.old.items nodes.new.items r (accesses.pattern_term ty n count)) }
 {
@@ -141,12 +140,12 @@ pub(crate) fn push_bytes(
     own: Ty,
     n: u32,
     count: u32,
-) -> Result<u32, AllocError>
+) -> Result<u32, TermFault>
     ensures { IsTable nodes.old.items
         → IfOk result (λ r. Puts nodes.old.items nodes.new.items r (accesses.bytes_term own n count)) }
 {
     if count > 4 {
-        return Err(AllocError);
+        return Err(TermFault::TooLarge);
     }
     let ty = pattern_type(count);
     let pattern = push_pattern(nodes, ty, n, count)?;

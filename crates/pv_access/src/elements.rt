@@ -8,9 +8,8 @@ ghost use Rattle.pv_access.specs.Given.{IsMove, AreMoves};
 use crate::access::Move;
 use crate::numbers::{further, index_at, steps_of};
 use pv_flow::Node;
-use pv_terms::{push_is_index, push_select, push_variable};
+use pv_terms::{TermFault, push_is_index, push_select, push_variable};
 use pv_word::Ty;
-use std::alloc::AllocError;
 
 /// Cells of one type, each of so many variables.
 #[derive(Clone, Copy)]
@@ -20,7 +19,7 @@ pub(crate) struct Cells {
 }
 
 /// Whether an index is the k-th from the lowest.
-pub(crate) fn push_is_at(nodes: &mut Vec<Node>, m: &Move, k: u32) -> Result<u32, AllocError>
+pub(crate) fn push_is_at(nodes: &mut Vec<Node>, m: &Move, k: u32) -> Result<u32, TermFault>
     ensures { (first : accesses.Move) → IsTable nodes.old.items → IsMove nodes.old.items m.now first
         → IfOk result (λ n. Puts nodes.old.items nodes.new.items n (accesses.is_at first k)) }
 {
@@ -35,7 +34,7 @@ pub(crate) fn push_element(
     cells: Cells,
     moves: &[Move],
     n: u32,
-) -> Result<u32, AllocError>
+) -> Result<u32, TermFault>
     ensures { (ms : List accesses.Move) → IsTable nodes.old.items → AreMoves nodes.old.items moves.now ms
         → IfOk result (λ r. Puts nodes.old.items nodes.new.items r (accesses.element_term cells.ty cells.width ms n)) }
 {
@@ -53,7 +52,7 @@ fn push_choices(
     m: &Move,
     more: &[Move],
     n: u32,
-) -> Result<u32, AllocError>
+) -> Result<u32, TermFault>
     ensures { (first : accesses.Move) (ms : List accesses.Move) → IsTable nodes.old.items
         → IsMove nodes.old.items m.now first → AreMoves nodes.old.items more.now ms
         → IfOk result (λ r. Puts nodes.old.items nodes.new.items r
@@ -77,7 +76,7 @@ fn push_choice(
     n: u32,
     k: u32,
     before: u32,
-) -> Result<u32, AllocError>
+) -> Result<u32, TermFault>
     ensures { (first : accesses.Move) (ms : List accesses.Move) (t : terms.Term) → IsTable nodes.old.items
         → IsMove nodes.old.items m.now first → AreMoves nodes.old.items more.now ms → IsAt nodes.old.items before t
         → IfOk result (λ r. Puts nodes.old.items nodes.new.items r (terms.select cells.ty (accesses.is_at first k)

@@ -12,9 +12,8 @@ use crate::elements::{Cells, push_element};
 use crate::numbers::added;
 use pv_flow::Node;
 use pv_place::{Place, TrapKind};
-use pv_terms::{push_constant, push_not};
+use pv_terms::{TermFault, push_constant, push_not};
 use pv_word::Ty;
-use std::alloc::AllocError;
 
 /// The term of what is read there at the indexes; a constant is one of type `ty`.
 pub fn push_read(
@@ -22,7 +21,7 @@ pub fn push_read(
     ty: Ty,
     storage: Storage,
     moves: &[Move],
-) -> Result<u32, AllocError>
+) -> Result<u32, TermFault>
     ensures { (ms : List accesses.Move) → IsTable nodes.old.items → AreMoves nodes.old.items moves.now ms
         → IfOk result (λ r. Puts nodes.old.items nodes.new.items r (accesses.read_term ty storage ms)) }
 {
@@ -37,7 +36,7 @@ pub fn push_read(
 }
 
 /// The term of whether the element of a brief cell lacks a value.
-fn push_lacks(nodes: &mut Vec<Node>, moves: &[Move], n: u32) -> Result<u32, AllocError>
+fn push_lacks(nodes: &mut Vec<Node>, moves: &[Move], n: u32) -> Result<u32, TermFault>
     ensures { (ms : List accesses.Move) → IsTable nodes.old.items → AreMoves nodes.old.items moves.now ms
         → IfOk result (λ r. Puts nodes.old.items nodes.new.items r (accesses.lacks_term ms n)) }
 {
@@ -61,7 +60,7 @@ fn check_brief(
     n: u32,
     moves: &[Move],
     place: Place,
-) -> Result<(), AllocError>
+) -> Result<(), TermFault>
     ensures { (ms : List accesses.Move) → IsTable nodes.old.items → AreMoves nodes.old.items moves.now ms
         → OnOk result (Checks nodes.old.items nodes.new.items checks.old.items checks.new.items
         (accesses.unset_check ms n place ∷ [])) }
@@ -82,7 +81,7 @@ pub fn push_unset(
     storage: Storage,
     moves: &[Move],
     place: Place,
-) -> Result<(), AllocError>
+) -> Result<(), TermFault>
     ensures { (ms : List accesses.Move) → IsTable nodes.old.items → AreMoves nodes.old.items moves.now ms
         → OnOk result (Checks nodes.old.items nodes.new.items checks.old.items checks.new.items
         (accesses.unset_checks storage ms place)) }

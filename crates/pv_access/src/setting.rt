@@ -8,16 +8,15 @@ ghost use Rattle.pv_access.specs.Pushed.{AreAt, Sets};
 
 use crate::access::Writing;
 use pv_flow::{Node, Set};
-use pv_terms::{push_constant, push_select, push_variable};
+use pv_terms::{TermFault, push_constant, push_select, push_variable};
 use pv_word::Ty;
-use std::alloc::AllocError;
 
 /// The value that is put, by the number of what was there.
 pub(crate) fn push_value(
     nodes: &mut Vec<Node>,
     writing: Writing,
     old: u32,
-) -> Result<u32, AllocError>
+) -> Result<u32, TermFault>
     ensures { (w : accesses.Writing) (t : terms.Term) → IsTable nodes.old.items → IsWriting nodes.old.items writing w
         → IsAt nodes.old.items old t → IfOk result (λ r. Puts nodes.old.items nodes.new.items r (w.value t)) }
 {
@@ -28,7 +27,7 @@ pub(crate) fn push_value(
 }
 
 /// Yes where the condition is true, and else what was there.
-fn push_yes_where(nodes: &mut Vec<Node>, on: u32, old: u32) -> Result<u32, AllocError>
+fn push_yes_where(nodes: &mut Vec<Node>, on: u32, old: u32) -> Result<u32, TermFault>
     ensures { (s t : terms.Term) → IsTable nodes.old.items → IsAt nodes.old.items on s → IsAt nodes.old.items old t
         → IfOk result (λ r. Puts nodes.old.items nodes.new.items r (accesses.yes_where s t)) }
 {
@@ -37,7 +36,7 @@ fn push_yes_where(nodes: &mut Vec<Node>, on: u32, old: u32) -> Result<u32, Alloc
 }
 
 /// Whether there is a value then, by the number of whether there was one.
-fn push_present(nodes: &mut Vec<Node>, writing: Writing, old: u32) -> Result<u32, AllocError>
+fn push_present(nodes: &mut Vec<Node>, writing: Writing, old: u32) -> Result<u32, TermFault>
     ensures { (w : accesses.Writing) (t : terms.Term) → IsTable nodes.old.items → IsWriting nodes.old.items writing w
         → IsAt nodes.old.items old t → IfOk result (λ r. Puts nodes.old.items nodes.new.items r (w.present t)) }
 {
@@ -54,7 +53,7 @@ fn push_where_all(
     conditions: &[u32],
     new: u32,
     old: u32,
-) -> Result<u32, AllocError>
+) -> Result<u32, TermFault>
     ensures { (cs : List terms.Term) (s t : terms.Term) → IsTable nodes.old.items
         → AreAt nodes.old.items conditions.now cs → IsAt nodes.old.items new s → IsAt nodes.old.items old t
         → IfOk result (λ r. Puts nodes.old.items nodes.new.items r (accesses.where_all ty cs s t)) }
@@ -75,7 +74,7 @@ fn push_new_value(
     conditions: &[u32],
     variable: u32,
     writing: Writing,
-) -> Result<u32, AllocError>
+) -> Result<u32, TermFault>
     ensures { (w : accesses.Writing) (cs : List terms.Term) → IsTable nodes.old.items
         → IsWriting nodes.old.items writing w → AreAt nodes.old.items conditions.now cs
         → IfOk result (λ r. Puts nodes.old.items nodes.new.items r (accesses.new_value ty cs variable w)) }
@@ -91,7 +90,7 @@ fn push_new_present(
     conditions: &[u32],
     variable: u32,
     writing: Writing,
-) -> Result<u32, AllocError>
+) -> Result<u32, TermFault>
     ensures { (w : accesses.Writing) (cs : List terms.Term) → IsTable nodes.old.items
         → IsWriting nodes.old.items writing w → AreAt nodes.old.items conditions.now cs
         → IfOk result (λ r. Puts nodes.old.items nodes.new.items r (accesses.new_present cs variable w)) }
@@ -107,7 +106,7 @@ pub(crate) fn push_set(
     sets: &mut Vec<Set>,
     variable: u32,
     value: u32,
-) -> Result<(), AllocError>
+) -> Result<(), TermFault>
     ensures { (t : terms.Term) → IsTable nodes.now.items → IsAt nodes.now.items value t
         → OnOk result (Sets nodes.now.items nodes.now.items sets.old.items sets.new.items
         (accesses.set_of variable t ∷ [])) }
@@ -124,7 +123,7 @@ pub(crate) fn set_value(
     conditions: &[u32],
     variable: u32,
     writing: Writing,
-) -> Result<(), AllocError>
+) -> Result<(), TermFault>
     ensures { (w : accesses.Writing) (cs : List terms.Term) → IsTable nodes.old.items
         → IsWriting nodes.old.items writing w → AreAt nodes.old.items conditions.now cs
         → OnOk result (Sets nodes.old.items nodes.new.items sets.old.items sets.new.items
@@ -141,7 +140,7 @@ pub(crate) fn set_present(
     conditions: &[u32],
     variable: u32,
     writing: Writing,
-) -> Result<(), AllocError>
+) -> Result<(), TermFault>
     ensures { (w : accesses.Writing) (cs : List terms.Term) → IsTable nodes.old.items
         → IsWriting nodes.old.items writing w → AreAt nodes.old.items conditions.now cs
         → OnOk result (Sets nodes.old.items nodes.new.items sets.old.items sets.new.items

@@ -12,9 +12,9 @@ use crate::elements::push_is_at;
 use crate::numbers::{added, further, steps_of, times};
 use crate::setting::{push_set, push_value, set_present, set_value};
 use pv_flow::{Node, Set};
-use pv_terms::converted;
+use pv_terms::{TermFault, converted};
 use pv_word::Ty;
-use std::alloc::{AllocError, Global};
+use std::alloc::Global;
 
 /// A write to cells of one type, with their 'sets' if they are brief.
 #[derive(Clone, Copy)]
@@ -38,7 +38,7 @@ fn set_cell(
     conditions: &[u32],
     target: Target,
     n: u32,
-) -> Result<(), AllocError>
+) -> Result<(), TermFault>
     ensures { (w : accesses.Writing) (cs : List terms.Term) → IsTable nodes.old.items
         → IsWriting nodes.old.items target.writing w → AreAt nodes.old.items conditions.now cs
         → OnOk result (Sets nodes.old.items nodes.new.items sets.old.items sets.new.items
@@ -61,7 +61,7 @@ fn set_elements(
     target: Target,
     moves: &[Move],
     n: u32,
-) -> Result<(), AllocError>
+) -> Result<(), TermFault>
     ensures same { OnOk result (conditions.new.items ≡ conditions.old.items) }
     ensures sets { (w : accesses.Writing) (cs : List terms.Term) (ms : List accesses.Move) → IsTable nodes.old.items
         → IsWriting nodes.old.items target.writing w → AreAt nodes.old.items conditions.old.items cs
@@ -85,7 +85,7 @@ fn set_each(
     m: &Move,
     more: &[Move],
     n: u32,
-) -> Result<(), AllocError>
+) -> Result<(), TermFault>
     ensures same { OnOk result (conditions.new.items ≡ conditions.old.items) }
     ensures sets { (w : accesses.Writing) (cs : List terms.Term) (first : accesses.Move) (ms : List accesses.Move)
         → IsTable nodes.old.items → IsWriting nodes.old.items target.writing w
@@ -113,7 +113,7 @@ fn set_element(
     more: &[Move],
     n: u32,
     k: u32,
-) -> Result<(), AllocError>
+) -> Result<(), TermFault>
     ensures same { OnOk result (conditions.new.items ≡ conditions.old.items) }
     ensures sets { (w : accesses.Writing) (cs : List terms.Term) (first : accesses.Move) (ms : List accesses.Move)
         → IsTable nodes.old.items → IsWriting nodes.old.items target.writing w
@@ -138,7 +138,7 @@ fn set_bit(
     n: u32,
     b: u32,
     writing: Writing,
-) -> Result<(), AllocError>
+) -> Result<(), TermFault>
     ensures { (w : accesses.Writing) → IsTable nodes.old.items → IsWriting nodes.old.items writing w
         → OnOk result (Sets nodes.old.items nodes.new.items sets.old.items sets.new.items
         (accesses.set_of n (accesses.with_bit_term n b (w.value (accesses.bit_term n b))) ∷ [])) }
@@ -157,7 +157,7 @@ fn set_byte(
     n: u32,
     k: u32,
     pattern: u32,
-) -> Result<(), AllocError>
+) -> Result<(), TermFault>
     ensures { (t : terms.Term) → IsTable nodes.old.items → IsAt nodes.old.items pattern t
         → OnOk result (Sets nodes.old.items nodes.new.items sets.old.items sets.new.items
         (accesses.byte_set ty n k t ∷ [])) }
@@ -176,7 +176,7 @@ fn set_pattern(
     n: u32,
     count: u32,
     pattern: u32,
-) -> Result<(), AllocError>
+) -> Result<(), TermFault>
     ensures { (t : terms.Term) → IsTable nodes.old.items → IsAt nodes.old.items pattern t
         → OnOk result (Sets nodes.old.items nodes.new.items sets.old.items sets.new.items
         (accesses.pattern_sets ty n count t)) }
@@ -197,7 +197,7 @@ fn set_bytes(
     n: u32,
     count: u32,
     writing: Writing,
-) -> Result<(), AllocError>
+) -> Result<(), TermFault>
     ensures { (w : accesses.Writing) → IsTable nodes.old.items → IsWriting nodes.old.items writing w
         → OnOk result (Sets nodes.old.items nodes.new.items sets.old.items sets.new.items
         (accesses.byte_sets own n count (w.value (accesses.bytes_term own n count)))) }
@@ -217,7 +217,7 @@ fn set_cells(
     target: Target,
     moves: &[Move],
     n: u32,
-) -> Result<(), AllocError>
+) -> Result<(), TermFault>
     ensures { (w : accesses.Writing) (ms : List accesses.Move) → IsTable nodes.old.items
         → IsWriting nodes.old.items target.writing w → AreMoves nodes.old.items moves.now ms
         → OnOk result (Sets nodes.old.items nodes.new.items sets.old.items sets.new.items
@@ -235,7 +235,7 @@ pub fn push_write(
     storage: Storage,
     moves: &[Move],
     writing: Writing,
-) -> Result<(), AllocError>
+) -> Result<(), TermFault>
     ensures { (w : accesses.Writing) (ms : List accesses.Move) → IsTable nodes.old.items
         → IsWriting nodes.old.items writing w → AreMoves nodes.old.items moves.now ms
         → OnOk result (Sets nodes.old.items nodes.new.items sets.old.items sets.new.items

@@ -1,9 +1,12 @@
 -- What the code's case and project are of, where they are of the form; and that a stop at no file leaves the count of failed reads.
-use Rattle.std.proofs.Common.{◌≡◌, ◌≢◌, ◌↔◌, ◌≤◌, ℕ, List, [], ◌∷◌, length, map, Option, Some, None, is_some, Result, Ok, Err, IfSome, MatchResult, true≢false, refl, sym, ap, subst, ◌∙◌, arith}
+use Rattle.std.proofs.Common.{◌≡◌, ◌≢◌, ◌↔◌, ◌<◌, ◌≤◌, ℕ, List, [], ◌∷◌, length, map, Option, Some, None, is_some, Result, Ok, Err, IfSome, MatchResult, true≢false, refl, sym, ap, subst, ◌∙◌, arith}
 use Rattle.std.specs.Prelude.{IsSome, IfNone}
 use Rattle.std.specs.Result.{IsErrAnd}
 use Rattle.std.proofs.lemmas.List.{length-map}
 use Rattle.pv_edge.specs.Files.{FileMap}
+use Rattle.pv_tree.specs.declared.kept.Project.{Project}
+use Rattle.pv_tree.specs.Scopes.{ProjectTree}
+use Rattle.pv_tree.specs.View.{block_tree}
 use Rattle.pv_case.specs.declared.case.TheConstants.{MAX_SOURCES}
 use Rattle.pv_case.specs.declared.case.Case.{Case}
 use Rattle.pv_case.specs.declared.case.Symbol.{Symbol}
@@ -14,6 +17,7 @@ use Rattle.pv_command_load.specs.Held.{Counts, IsUnread}
 use Rattle.pv_command_load.specs.Subjects.{Given, blocks_of}
 use Rattle.pv_command_load.specs.Reads.{HoldsCase}
 use Rattle.pv_command_load.specs.Stops.{StopsSource}
+use Rattle.pv_command_load.specs.Made.{IsProjectOf}
 use Rattle.pv_command_load.proofs.ForCallers.{none_unread, subject_other}
 use Rattle.pv_bool_load.specs.declared.stop.FirstStop.{FirstStop}
 use Rattle.pv_bool_load.specs.declared.stop.FirstStop.TheVariants as first_stop
@@ -54,6 +58,13 @@ pub few_sources : (case : Case) → IsFirstCase (data_of case) → length case.s
 few_sources case is =
     let count = sym (length-map case.sources.items source_data) ∙ ap length is.source.only in
     omega (arith, count)
+
+pub few_alone : (given : Given) (project : Project) → IsProjectOf given project × IsFirstAlone (blocks_of given)
+    → length project.blocks.list.items < 4294967296
+few_alone given project is =
+    let same = sym (length-map project.blocks.list.items block_tree) ∙ ap (λ (p : ProjectTree). length p.blocks) is.0.same
+    ∙ ap length is.1.only in
+    omega (arith, same)
 
 pub are_first : (given : Given) → IsFirstCase given.case → IsFirstAlone (blocks_of given) → AreFirst given
 are_first given case project = record { case = case; project = project }

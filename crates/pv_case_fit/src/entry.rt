@@ -1,5 +1,5 @@
 //! The block that a case's entry names.
-ghost use Rattle.std.specs.Prelude.{◌≡◌, ℕ, map, IfOk, IfErr, IfSome, IfNone};
+ghost use Rattle.std.specs.Prelude.{◌≡◌, ℕ, ◌^◌, ◌<◌, length, map, IfOk, IfErr, IfSome, IfNone};
 ghost use Rattle.pv_types.specs.declared.name.Name.{Name as A_name};
 ghost use Rattle.pv_lex.specs.Tokens.{AreTokens};
 ghost use Rattle.pv_lex.specs.declared.token.Language.TheVariants.{Scl as In_scl};
@@ -17,10 +17,12 @@ use pv_types::Name;
 use std::alloc::{AllocError, Global};
 
 /// The number of the block that the text names: the first function block or organization block of this name. The text is a name
-/// as SCL spells one, a numbered or a quoted one too, with blanks and comments around it or not.
+/// as SCL spells one, a numbered or a quoted one too, with blanks and comments around it or not. The sources of a case have
+/// fewer than 2^32 blocks together, as they have fewer bytes.
 ///
 /// `NoEntry` exactly where there is none.
 pub fn entry_of(alloc: Global, blocks: &Blocks, text: &str) -> Result<u32, EntryFault>
+    requires few { length blocks.now.list.items < 2 ^ 32 }
     ensures found { IfOk result (λ n. IsEntry (map block_tree blocks.now.list.items) text.now n) }
     ensures none { IfErr result (λ fault. fault ≡ Is_no_entry → (n : ℕ)
         → IsEntry (map block_tree blocks.now.list.items) text.now n → ⊥) }
@@ -28,27 +30,23 @@ pub fn entry_of(alloc: Global, blocks: &Blocks, text: &str) -> Result<u32, Entry
     let Some(name) = name_in(alloc, text)? else {
         return Err(EntryFault::NoEntry);
     };
-    match number_of(blocks.list.as_slice(), &name)? {
+    match number_of(blocks.list.as_slice(), &name) {
         Some(n) => Ok(n),
         None => Err(EntryFault::NoEntry),
     }
 }
 
 /// The number of the first block of this name that may be entered.
-fn number_of(blocks: &[Block], name: &Name) -> Result<Option<u32>, AllocError>
-    ensures { IfOk result (λ n. n ≡ number_of_entry (map block_tree blocks.now) name.now.key) }
+fn number_of(blocks: &[Block], name: &Name) -> Option<u32>
+    requires few { length blocks.now < 2 ^ 32 }
+    ensures { result ≡ number_of_entry (map block_tree blocks.now) name.now.key }
 {
-    let mut n: u32 = 0;
-    for block in blocks {
+    for (n, block) in blocks.iter().enumerate() {
         if may_enter(block, name) {
-            return Ok(Some(n));
+            return Some(n as u32);
         }
-        let Some(next) = n.checked_add(1) else {
-            return Err(AllocError);
-        };
-        n = next;
     }
-    Ok(None)
+    None
 }
 
 fn may_enter(block: &Block, name: &Name) -> bool

@@ -12,6 +12,7 @@ pub mod SubjectLaws
 pub mod Unread
 mod AsciiLaws
 mod SourceLaws
+mod FewBlocks
 mod Gathering
 mod CaseLaws
 pub mod OneCase

@@ -1,5 +1,5 @@
 //! The fourth stage of a command: the block that its case enters, and the cells.
-ghost use Rattle.std.specs.Prelude.{◌≡◌, ◌≤◌, length, Some, All, IfOk, IfErr, string_bytes};
+ghost use Rattle.std.specs.Prelude.{◌≡◌, ◌^◌, ◌<◌, ◌≤◌, length, Some, All, IfOk, IfErr, string_bytes};
 ghost use Rattle.pv_lex.specs.declared.lex.TheConstants.{MAX_SOURCE};
 ghost use Rattle.pv_command_load.specs.Refusals.{table_status, table_line};
 ghost use Rattle.pv_command_load.specs.Subjects.{Given, Entered};
@@ -93,7 +93,8 @@ impl TableStop {
 /// The number of the block that the case enters, and the table of the project there. The bytes that the texts of the requirement name have
 /// cells, of those texts that read.
 pub fn table_of(alloc: Global, case: &Case, project: &Project) -> Result<(u32, Table), TableStop>
-    requires { All (λ t. length (string_bytes t) ≤ MAX_SOURCE) case.now.pattern.expressions.items }
+    requires short { All (λ t. length (string_bytes t) ≤ MAX_SOURCE) case.now.pattern.expressions.items }
+    requires few { length project.now.blocks.list.items < 2 ^ 32 }
     ensures found { (given : Given) → IsCase case.now given.case → IsProjectOf given project.now
         → IfOk result (λ made. (entered : Entered) × IsTableOf given entered made.0 made.1) }
     ensures stopped { (given : Given) → IsCase case.now given.case → IsProjectOf given project.now

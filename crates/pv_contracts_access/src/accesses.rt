@@ -8,8 +8,9 @@ ghost use Rattle.pv_access.specs.Pushed.{Checks, Sets};
 use pv_access::{Check, Move, Storage, Writing};
 use pv_flow::{Node, Set};
 use pv_place::Place;
+use pv_terms::TermFault;
 use pv_word::Ty;
-use std::alloc::{AllocError, Global};
+use std::alloc::Global;
 
 /// [`pv_access::push_read`].
 pub fn push_read(
@@ -17,7 +18,7 @@ pub fn push_read(
     ty: Ty,
     storage: Storage,
     moves: &[Move],
-) -> Result<u32, AllocError>
+) -> Result<u32, TermFault>
     ensures { (ms : List accesses.Move) → IsTable nodes.old.items → AreMoves nodes.old.items moves.now ms
         → IfOk result (λ r. Puts nodes.old.items nodes.new.items r (accesses.read_term ty storage ms)) }
 {
@@ -31,7 +32,7 @@ pub fn push_unset(
     storage: Storage,
     moves: &[Move],
     place: Place,
-) -> Result<(), AllocError>
+) -> Result<(), TermFault>
     ensures { (ms : List accesses.Move) → IsTable nodes.old.items → AreMoves nodes.old.items moves.now ms
         → OnOk result (Checks nodes.old.items nodes.new.items checks.old.items checks.new.items
         (accesses.unset_checks storage ms place)) }
@@ -47,7 +48,7 @@ pub fn push_write(
     storage: Storage,
     moves: &[Move],
     writing: Writing,
-) -> Result<(), AllocError>
+) -> Result<(), TermFault>
     ensures { (w : accesses.Writing) (ms : List accesses.Move) → IsTable nodes.old.items
         → IsWriting nodes.old.items writing w → AreMoves nodes.old.items moves.now ms
         → OnOk result (Sets nodes.old.items nodes.new.items sets.old.items sets.new.items

@@ -1,5 +1,5 @@
 //! Calls of pv_case_fit.
-ghost use Rattle.std.specs.Prelude.{◌≡◌, ◌≤◌, ◌<◌, ℕ, length, map, string_bytes, All, IfOk, IfErr, String as A_string};
+ghost use Rattle.std.specs.Prelude.{◌≡◌, ◌^◌, ◌≤◌, ◌<◌, ℕ, length, map, string_bytes, All, IfOk, IfErr, String as A_string};
 ghost use Rattle.std.specs.declared.alloc.Global.{Global as The_heap};
 ghost use Rattle.pv_types.specs.declared.layout.TheConstants.{MAX_LEAVES};
 ghost use Rattle.pv_tree.specs.View.{block_tree};
@@ -17,6 +17,7 @@ use std::alloc::Global;
 
 /// [`pv_case_fit::entry_of`].
 pub fn entry_of(alloc: Global, blocks: &Blocks, text: &str) -> Result<u32, EntryFault>
+    requires few { length blocks.now.list.items < 2 ^ 32 }
     ensures found { IfOk result (λ n. IsEntry (map block_tree blocks.now.list.items) text.now n) }
     ensures none { IfErr result (λ fault. fault ≡ Is_no_entry → (n : ℕ)
         → IsEntry (map block_tree blocks.now.list.items) text.now n → ⊥) }

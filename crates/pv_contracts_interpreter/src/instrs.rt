@@ -11,7 +11,7 @@ ghost use Rattle.pv_stl_run.specs.Code.{GoesBy, IsAction, MayDo, next_of, opened
 ghost use Rattle.pv_stl_run.specs.Going.{AreInstrs, Fell, Gone, HasRanges, Nested, UpToCall, UpToMost, Went, WhereOn, begun, entered_of, left_of, most_behind, most_in, most_left, nested_at, ranges_in, resumed};
 ghost use Rattle.pv_stl_run.specs.Views.{frame_in, registers_of};
 ghost use Rattle.pv_tree.specs.Tree.{BlockTree, InstrTree};
-ghost use Rattle.std.specs.Prelude.{IfOk, IsOk, List, drop, length, suc, ℕ, ◌+◌, ◌<◌, ◌^◌, ◌≡◌, ◌≤◌};
+ghost use Rattle.std.specs.Prelude.{IfOk, IsOk, List, drop, length, suc, ℕ, ◌+◌, ◌≡◌, ◌≤◌};
 
 use pv_eval::{Target, Trap};
 use pv_stl_run::{Going, Instr, Next, Registers, Stop, Turn};
@@ -21,7 +21,7 @@ use pv_word::Ty;
 pub fn begin(code: &[Instr], bound: u32, turns: &mut [Turn]) -> Result<Going, Stop>
     ensures same { (source : Source) (calls : Calls) (act : Activation) (all : List InstrTree)
         (w : Working)
-        → source.bound ≡ bound → HasRanges code.now all → length code.now < 2 ^ 32
+        → source.bound ≡ bound → HasRanges code.now all
         → ranges_in code.now ≤ length turns.old
         → begun source calls act all w result turns.new
         ≡ run_instructions source calls act all here w }
@@ -42,7 +42,7 @@ pub fn behind_call(
     requires { going.old.entered ≤ length turns.old }
     ensures same { (source : Source) (calls : Calls) (act : Activation) (all : List InstrTree)
         (w : Working)
-        → source.bound ≡ bound → HasRanges code.now all → length code.now < 2 ^ 32
+        → source.bound ≡ bound → HasRanges code.now all
         → Nested code.now turns.old going.old.entered (suc going.old.at)
         → ranges_in code.now ≤ length turns.old
         → Went result
@@ -72,7 +72,7 @@ pub fn go(
     visible: &mut [i64],
     own: &mut [Option<i64>],
     scratch: &mut [i64],
-) -> Result<Option<u32>, Stop>
+) -> Result<Option<usize>, Stop>
     requires { going.old.entered ≤ length turns.old }
     ensures same { (source : Source) (calls : Calls) (block : BlockTree) (room : ℕ)
         (all : List InstrTree) → source.bound ≡ bound → TypesOf source types.now

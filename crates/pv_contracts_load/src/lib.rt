@@ -21,7 +21,7 @@ ghost use Rattle.pv_pattern.specs.Patterns.{Pattern as Said};
 ghost use Rattle.pv_pattern_read.specs.Kinds.{count_of};
 ghost use Rattle.pv_pattern_read.specs.Readable.{HasSource};
 ghost use Rattle.pv_tree.specs.View.{block_trees};
-ghost use Rattle.std.specs.Prelude.{All, IfErr, IfOk, MatchResult, length, map, string_bytes, ◌≡◌, ◌≤◌};
+ghost use Rattle.std.specs.Prelude.{All, IfErr, IfOk, MatchResult, length, map, string_bytes, ◌≡◌, ◌^◌, ◌<◌, ◌≤◌};
 
 use pv_case::{Case, MAX_SOURCES, Symbol};
 use pv_cells::Table;
@@ -117,7 +117,8 @@ pub fn project_of(
 
 /// [`pv_command_load::table_of`].
 pub fn table_of(alloc: Global, case: &Case, project: &Project) -> Result<(u32, Table), TableStop>
-    requires { All (λ t. length (string_bytes t) ≤ MAX_SOURCE) case.now.pattern.expressions.items }
+    requires short { All (λ t. length (string_bytes t) ≤ MAX_SOURCE) case.now.pattern.expressions.items }
+    requires few { length project.now.blocks.list.items < 2 ^ 32 }
     ensures found { (given : Given) → IsCase case.now given.case → IsProjectOf given project.now
         → IfOk result (λ made. (entered : Entered) × IsTableOf given entered made.0 made.1) }
     ensures stopped { (given : Given) → IsCase case.now given.case → IsProjectOf given project.now

@@ -1,20 +1,14 @@
 //! Calls of pv_parse.
-ghost use Rattle.std.specs.Prelude.{◌≡◌, ◌∷◌, [], List, false, Ok, Err, IfSome, IfNone, IsTrue, Contains, MatchResult};
+ghost use Rattle.std.specs.Prelude.{◌≡◌, [], ℕ, List, Ok, Err, IfSome, IfNone, Contains, MatchResult};
 ghost use Rattle.pv_tree.specs.Lexemes.{lexeme_of, lexemes_of};
 ghost use Rattle.pv_tree.specs.Outside.{IsFirstOutside, IsWithin};
 ghost use Rattle.pv_tree.specs.Nesting.{most_levels};
-ghost use Rattle.pv_ll.specs.declared.table.Symbol.TheVariants as symbol;
-ghost use Rattle.pv_ll.specs.Grammar.{Leftmost};
-ghost use Rattle.pv_ll.specs.Table.{grammar_of};
-ghost use Rattle.pv_ll.specs.Check.{is_ll1};
-ghost use Rattle.pv_ll.specs.Making.{Runs};
-ghost use Rattle.pv_parse.specs.Kinds.{kinds_of};
-ghost use Rattle.pv_parse.specs.Deeds.{kinded};
 ghost use Rattle.pv_parse.specs.Shades.{Shade, place_at};
 ghost use Rattle.pv_parse.specs.ItemShades.{shade_making};
-ghost use Rattle.pv_parse.specs.Building.{Built};
+ghost use Rattle.pv_parse.specs.Building.{Plays, Built};
 
 use pv_lex::{Language, Place, Token};
+use pv_ll::Turn;
 use pv_parse::{Action, Stop};
 use std::alloc::Global;
 
@@ -30,21 +24,15 @@ pub fn first_outside(language: Language, text: &[u8], tokens: &[Token]) -> Optio
 /// [`pv_parse::find_too_deep`].
 pub fn find_too_deep(
     alloc: Global,
-    language: &pv_ll::Language,
     actions: &[Action],
-    trace: &[u16],
-    text: &[u8],
+    turns: &[Turn],
     tokens: &[Token],
 ) -> Result<Option<Place>, Stop>
-    requires { IsTrue (is_ll1 language.now) }
-    ensures { (behind : List Shade)
-        → Leftmost (grammar_of language.now) trace.now (symbol.Name language.now.start ∷ [])
-        (kinds_of false (lexemes_of text.now tokens.now))
-        → Runs (grammar_of language.now) (shade_making actions.now) (symbol.Name language.now.start ∷ [])
-        (kinded false (lexemes_of text.now tokens.now)) [] behind
+    ensures { (text : List ℕ) (behind : List Shade)
+        → Plays (shade_making actions.now) turns.now (lexemes_of text tokens.now) [] behind
         → Built (λ place. place) result (place_at most_levels behind) }
 {
-    pv_parse::find_too_deep(alloc, language, actions, trace, text, tokens)
+    pv_parse::find_too_deep(alloc, actions, turns, tokens)
 }
 
 /// [`pv_parse::with`].

@@ -6,13 +6,12 @@ ghost use Rattle.pv_terms.specs.Given.{AreGiven};
 ghost use Rattle.pv_terms.specs.Pushed.{IsTable, IsAt, Puts};
 
 use pv_flow::Node;
-use pv_terms::Given;
+use pv_terms::{Given, TermFault};
 use pv_tree::{BinaryOp, StdFunction, UnaryOp};
 use pv_word::Ty;
-use std::alloc::AllocError;
 
 /// [`pv_terms::converted`].
-pub fn converted(nodes: &mut Vec<Node>, from: Ty, to: Ty, a: u32) -> Result<u32, AllocError>
+pub fn converted(nodes: &mut Vec<Node>, from: Ty, to: Ty, a: u32) -> Result<u32, TermFault>
     ensures { (t : terms.Term) → IsTable nodes.old.items → IsAt nodes.old.items a t
         → IfOk result (λ n. Puts nodes.old.items nodes.new.items n (forms.converted from to t)) }
 {
@@ -20,7 +19,7 @@ pub fn converted(nodes: &mut Vec<Node>, from: Ty, to: Ty, a: u32) -> Result<u32,
 }
 
 /// [`pv_terms::push_operator`].
-pub fn push_operator(nodes: &mut Vec<Node>, op: UnaryOp, ty: Ty, a: u32) -> Result<u32, AllocError>
+pub fn push_operator(nodes: &mut Vec<Node>, op: UnaryOp, ty: Ty, a: u32) -> Result<u32, TermFault>
     ensures { (t : terms.Term) → IsTable nodes.old.items → IsAt nodes.old.items a t
         → IfOk result (λ n. Puts nodes.old.items nodes.new.items n (forms.unary_term op ty t)) }
 {
@@ -28,7 +27,7 @@ pub fn push_operator(nodes: &mut Vec<Node>, op: UnaryOp, ty: Ty, a: u32) -> Resu
 }
 
 /// [`pv_terms::push_less`].
-pub fn push_less(nodes: &mut Vec<Node>, a: u32, b: u32) -> Result<u32, AllocError>
+pub fn push_less(nodes: &mut Vec<Node>, a: u32, b: u32) -> Result<u32, TermFault>
     ensures { (s t : terms.Term) → IsTable nodes.old.items → IsAt nodes.old.items a s → IsAt nodes.old.items b t
         → IfOk result (λ n. Puts nodes.old.items nodes.new.items n (forms.less_term s t)) }
 {
@@ -42,7 +41,7 @@ pub fn push_between(
     ty: Ty,
     a: u32,
     b: u32,
-) -> Result<u32, AllocError>
+) -> Result<u32, TermFault>
     ensures { (s t : terms.Term) → IsTable nodes.old.items → IsAt nodes.old.items a s → IsAt nodes.old.items b t
         → IfOk result (λ n. Puts nodes.old.items nodes.new.items n (forms.binary_term op ty s t)) }
 {
@@ -50,7 +49,7 @@ pub fn push_between(
 }
 
 /// [`pv_terms::push_is_index`].
-pub fn push_is_index(nodes: &mut Vec<Node>, a: u32, v: i128) -> Result<u32, AllocError>
+pub fn push_is_index(nodes: &mut Vec<Node>, a: u32, v: i128) -> Result<u32, TermFault>
     ensures { (t : terms.Term) → IsTable nodes.old.items → IsAt nodes.old.items a t
         → IfOk result (λ n. Puts nodes.old.items nodes.new.items n (forms.is_index_term t v)) }
 {
@@ -58,7 +57,7 @@ pub fn push_is_index(nodes: &mut Vec<Node>, a: u32, v: i128) -> Result<u32, Allo
 }
 
 /// [`pv_terms::push_outside`].
-pub fn push_outside(nodes: &mut Vec<Node>, a: u32, low: i128, high: i128) -> Result<u32, AllocError>
+pub fn push_outside(nodes: &mut Vec<Node>, a: u32, low: i128, high: i128) -> Result<u32, TermFault>
     ensures { (t : terms.Term) → IsTable nodes.old.items → IsAt nodes.old.items a t
         → IfOk result (λ n. Puts nodes.old.items nodes.new.items n (forms.outside_term t low high)) }
 {
@@ -72,7 +71,7 @@ pub fn push_function(
     ty: Ty,
     count: u32,
     args: &[Given],
-) -> Result<u32, AllocError>
+) -> Result<u32, TermFault>
     ensures { (ts : List forms.Typed) → IsTable nodes.old.items → AreGiven nodes.old.items args.now ts
         → IfOk result (λ n. Puts nodes.old.items nodes.new.items n (forms.function_term function ty count ts)) }
 {

@@ -2,6 +2,7 @@ pub mod Answering
 pub mod Compares
 pub mod Empties
 pub mod Finds
+pub mod Full
 pub mod Refusals
 pub mod Queries
 pub mod Ranged

@@ -1,5 +1,6 @@
 //! Logs of lemmas, for which a limit was spent.
-ghost use Rattle.std.specs.Prelude.{◌≡◌, ℕ, ◌^◌, ◌<◌, suc, Some, IfOk, IfErr};
+ghost use Rattle.std.specs.Prelude.{◌≡◌, ℕ, ◌^◌, ◌<◌, suc, Option, Some, length, IfOk, IfErr};
+ghost use Rattle.pv_log.specs.declared.line.Line.{Line};
 ghost use Rattle.pv_valid.specs.Walk.{lines_fault, wrong_lemma, budget_fault, need_fault, is_same};
 ghost use Rattle.pv_judge.specs.Steps.{Finds, first_empty, is_not_new, refused_in, first_wrong, placed, is_in_log};
 
@@ -131,6 +132,19 @@ fn is_in_log(wrong: Option<(u32, Kind)>, lines: u32) -> bool
     }
 }
 
+/// A log of so many lines that ids can't count one more: something is wrong with one of its lines, and what comes next doesn't matter.
+/// Its number of lines stands in this line.
+fn spend_full(alloc: Global, formula: &Formula, at: u64, log: &Log) -> Result<(), Fault>
+    requires few { formula.now.variables < 2 ^ 31 }
+    requires line { at < 2 ^ 62 }
+    requires full { length log.now ≡ 4294967295 }
+    ensures { (limit need : ℕ) (next : Option Line) → Finds (need_fault limit need next formula.now at log.now) result }
+{
+    let wrong = wrong_lemma(alloc, formula, log)?;
+    let _last = log.id(log.lines());
+    placed(at, wrong)
+}
+
 /// A log of lemmas with the words that were needed after it, and the lemma that comes next, if there is one. The log's number of lines
 /// stands in this line.
 pub(crate) fn spend_words(
@@ -147,7 +161,7 @@ pub(crate) fn spend_words(
     ensures { Finds (need_fault limit need next.now formula.now at log.now) result }
 {
     let Some(lemmas) = Joined::make(log, next) else {
-        return Err(Fault::NoMemory);
+        return spend_full(alloc, formula, at, log);
     };
     let wrong = wrong_lemma(alloc, formula, &lemmas)?;
     let own = log.lines();

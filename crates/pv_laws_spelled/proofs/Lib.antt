@@ -1,4 +1,5 @@
 mod Widths
 mod Functions
 mod Instructions
+mod Few
 pub mod ForCallers

@@ -1,5 +1,5 @@
 //! What each tree has that tokens spell.
-ghost use Rattle.std.specs.Prelude.{List, Contains};
+ghost use Rattle.std.specs.Prelude.{ℕ, ◌≤◌, List, length, Contains};
 ghost use Rattle.std.specs.List.{AllByRecursion};
 ghost use Rattle.pv_lex.specs.declared.token.Language.{Language};
 ghost use Rattle.pv_tree.specs.Tree.{ExprTree, OperandTree, InstrTree, BlockTree};
@@ -11,7 +11,7 @@ ghost use Rattle.pv_tree.specs.LiteralTypes.{nothing};
 ghost use Rattle.pv_tree.specs.Instructions.{SpellsInstr};
 ghost use Rattle.pv_tree.specs.Parts.{parts_of, reads_of_parts, instructions_of};
 ghost use Rattle.pv_laws_types.specs.Typed.{ValuesAreFunctions};
-ghost use Rattle.pv_laws_places.specs.Sources.{SourceRead, AreOfTexts, project_of};
+ghost use Rattle.pv_laws_places.specs.Sources.{SourceRead, IsOfText, AreOfTexts, project_of};
 ghost use Rattle.pv_laws_room.specs.Reached.{IsShortOperand, AreShort};
 
 /// Each address that tokens spell is one of a bit, a byte, a word or a double word: each of a block, of the blocks of sources, and each
@@ -42,4 +42,10 @@ pub fn instructions_are_spelled()
         → AreOfTexts 0 sources → Contains (project_of sources symbols).blocks block
         → (i : InstrTree) → Contains (instructions_of block.body) i
         → (ts : List Lexeme) × SpellsInstr i ts }
+{}
+
+/// A text that is read as blocks has no more of them than bytes.
+pub fn texts_have_few_blocks()
+    ensures { (number : ℕ) (source : SourceRead) → IsOfText number source
+        → length source.blocks ≤ length source.text }
 {}

@@ -6,6 +6,7 @@ pub mod Stack
 pub mod Faults
 pub mod Tested
 pub mod Walking
+pub mod Telling
 pub mod Traces
 pub mod OneTrace
 pub mod Makings

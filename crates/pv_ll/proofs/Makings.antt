@@ -6,11 +6,10 @@ use Rattle.std.proofs.Common.{◌≡◌, ℕ, List, [], ◌∷◌, ◌++◌, map
 use Rattle.std.proofs.lemmas.List.{append-nil, map-append}
 use Rattle.pv_ll.specs.declared.table.Symbol.{Symbol}
 use Rattle.pv_ll.specs.declared.table.Symbol.TheVariants.{Token, Name}
-use Rattle.pv_ll.specs.declared.visit.Step.{Step}
-use Rattle.pv_ll.specs.declared.visit.Step.TheVariants.{Enter, Pass, Leave}
+use Rattle.pv_ll.specs.Walk.Step.{Enter, Pass, Leave}
 use Rattle.pv_ll.specs.Grammar.{Grammar, Derives, IsProduction}
 use Rattle.pv_ll.specs.Grammar.Derives.{nothing, token, name}
-use Rattle.pv_ll.specs.Walk.{Walks, tokens_of}
+use Rattle.pv_ll.specs.Walk.{Step, Walks, tokens_of}
 use Rattle.pv_ll.specs.Walk.Walks.{over, on, through}
 use Rattle.pv_ll.specs.Making.{Making, Runs, run}
 use Rattle.pv_ll.specs.Making.Runs.{none, leaf, node}

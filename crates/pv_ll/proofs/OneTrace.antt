@@ -6,14 +6,13 @@ use Rattle.std.proofs.lemmas.Nat.Bits.{bit_at-pow_same}
 use Rattle.pv_ll.specs.declared.table.Symbol.{Symbol}
 use Rattle.pv_ll.specs.declared.table.Symbol.TheVariants.{Name}
 use Rattle.pv_ll.specs.declared.table.Language.{Language}
-use Rattle.pv_ll.specs.declared.visit.Step.{Step}
-use Rattle.pv_ll.specs.declared.visit.Step.TheVariants.{Leave}
+use Rattle.pv_ll.specs.Walk.Step.{Leave}
 use Rattle.pv_ll.specs.Grammar.{Grammar, Derives, Leftmost, IsProduction}
 use Rattle.pv_ll.specs.Grammar.Leftmost.{done, passed, put}
 use Rattle.pv_ll.specs.Table.{grammar_of, rule, next}
 use Rattle.pv_ll.specs.Facts.{IsLL1, Followed}
 use Rattle.pv_ll.specs.Reading.{look}
-use Rattle.pv_ll.specs.Walk.{Walks, tokens_of}
+use Rattle.pv_ll.specs.Walk.{Step, Walks, tokens_of}
 use Rattle.pv_ll.specs.Walk.Walks.{over, on, through}
 use Rattle.pv_ll.proofs.Words.{Cut, cut}
 use Rattle.pv_ll.proofs.Steps.{ServesAs, served, comes, followed_append}

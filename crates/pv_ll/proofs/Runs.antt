@@ -1,23 +1,22 @@
--- The steps of any walk by a text's trace do what any `Runs` of the text does, and a loop over a `Walk` keeps that.
+-- The steps of any walk through a text do what any `Runs` of the text does, and so do its turns.
 --
--- A loop `while let Some(step) = walk.step()? { rest = take(step, rest, &mut stack)?; }`, where `take` ensures that it answers
--- `one_step m step rest.now (values stack.old)`, with `values stack.new` in it, has the invariant `(behind : List V) → Runs g m (Name
--- l.start ∷ []) tokens [] behind → IsLeft m walk rest (values stack) behind` and the measure `work_left walk`. On a trial it wanted one
--- answer, at its beginning: `is_left_at_first (ll1_from l c.requires.ll1) m c.in_ok-walk.walk (c.in_ok-walk.ensures _ c.requires.trace)
--- refl r`, by one `subst` along `items ≡ []`. That it ends with `behind`, and never mistyped, closed with no file, and so did `take`.
-use Rattle.std.proofs.Common.{◌≡◌, ℕ, List, [], ◌∷◌, ◌++◌, map, Some, None, Option, option_and_then, refl, ap, ◌∙◌, sym, subst}
+-- A loop over `turns` with what is left of the tokens has the invariant `play m left rest (values stack) ≡ Some behind`, `left` the
+-- turns that are left: `plays_to` begins it, and a turn is taken by `play_passed` or `play_left`.
+use Rattle.std.proofs.Common.{◌≡◌, ℕ, Bool, true, false, List, [], ◌∷◌, ◌++◌, map, Some, None, Option, option_and_then, refl, ap, ◌∙◌, sym, subst}
+use Rattle.std.specs.Prelude.{if◌then◌else◌}
 use Rattle.std.proofs.lemmas.List.{append-nil}
 use Rattle.std.proofs.lemmas.Option.{option_and_then_some, same_Some}
 use Rattle.pv_ll.specs.declared.table.Symbol.TheVariants.{Name}
 use Rattle.pv_ll.specs.declared.table.Language.{Language}
-use Rattle.pv_ll.specs.declared.visit.Step.{Step}
-use Rattle.pv_ll.specs.declared.visit.Step.TheVariants.{Enter, Pass, Leave}
-use Rattle.pv_ll.specs.declared.visit.Walk.{Walk}
-use Rattle.pv_ll.specs.Grammar.{Leftmost}
+use Rattle.pv_ll.specs.declared.turn.Turn.{Turn}
+use Rattle.pv_ll.specs.declared.turn.Turn.TheVariants as turn
+use Rattle.pv_ll.specs.Grammar.{Grammar, Leftmost}
 use Rattle.pv_ll.specs.Table.{grammar_of}
 use Rattle.pv_ll.specs.Facts.{IsLL1}
-use Rattle.pv_ll.specs.Walk.{Walks, Opens, IsNext, tokens_of}
-use Rattle.pv_ll.specs.Making.{Making, Runs, one_step, run, IsLeft, Follows}
+use Rattle.pv_ll.specs.Walk.{Step, Walks, tokens_of}
+use Rattle.pv_ll.specs.Walk.Step.{Enter, Pass, Leave}
+use Rattle.pv_ll.specs.Turns.{acts_at, turns_of, IsTold}
+use Rattle.pv_ll.specs.Making.{Making, Runs, one_step, run, play, Idles, Follows}
 use Rattle.pv_ll.proofs.Traces.{one_walk}
 use Rattle.pv_ll.proofs.OneTrace.{one_trace, leftmost}
 use Rattle.pv_ll.proofs.Makings.{Ran, ran}
@@ -49,41 +48,60 @@ one_end {l = l} fits {m} {ts} {s} {left} {right} d e =
     let z : run m x.steps ts s ≡ Some right = runs_to fits x.walks x.tokens e in
     cc (y, z)
 
--- ---- a loop over a walk
+-- ---- turns
 
--- a walk through a text is begun: it does what the text's symbols do
-pub is_left_at_first : {T V : Type 0} {l : Language} → IsLL1 l → (m : Making T V) {ts : List T} {s behind : List V} {trace w : List ℕ} (walk : Walk)
-    → Opens (grammar_of l) l.start trace w walk → w ≡ map m.kind ts → Runs (grammar_of l) m (Name l.start ∷ []) ts s behind
-    → IsLeft m walk ts s behind
-is_left_at_first fits m walk o kinds r = (o.steps, o.gives, runs_to fits o.walks (o.tokens ∙ kinds) r)
+-- leaving an alternative, by what is left of it
+left_by : {T V : Type 0} (m : Making T V) (steps : List Step) (turns : List Turn) (ts : List T) → ((s : List V) → run m steps ts s ≡ play m turns ts s)
+    → (o : Option (List V)) → option_and_then (λ (x : List T × List V). run m steps x.0 x.1) (option_and_then (λ (y : List V). Some (ts, y)) o)
+    ≡ option_and_then (λ (y : List V). play m turns ts y) o
+left_by m steps turns ts same None = refl
+left_by m steps turns ts same (Some y) = same y
 
--- a step of it is taken
-pub is_left_behind : {T V : Type 0} (m : Making T V) (old new : Walk) {ts us : List T} {s left behind : List V} (step : Step)
-    → IsNext old (Some step) new → IsLeft m old ts s behind → one_step m step ts s ≡ Some (us, left) → IsLeft m new us left behind
-is_left_behind {T} {V} m old new {ts} {us} {s} {left} {behind} step next h e =
-    let x = next h.0 h.1 in (
-      x.0,
-      x.2,
-      sym (ap (λ (o : Option (List T × List V)). option_and_then (λ (y : List T × List V). run m x.0 y.0 y.1) o) e)
-          ∙ ap (λ (z : List Step). run m z ts s) (sym x.1) ∙ h.2,
-    )
+played_left : {T V : Type 0} (m : Making T V) (k : ℕ) (steps : List Step) (turns : List Turn) (ts : List T) (s : List V) (b : Bool)
+    → (b ≡ false → m.reduce k s ≡ Some s) → ((s : List V) → run m steps ts s ≡ play m turns ts s)
+    → run m (Leave k ∷ steps) ts s ≡ play m (if b then turn.Leave k ∷ turns else turns) ts s
+played_left m k steps turns ts s true idle same = left_by m steps turns ts same (m.reduce k s)
+played_left {T} {V} m k steps turns ts s false idle same =
+    left_by m steps turns ts same (m.reduce k s) ∙ ap (λ (o : Option (List V)). option_and_then (λ (y : List V). play m turns ts y) o) (idle refl)
 
--- a step that does nothing isn't one of it
-pub is_not_left : {T V : Type 0} (m : Making T V) (old new : Walk) {ts : List T} {s behind : List V} (step : Step)
-    → IsNext old (Some step) new → IsLeft m old ts s behind → one_step m step ts s ≡ None → ⊥
-is_not_left {T} {V} m old new {ts} {s} {behind} step next h e =
-    let x = next h.0 h.1 in
-    let f : run m (step ∷ x.0) ts s ≡ None = ap (λ (o : Option (List T × List V)). option_and_then (λ (y : List T × List V). run m x.0 y.0 y.1) o) e in
-    let g : run m (step ∷ x.0) ts s ≡ Some behind = ap (λ (z : List Step). run m z ts s) (sym x.1) ∙ h.2 in
-    absurd (cc (f, g))
+-- without the steps that do nothing a walk's turns do what it does
+pub played : {T V : Type 0} (acts : List Bool) (m : Making T V) → Idles acts m → (steps : List Step) (ts : List T) (s : List V)
+    → run m steps ts s ≡ play m (turns_of acts steps) ts s
+played acts m idle [] ts s = refl
+played acts m idle (Enter k ∷ steps) ts s = played acts m idle steps ts s
+played acts m idle (Pass t ∷ steps) [] s = refl
+played acts m idle (Pass t ∷ steps) (x ∷ ts) s = played acts m idle steps ts (m.leaf x ∷ s)
+played acts m idle (Leave k ∷ steps) ts s =
+    played_left m k steps (turns_of acts steps) ts s (acts_at acts k) (idle k s) (λ left. played acts m idle steps ts left)
 
--- the walk is over: the stack is what was wanted
-pub is_left_at_last : {T V : Type 0} (m : Making T V) (old new : Walk) {ts : List T} {s behind : List V} → IsNext old None new
-    → IsLeft m old ts s behind → s ≡ behind
-is_left_at_last {T} {V} m old new {ts} {s} {behind} next h =
-    let x = next h.0 h.1 in
-    let e : Some s ≡ Some behind = ap (λ (z : List Step). run m z ts s) (sym x.0) ∙ h.2 in
-    cc (e)
+-- the turns of a text do what its symbols do
+pub plays_to : {T V : Type 0} {l : Language} → IsLL1 l → {acts : List Bool} {m : Making T V} → Idles acts m → {w : List ℕ} {turns : List Turn}
+    {ts : List T} {s behind : List V} → IsTold (grammar_of l) l.start acts w turns → w ≡ map m.kind ts
+    → Runs (grammar_of l) m (Name l.start ∷ []) ts s behind → play m turns ts s ≡ Some behind
+plays_to {l = l} fits {acts} {m} idle {ts = ts} {s = s} h kinds r =
+    ap (λ (z : List Turn). play m z ts s) h.told ∙ sym (played acts m idle h.steps ts s) ∙ runs_to fits h.walks (h.tokens ∙ kinds) r
+
+-- a text's turns have its trace
+pub told_trace : {g : Grammar} {start : ℕ} {acts : List Bool} {w : List ℕ} {turns : List Turn} → (h : IsTold g start acts w turns)
+    → Leftmost g h.trace (Name start ∷ []) w
+told_trace {g} {start} h = subst (λ (z : List ℕ). Leftmost g h.trace (Name start ∷ []) z) h.tokens (leftmost h.walks)
+
+-- a token that is passed is there
+pub play_passed : {T V : Type 0} (m : Making T V) (turns : List Turn) (ts : List T) (s behind : List V) → play m (turn.Pass ∷ turns) ts s ≡ Some behind
+    → (x : T) × (rest : List T) × (ts ≡ x ∷ rest) × (play m turns rest (m.leaf x ∷ s) ≡ Some behind)
+play_passed m turns [] s behind e = absurd (cc (e))
+play_passed m turns (x ∷ ts) s behind e = (x, ts, refl, e)
+
+-- an alternative that is left acts
+pub play_left : {T V : Type 0} (m : Making T V) (k : ℕ) (turns : List Turn) (ts : List T) (s behind : List V)
+    → play m (turn.Leave k ∷ turns) ts s ≡ Some behind
+    → (left : List V) × (m.reduce k s ≡ Some left) × (play m turns ts left ≡ Some behind)
+play_left {T} {V} m k turns ts s behind e = of_some (m.reduce k s) refl e
+  where
+    of_some : (o : Option (List V)) → m.reduce k s ≡ o → option_and_then (λ (y : List V). play m turns ts y) o ≡ Some behind
+        → (left : List V) × (m.reduce k s ≡ Some left) × (play m turns ts left ≡ Some behind)
+    of_some None f h = absurd (cc (h))
+    of_some (Some left) f h = (left, f, h)
 
 -- ---- one making behind another
 
@@ -120,3 +138,15 @@ followed {T} {V} {W} {f} {m} {n} h (step ∷ steps) ts s behind e =
     ap (λ (o : Option (List T × List W)). option_and_then (λ (y : List T × List W). run n steps y.0 y.1) o)
     (follows_step h step ts x.0 s x.1 done)
     ∙ followed h steps x.0 x.1 behind is)
+
+-- and so do its turns
+pub play_followed : {T V W : Type 0} {f : V → W} {m : Making T V} {n : Making T W} → Follows f m n → (turns : List Turn) (ts : List T) (s behind : List V)
+    → play m turns ts s ≡ Some behind → play n turns ts (map f s) ≡ Some (map f behind)
+play_followed {f = f} h [] ts s behind e = let a : s ≡ behind = cc (e) in ap (λ z. Some (map f z)) a
+play_followed h (turn.Pass ∷ turns) [] s behind e = absurd (cc (e))
+play_followed {f = f} {m} {n} h (turn.Pass ∷ turns) (x ∷ ts) s behind e =
+    ap (λ z. play n turns ts (z ∷ map f s)) (h.leaves x) ∙ play_followed h turns ts (m.leaf x ∷ s) behind e
+play_followed {W} {f = f} {m} {n} h (turn.Leave k ∷ turns) ts s behind e =
+    option_and_then_some (λ left. play m turns ts left) (m.reduce k s) behind e (λ left made is.
+    ap (λ (o : Option (List W)). option_and_then (λ (y : List W). play n turns ts y) o) (h.reduces k s left made)
+    ∙ play_followed h turns ts left behind is)

@@ -7,9 +7,8 @@ use Rattle.pv_ll.specs.declared.table.Symbol.TheVariants.{Token, Name}
 use Rattle.pv_ll.specs.Grammar.{Grammar, Production, ◌⟶◌, Derives, Leftmost, IsProduction}
 use Rattle.pv_ll.specs.Grammar.Derives.{nothing, token}
 use Rattle.pv_ll.specs.Grammar.Leftmost.{done, passed, put}
-use Rattle.pv_ll.specs.declared.visit.Step.{Step}
-use Rattle.pv_ll.specs.declared.visit.Step.TheVariants.{Enter, Pass, Leave}
-use Rattle.pv_ll.specs.Walk.{Walks}
+use Rattle.pv_ll.specs.Walk.Step.{Enter, Pass, Leave}
+use Rattle.pv_ll.specs.Walk.{Step, Walks}
 use Rattle.pv_ll.specs.Walk.Walks.{over, on, through}
 use Rattle.pv_ll.proofs.Words.{replaced}
 

@@ -1,5 +1,5 @@
--- context-free grammars, what they derive, and what an exact recognizer answers. Nothing here is of a table
-use Rattle.std.specs.Prelude.{◌≡◌, ℕ, ◌<◌, ◌≤◌, ◌+◌, List, [], ◌∷◌, ◌++◌, length, take, Some, slice_get, Result, Ok, Err}
+-- context-free grammars, what they derive, and which token of a text is at fault. Nothing here is of a table
+use Rattle.std.specs.Prelude.{◌≡◌, ℕ, ◌<◌, ◌≤◌, ◌+◌, List, [], ◌∷◌, ◌++◌, length, take, Some, slice_get}
 use Rattle.pv_ll.specs.declared.table.Symbol.{Symbol}
 use Rattle.pv_ll.specs.declared.table.Symbol.TheVariants.{Token, Name}
 
@@ -47,8 +47,3 @@ pub record IsFault (g : Grammar) (start : ℕ) (tokens : List ℕ) (i : ℕ) : T
   pub exact : i < length tokens → (w : List ℕ) → IsSentence g start (take (i + 1) tokens ++ w) → ⊥
   -- the tokens alone are none either
   pub no_sentence : IsSentence g start tokens → ⊥
-
--- what a recognizer answers: the tokens are a text, and how it is derived; or which of them is at fault
-abbrev pub IsExact : Grammar → ℕ → List ℕ → Result (List ℕ) ℕ → Type 0
-IsExact g start tokens (Ok trace) = IsSentence g start tokens × Leftmost g trace (Name start ∷ []) tokens
-IsExact g start tokens (Err i) = IsFault g start tokens i

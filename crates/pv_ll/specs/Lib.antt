@@ -5,6 +5,7 @@ pub mod Facts
 pub mod Reading
 pub mod Sample
 pub mod Walk
+pub mod Turns
 pub mod Making
 pub mod Meaning
 pub mod Shapes

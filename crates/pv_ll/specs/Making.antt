@@ -1,12 +1,13 @@
 -- what is made of a text along the walk through its derivation: symbols act on a stack of values
-use Rattle.std.specs.Prelude.{◌≡◌, ℕ, List, [], ◌∷◌, ◌++◌, map, Option, Some, None, option_and_then}
+use Rattle.std.specs.Prelude.{◌≡◌, ℕ, Bool, false, List, [], ◌∷◌, ◌++◌, map, Option, Some, None, option_and_then}
 use Rattle.pv_ll.specs.declared.table.Symbol.{Symbol}
 use Rattle.pv_ll.specs.declared.table.Symbol.TheVariants.{Token, Name}
-use Rattle.pv_ll.specs.declared.visit.Step.{Step}
-use Rattle.pv_ll.specs.declared.visit.Step.TheVariants.{Enter, Pass, Leave}
-use Rattle.pv_ll.specs.declared.visit.Walk.{Walk}
+use Rattle.pv_ll.specs.declared.turn.Turn.{Turn}
+use Rattle.pv_ll.specs.declared.turn.Turn.TheVariants as turn
 use Rattle.pv_ll.specs.Grammar.{Grammar, IsProduction}
-use Rattle.pv_ll.specs.Walk.{Gives}
+use Rattle.pv_ll.specs.Walk.{Step}
+use Rattle.pv_ll.specs.Walk.Step.{Enter, Pass, Leave}
+use Rattle.pv_ll.specs.Turns.{acts_at}
 
 -- how values are made of tokens: a token that is passed is put on a stack, and an alternative that is left acts on
 -- the stack, by its number; none where it finds other values there than it takes. The top of a stack stands first
@@ -37,9 +38,16 @@ abbrev pub run : {T V : Type 0} → Making T V → List Step → List T → List
 run m [] ts vs = Some vs
 run m (step ∷ steps) ts vs = option_and_then (λ left. run m steps left.0 left.1) (one_step m step ts vs)
 
--- what is left of a walk takes these tokens and this stack to that stack behind it: what a loop over a walk keeps
-abbrev pub IsLeft : {T V : Type 0} → Making T V → Walk → List T → List V → List V → Type 0
-IsLeft m walk ts vs behind = (left : List Step) × Gives walk left × (run m left ts vs ≡ Some behind)
+-- what turns do: the stack behind them
+abbrev pub play : {T V : Type 0} → Making T V → List Turn → List T → List V → Option (List V)
+play m [] ts vs = Some vs
+play m (turn.Pass ∷ turns) [] vs = None
+play m (turn.Pass ∷ turns) (x ∷ ts) vs = play m turns ts (m.leaf x ∷ vs)
+play m (turn.Leave k ∷ turns) ts vs = option_and_then (λ left. play m turns ts left) (m.reduce k vs)
+
+-- an alternative that doesn't act leaves the stack as it is
+abbrev pub Idles : {T V : Type 0} → List Bool → Making T V → Type 0
+Idles {T} {V} acts m = (k : ℕ) (s : List V) → acts_at acts k ≡ false → m.reduce k s ≡ Some s
 
 -- one making follows another by a function on values: what it does is the function of what the other does
 pub record Follows {T V W : Type 0} (f : V → W) (m : Making T V) (n : Making T W) : Type 0 where

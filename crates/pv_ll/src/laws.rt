@@ -1,13 +1,14 @@
 //! Laws of grammars, for readers that keep a trace.
-ghost use Rattle.std.specs.Prelude.{◌≡◌, ◌∷◌, [], ℕ, IsTrue, List, map, Some};
+ghost use Rattle.std.specs.Prelude.{◌≡◌, ◌∷◌, [], ℕ, Bool, IsTrue, List, map, Some};
 ghost use Rattle.pv_ll.specs.declared.table.Symbol.{Symbol};
-ghost use Rattle.pv_ll.specs.declared.visit.Step.{Step};
 ghost use Rattle.pv_ll.specs.declared.table.Language.{Language};
 ghost use Rattle.pv_ll.specs.Check.{is_ll1};
 ghost use Rattle.pv_ll.specs.Table.{grammar_of};
-ghost use Rattle.pv_ll.specs.Walk.{Walks, tokens_of};
+ghost use Rattle.pv_ll.specs.declared.turn.Turn.{Turn};
+ghost use Rattle.pv_ll.specs.Walk.{Step, Walks, tokens_of};
+ghost use Rattle.pv_ll.specs.Turns.{IsTold};
 ghost use Rattle.pv_ll.specs.Grammar.{Grammar, Derives, Leftmost};
-ghost use Rattle.pv_ll.specs.Making.{Making, Runs, run, Follows};
+ghost use Rattle.pv_ll.specs.Making.{Making, Runs, run, play, Idles, Follows};
 
 /// What a trace tells is derived, and it tells it of one list of tokens alone.
 pub fn traces_tell_one_text()
@@ -41,8 +42,18 @@ pub fn walks_do_what_texts_do<T, V>()
         → Runs (grammar_of l) m (Symbol.Name l.start ∷ []) ts s left → Runs (grammar_of l) m (Symbol.Name l.start ∷ []) ts s right → left ≡ right }
 {}
 
-/// Where one making follows another step by step, so it does along a whole walk.
+/// In a language that passes the test the turns of a text do to a stack what the text's symbols do to it, where alternatives that
+/// don't act leave the stack as it is.
+pub fn turns_do_what_texts_do<T, V>()
+    ensures { (l : Language) (m : Making T V) (acts : List Bool) (turns : List Turn) (ts : List T) (s behind : List V) → IsTrue (is_ll1 l) → Idles acts m
+        → IsTold (grammar_of l) l.start acts (map m.kind ts) turns → Runs (grammar_of l) m (Symbol.Name l.start ∷ []) ts s behind
+        → play m turns ts s ≡ Some behind }
+{}
+
+/// Where one making follows another step by step, so it does along a whole walk, and over all its turns.
 pub fn makings_follow_along_walks<T, V, W>()
-    ensures { (f : V → W) (m : Making T V) (n : Making T W) (steps : List Step) (ts : List T) (s behind : List V) → Follows f m n
+    ensures steps { (f : V → W) (m : Making T V) (n : Making T W) (steps : List Step) (ts : List T) (s behind : List V) → Follows f m n
         → run m steps ts s ≡ Some behind → run n steps ts (map f s) ≡ Some (map f behind) }
+    ensures turns { (f : V → W) (m : Making T V) (n : Making T W) (turns : List Turn) (ts : List T) (s behind : List V) → Follows f m n
+        → play m turns ts s ≡ Some behind → play n turns ts (map f s) ≡ Some (map f behind) }
 {}

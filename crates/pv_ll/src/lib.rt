@@ -5,13 +5,13 @@ mod laws;
 mod machine;
 mod sample;
 mod table;
-mod visit;
+mod turn;
 
 pub use laws::{
     makings_follow_along_walks, texts_have_one_trace, traces_have_one_walk, traces_tell_one_text,
-    walks_do_what_texts_do, walks_pass_what_they_derive,
+    turns_do_what_texts_do, walks_do_what_texts_do, walks_pass_what_they_derive,
 };
-pub use machine::{Trace, recognize};
+pub use machine::recognize;
 pub use sample::recognize_sample;
 pub use table::{Alternative, Language, Rule, Symbol};
-pub use visit::{Step, Walk};
+pub use turn::Turn;

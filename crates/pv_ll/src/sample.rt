@@ -1,21 +1,26 @@
 //! A sample language: assignments of expressions with parentheses and two priorities.
 ghost use Rattle.std.specs.Prelude.{◌≡◌, IfOk, IsTrue};
 ghost use Rattle.pv_ll.specs.Check.{is_ll1};
-ghost use Rattle.pv_ll.specs.Grammar.{IsExact};
+ghost use Rattle.pv_ll.specs.Turns.{IsExact};
 ghost use Rattle.pv_ll.specs.Reading.{answer_of};
 ghost use Rattle.pv_ll.specs.Table.{grammar_of};
 ghost use Rattle.pv_ll.specs.Sample.{program, sample_grammar};
 
-use crate::machine::{Trace, recognize};
+use crate::machine::recognize;
 use crate::table::{Alternative, Language, Rule, Symbol};
+use crate::turn::Turn;
 use std::alloc::{AllocError, Global};
 
 /// Reads a program of the sample language, given by the kinds of its tokens: 0 for a name, 1 for `:=`, 2 for `;`, 3 and
 /// 4 for parentheses, 5 for OR and 6 for AND. It answers what `recognize` does.
-pub fn recognize_sample(alloc: Global, kinds: &[u8]) -> Result<Result<Trace, usize>, AllocError>
-    ensures { IfOk result (λ answer. IsExact sample_grammar program kinds.now (answer_of answer)) }
+pub fn recognize_sample(
+    alloc: Global,
+    acts: &[bool],
+    kinds: &[u8],
+) -> Result<Result<Vec<Turn>, usize>, AllocError>
+    ensures { IfOk result (λ answer. IsExact sample_grammar program acts.now kinds.now (answer_of answer)) }
 {
-    recognize(alloc, &sample(), kinds)
+    recognize(alloc, &sample(), acts, kinds)
 }
 
 // Written by tools/ll_table.py from crates/pv_ll/grammar/sample.txt: change that file, and write this one again.

@@ -95,7 +95,7 @@ impl<'a, 'p> Lowering<'a, 'p> {
         match literal_of(e) {
             Some(literal) => push_literal(nodes, want, literal),
             None => match e {
-                Expr::Lit { .. } => Err(LowerFault::NoMemory),
+                Expr::Lit { .. } => Err(LowerFault::TooLarge),
                 Expr::Read(operand) => {
                     let access = self.operand(alloc, nodes, checks, operand)?;
                     self.part_read(alloc, nodes, checks, &access, operand.place, want, e)
@@ -221,7 +221,7 @@ impl<'a, 'p> Lowering<'a, 'p> {
                 access.begin = begin;
                 Ok(())
             }
-            None => Err(LowerFault::NoMemory),
+            None => Err(LowerFault::TooLarge),
         }
     }
 

@@ -37,7 +37,7 @@ pub(crate) fn push_literal(
     let ty = type_of_literal(want, literal);
     match signed_value(literal.number) {
         Some(value) => Ok(push_constant(nodes, ty, value)?),
-        None => Err(LowerFault::NoMemory),
+        None => Err(LowerFault::TooLarge),
     }
 }
 

@@ -29,7 +29,7 @@ fn table_variable(numbers: &Numbers, cell: u32) -> Result<u32, LowerFault>
         .checked_add(cell.saturating_sub(numbers.entry))
     {
         Some(n) => Ok(n),
-        None => Err(LowerFault::NoMemory),
+        None => Err(LowerFault::TooLarge),
     }
 }
 
@@ -40,7 +40,7 @@ fn brief_variable(numbers: &Numbers, cell: usize) -> Result<u32, LowerFault>
 {
     match numbers.briefs.as_slice().get(cell) {
         Some(n) => Ok(*n),
-        None => Err(LowerFault::NoMemory),
+        None => Err(LowerFault::TooLarge),
     }
 }
 

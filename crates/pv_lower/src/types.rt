@@ -177,7 +177,7 @@ fn magnitude_of(n: Number) -> Result<u32, LowerFault>
 {
     match u32::try_from(n.value.unsigned_abs()) {
         Ok(count) => Ok(count),
-        Err(_) => Err(LowerFault::NoMemory),
+        Err(_) => Err(LowerFault::TooLarge),
     }
 }
 

@@ -17,6 +17,7 @@ mod SharedVisits
 pub mod Searches
 pub mod Countings
 pub mod TypeTables
+pub mod NamedBlocks
 pub mod DataStarts
 pub mod LaidVariables
 pub mod Fuel

@@ -25,6 +25,7 @@ pub mod Correct
 pub mod CorrectInstructions
 pub mod Paths
 pub mod Counts
+pub mod BlockNames
 pub mod ProjectSizes
 pub mod Sized
 pub mod LaidOut

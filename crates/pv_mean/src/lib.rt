@@ -11,6 +11,7 @@ mod known;
 mod laid;
 pub mod laws;
 mod lookup;
+mod names;
 mod sizes;
 mod sizing;
 pub mod step_laws;

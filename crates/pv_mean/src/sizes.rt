@@ -9,11 +9,13 @@ ghost use Rattle.pv_tree.specs.View.{block_tree};
 ghost use Rattle.pv_tree.specs.Scopes as scopes;
 ghost use Rattle.pv_mean.specs.Layout as layout;
 ghost use Rattle.pv_mean.specs.Counts.{capped};
+ghost use Rattle.pv_mean.specs.BlockNames.{HasNumbers};
 ghost use Rattle.pv_mean.specs.ProjectSizes.{project_tree, begin_or_end, AreSizesOf};
 
 use crate::count::sum;
 use crate::data_blocks::DataBlocks;
 use crate::known::Known;
+use crate::names::BlockNames;
 use crate::sizing::Sizing;
 use crate::types::{is_type, named_types};
 use pv_tree::{Block, BlockKind, Project};
@@ -24,8 +26,10 @@ use std::alloc::{AllocError, Global};
 #[derive(Drop)]
 pub struct Sizes<'p> {
     project: &'p Project,
+    names: BlockNames,
     known: Known,
     data_blocks: DataBlocks,
+    ghost by_name: { HasNumbers names (project_tree project.now).blocks },
     ghost of_types: { AreSizesOf known (project_tree project.now) },
     ghost begins: { (key : List ℕ) → begin_or_end data_blocks key
         ≡ capped (layout.data_first (project_tree project.now) (project_tree project.now).blocks key 0) },
@@ -41,11 +45,13 @@ impl<'p> Sizes<'p> {
         ensures { IfOk result (λ s. sized_project s ≡ project_tree project.now) }
     {
         let blocks = project.blocks().list.as_slice();
+        let names = BlockNames::of(alloc, blocks)?;
         let types = named_types(alloc, blocks)?;
         let known = Sizing::of(alloc, types, blocks)?.run()?;
         let data_blocks = DataBlocks::of(alloc, &known, blocks)?;
         Ok(Sizes {
             project,
+            names,
             known,
             data_blocks,
         })
@@ -56,13 +62,10 @@ impl<'p> Sizes<'p> {
         ensures { option_map (λ b. block_tree b.now) result
             ≡ scopes.first_block (sized_project self.now).blocks name.now.key }
     {
-        let blocks = self.project.blocks().list.as_slice();
-        for block in blocks {
-            if *name == block.name {
-                return Some(block);
-            }
+        match self.names.find(name) {
+            Some(number) => self.project.blocks().list.as_slice().get(number),
+            None => None,
         }
-        None
     }
 
     /// The block that is the type of this name.

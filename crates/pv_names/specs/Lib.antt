@@ -4,6 +4,7 @@ pub mod Entries
 pub mod Firsts
 pub mod InScope
 pub mod Literals
+pub mod Needed
 pub mod Params
 pub mod Sorts
 pub mod Tables

@@ -1,11 +1,14 @@
 //! A block with the table of its variables.
-ghost use Rattle.std.specs.Prelude.{◌≡◌, map};
+ghost use Rattle.std.specs.Prelude.{◌≡◌, None, map, option_map};
 ghost use Rattle.std.proofs.Props.{props};
 ghost use Rattle.pv_names.specs.DeclarationSets.{declarations-are-a-set};
 ghost use Rattle.pv_types.specs.View.{var_tree, var_trees};
 ghost use Rattle.pv_names.specs.Firsts.{FindsFirsts};
+ghost use Rattle.pv_names.specs.Needed.{needed_among};
+ghost use Rattle.pv_names.specs.Params.{sole_input};
 
 use crate::firsts::Firsts;
+use crate::needed::{needed_among, sole_input};
 use pv_tree::Block;
 use pv_types::{Name, Var, one_by_one};
 use std::alloc::{AllocError, Global};
@@ -16,12 +19,16 @@ pub struct Entry<'p> {
     pub block: &'p Block,
     vars: Vec<Var<'p>>,
     numbers: Firsts,
+    needed: Vec<Var<'p>>,
+    sole: Option<Var<'p>>,
     ghost all: { map var_tree vars.items ≡ var_trees block.now.interface.vars.items } by { Prim.hlevel (props, declarations-are-a-set) },
     ghost by_name: { FindsFirsts numbers (map (λ v. v.name.now.key) vars.items) },
+    ghost all_needed: { map var_tree needed.items ≡ needed_among block.now.kind (map var_tree vars.items) } by { Prim.hlevel (props, declarations-are-a-set) },
+    ghost one_input: { option_map var_tree sole ≡ sole_input None (map var_tree vars.items) } by { Prim.hlevel (props, declarations-are-a-set) },
 }
 
 impl<'p> Entry<'p> {
-    ghost use Rattle.std.specs.Prelude.{IfOk, option_map, slice_get, bytes_eq};
+    ghost use Rattle.std.specs.Prelude.{IfOk, slice_get, bytes_eq};
     ghost use Rattle.pv_types.specs.View.{var_tree, name_of};
     ghost use Rattle.pv_tree.specs.View.{block_tree};
     ghost use Rattle.pv_tree.specs.Scopes.{first_var};
@@ -34,10 +41,14 @@ impl<'p> Entry<'p> {
     {
         let vars = one_by_one(alloc, block.interface.vars.as_slice())?;
         let numbers = Firsts::of_vars(alloc, vars.as_slice())?;
+        let needed = needed_among(alloc, &block.kind, vars.as_slice())?;
+        let sole = sole_input(vars.as_slice());
         Ok(Entry {
             block,
             vars,
             numbers,
+            needed,
+            sole,
         })
     }
 
@@ -53,6 +64,20 @@ impl<'p> Entry<'p> {
         ensures { map var_tree result.now ≡ (block_of self.now).vars }
     {
         self.vars.as_slice()
+    }
+
+    /// Those of the variables that each call of the block has to give, in their order.
+    pub fn needed(&self) -> &[Var<'p>]
+        ensures { map var_tree result.now ≡ needed_among (block_of self.now).kind (block_of self.now).vars }
+    {
+        self.needed.as_slice()
+    }
+
+    /// The only input among the variables.
+    pub(crate) fn sole_input(&self) -> Option<Var<'p>>
+        ensures { option_map var_tree result ≡ sole_input None (block_of self.now).vars }
+    {
+        self.sole
     }
 
     /// The number of the first variable of this name that the block declares.

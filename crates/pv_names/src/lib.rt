@@ -10,6 +10,7 @@ mod entry;
 mod firsts;
 mod function;
 mod literal;
+mod needed;
 mod operator;
 mod param;
 mod scope;
@@ -24,8 +25,9 @@ pub use entry::Entry;
 pub use firsts::Firsts;
 pub use function::result_of_function;
 pub use literal::{Written, is_literal, is_outside, literal_of, type_of_literal};
+pub use needed::is_fc;
 pub use operator::{common_type, is_bool, result_of_binary, wanted_beside};
-pub use param::{Param, is_fc, named_param, only_var, param_for, section_of_param, type_of_param};
+pub use param::{Param, named_param, only_var, param_for, section_of_param, type_of_param};
 pub use scope::{Scope, is_stl, own_value, quoted_value};
 pub use sort::{
     Number, Sort, Want, holds, is_whole_number, one_of, own_type, sort_of_written, taken, widens,

@@ -1,18 +1,18 @@
 //! Which parameter of a block an argument is for.
-ghost use Rattle.std.specs.Prelude.{◌≡◌, None, find, map, option_map};
+ghost use Rattle.std.specs.Prelude.{◌≡◌, find, option_map};
 ghost use Rattle.pv_types.specs.View.{var_tree};
 ghost use Rattle.pv_tree.specs.View.{arg_tree};
-ghost use Rattle.pv_tree.specs.Scopes as scopes;
 ghost use Rattle.pv_tree.specs.Callees as callees;
 ghost use Rattle.pv_names.specs.Entries.{block_of};
 ghost use Rattle.pv_names.specs.Views.{held_tree};
 ghost use Rattle.pv_names.specs.Callees.{how_tree, param_tree};
-ghost use Rattle.pv_names.specs.Params.{param_of, is_sought, first_in, sole_input};
+ghost use Rattle.pv_names.specs.Params.{param_of, is_sought, first_in};
 
 use crate::callee::{How, is_by_stl};
 use crate::entry::Entry;
+use crate::needed::is_fc;
 use crate::thing::{Held, level_of};
-use pv_tree::{Arg, BlockKind};
+use pv_tree::Arg;
 use pv_types::{Name, Section, Var};
 use pv_word::Ty;
 
@@ -23,13 +23,6 @@ pub enum Param<'p> {
     Value(Ty),
 }
 
-/// Whether a section is one of inputs.
-pub(crate) fn is_input(section: Section) -> bool
-    ensures { result ≡ callees.is_input section }
-{
-    matches!(section, Section::Input)
-}
-
 /// Whether a section is one of parameters.
 pub(crate) fn is_param(section: Section) -> bool
     ensures { result ≡ callees.is_param section }
@@ -38,13 +31,6 @@ pub(crate) fn is_param(section: Section) -> bool
         Section::Input | Section::Output | Section::InOut => true,
         Section::Static | Section::Temp | Section::Const => false,
     }
-}
-
-/// Whether a block is a function.
-pub fn is_fc(kind: &BlockKind) -> bool
-    ensures { result ≡ scopes.is_fc kind.now }
-{
-    matches!(kind, BlockKind::Fc)
 }
 
 /// The first parameter of this name among variables.
@@ -59,29 +45,13 @@ fn first_among<'p>(vars: &[Var<'p>], name: &Name) -> Option<Var<'p>>
     None
 }
 
-/// The only input among variables.
-fn sole_input<'p>(vars: &[Var<'p>]) -> Option<Var<'p>>
-    ensures { option_map var_tree result ≡ sole_input None (map var_tree vars.now) }
-{
-    let mut found: Option<Var<'p>> = None;
-    for var in vars {
-        if is_input(var.of.section) {
-            match found {
-                Some(_) => return None,
-                None => found = Some(*var),
-            }
-        }
-    }
-    found
-}
-
 /// The only input of a function.
 pub fn only_var<'p>(entry: &'p Entry<'p>) -> Option<Var<'p>>
     ensures { option_map (λ v. param_of (var_tree v)) result
         ≡ callees.only_input (block_of entry.now) }
 {
     if is_fc(&entry.block.kind) {
-        sole_input(entry.vars())
+        entry.sole_input()
     } else {
         None
     }

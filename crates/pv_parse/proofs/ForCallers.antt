@@ -40,7 +40,8 @@ pub use Rattle.pv_parse.proofs.ExprMarks.{marks-expr, marks-operand}
 pub use Rattle.pv_parse.proofs.FunctionRuns.{std_made}
 pub use Rattle.pv_parse.proofs.Marks.{is_deepest, is_shallow, Marks as MarksParts, first_above, above-both, marks_none, marks_both, marks_one, marks_two, marks_part, none_above, IsFirst, is_first}
 pub use Rattle.pv_parse.proofs.Shading.{shaded, is_of_expressions, alternative_followed}
-pub use Rattle.pv_parse.proofs.Taking.{answered, begins as walk_begins, ends as walk_ends, entered, goes_on as walk_goes_on, kinds_kinded, left, passed}
+pub use Rattle.pv_parse.proofs.Taking.{passed, not_passed, left, missed, begun, stopped, ended as turns_ended, kinds_kinded, plays}
+pub use Rattle.pv_parse.proofs.Idle.{deeds_idle, shades_idle}
 pub use Rattle.pv_parse.proofs.Merging.{merged-nil, merged-assoc, get-merged}
 pub use Rattle.pv_parse.proofs.Popped.{token_popped, path_popped, expr_popped, seen, under}
 pub use Rattle.pv_parse.proofs.ExprFollows.{Keeps, expr_keeps, stepped_shade}

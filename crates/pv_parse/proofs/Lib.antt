@@ -8,7 +8,9 @@ mod KindOf
 mod KindPairs
 pub mod FunctionTables
 pub mod Taking
+pub mod Idle
 pub mod Merging
+pub mod LevelLaws
 pub mod Popped
 pub mod Marks
 pub mod ExprMarks

@@ -1,79 +1,120 @@
--- Steps of a walk, on the tokens and the stack, for any making of values.
-use Rattle.std.proofs.Common.{◌≡◌, ℕ, Bool, false, List, [], ◌∷◌, map, Option, Some, None, Result, Err, IsTrue, refl, ap, ◌∙◌, sym, subst, option_and_then}
+-- Turns, on the tokens and the stack, for any making of values.
+use Rattle.std.proofs.Common.{◌≡◌, ℕ, ◌+◌, ◌<◌, ◌≤◌, Bool, false, List, [], ◌∷◌, drop, map, length, get_or, Option, Some, None, Result, Err, IsTrue, refl, ap, ◌∙◌, sym, subst, option_and_then}
+use Rattle.std.proofs.lemmas.List.{drop_all, drop_more}
+use Rattle.std.proofs.lemmas.Option.{none-some}
 use Rattle.pv_ll.specs.declared.table.Symbol.TheVariants.{Name}
 use Rattle.pv_ll.specs.declared.table.Language.{Language}
-use Rattle.pv_ll.specs.declared.visit.Walk.{Walk}
-use Rattle.pv_ll.specs.declared.visit.Step.{Step}
-use Rattle.pv_ll.specs.declared.visit.Step.TheVariants.{Enter, Pass, Leave}
+use Rattle.pv_ll.specs.declared.turn.Turn.{Turn}
+use Rattle.pv_ll.specs.declared.turn.Turn.TheVariants.{Pass, Leave}
 use Rattle.pv_ll.specs.Check.{is_ll1}
 use Rattle.pv_ll.specs.Table.{grammar_of}
-use Rattle.pv_ll.specs.Walk.{IsNext, Opens}
-use Rattle.pv_ll.specs.Making.{Making, Runs, one_step, IsLeft}
-use Rattle.pv_ll.proofs.ForCallers.{ll1_from, is_left_at_first, is_left_behind, is_not_left, is_left_at_last}
+use Rattle.pv_ll.specs.Turns.{IsTold}
+use Rattle.pv_ll.specs.Making.{Making, Runs, play, Idles}
+use Rattle.pv_ll.proofs.ForCallers.{ll1_from, plays_to}
 use Rattle.pv_tree.specs.Lexemes.{Lexeme}
 use Rattle.pv_parse.specs.declared.stack.Stop.{Stop}
 use Rattle.pv_parse.specs.declared.stack.Stop.TheVariants as stop
 use Rattle.pv_parse.specs.Kinds.{kind_of, kinds_of, marks}
+use Rattle.pv_parse.specs.Items.{Missed}
 use Rattle.pv_parse.specs.Deeds.{Kinded, kinded, kinded_making}
-use Rattle.pv_parse.specs.Building.{Steps, Stuck, Built}
+use Rattle.pv_parse.specs.Building.{RanOut, Plays, Makes, Built}
 
-pub entered : {V : Type 0} (m : Making Kinded V) (step : Step) (k : ℕ) (ts : List Lexeme) (s : List V) → step ≡ Enter k → Steps m step ts s ts s
-entered m step k ts s e = λ marked. (marked, ap (λ (z : Step). one_step m z (kinded marked ts) s) e)
+-- ---- one turn
 
-pub passed : {V : Type 0} (leaf : Lexeme → V) (reduce : ℕ → List V → Option (List V)) (step : Step) (k : ℕ) (t : Lexeme) (others ts : List Lexeme)
-    (s new : List V) → step ≡ Pass k → ts ≡ t ∷ others → new ≡ leaf t ∷ s → Steps (kinded_making leaf reduce) step ts s others new
-passed {V} leaf reduce step k t others ts s new e p q = λ marked. (
-  marks t,
-  ap (λ (z : Step). one_step (kinded_making leaf reduce) z (kinded marked ts) s) e
-      ∙ ap (λ (z : List Lexeme). one_step (kinded_making leaf reduce) (Pass k) (kinded marked z) s) p
-      ∙ ap (λ (z : List V). Some (kinded (marks t) others, z)) (sym q),
-)
+module _ {V : Type 0} (leaf : Lexeme → V) (reduce : ℕ → List V → Option (List V)) (turn : Turn) where
+  abbrev m : Making Kinded V
+  m = kinded_making leaf reduce
 
-pub left : {V : Type 0} (leaf : Lexeme → V) (reduce : ℕ → List V → Option (List V)) (step : Step) (k : ℕ) (ts : List Lexeme) (s new : List V)
-    → step ≡ Leave k → reduce k s ≡ Some new → Steps (kinded_making leaf reduce) step ts s ts new
-left {V} leaf reduce step k ts s new e r = λ marked. (
-  marked,
-  ap (λ (z : Step). one_step (kinded_making leaf reduce) z (kinded marked ts) s) e
-      ∙ ap (λ (z : Option (List V)). option_and_then (λ (x : List V). Some (kinded marked ts, x)) z) r,
-)
+  -- a token is passed
+  pub passed : (t : Lexeme) (others ts : List Lexeme) (s new : List V) → turn ≡ Pass → ts ≡ t ∷ others → new ≡ leaf t ∷ s
+      → (turns : List Turn) (behind : List V) → Plays m (turn ∷ turns) ts s behind → Plays m turns others new behind
+  passed t others ts s new e p q turns behind h = (
+    marks t,
+    ap (λ (z : List V). play m turns (kinded (marks t) others) z) q
+        ∙ sym (ap (λ (z : List Lexeme). play m (Pass ∷ turns) (kinded h.0 z) s) p)
+        ∙ sym (ap (λ (z : Turn). play m (z ∷ turns) (kinded h.0 ts) s) e)
+        ∙ h.1,
+  )
 
--- ---- the loop
+  -- there is none
+  pub not_passed : (ts : List Lexeme) (s : List V) → turn ≡ Pass → ts ≡ [] → (turns : List Turn) (behind : List V)
+      → Plays m (turn ∷ turns) ts s behind → ⊥
+  not_passed ts s e p turns behind h =
+      none-some behind (sym (ap (λ (z : List Lexeme). play m (Pass ∷ turns) (kinded h.0 z) s) p)
+      ∙ sym (ap (λ (z : Turn). play m (z ∷ turns) (kinded h.0 ts) s) e) ∙ h.1)
 
--- the kinds that tokens with their kinds have
+  -- an alternative is left
+  left_in : (k : ℕ) (ts : List Kinded) (s new : List V) → turn ≡ Leave k → reduce k s ≡ Some new → (turns : List Turn) (behind : List V)
+      → play m (turn ∷ turns) ts s ≡ Some behind → play m turns ts new ≡ Some behind
+  left_in k ts s new e f turns behind h =
+      sym (ap (λ (o : Option (List V)). option_and_then (λ (z : List V). play m turns ts z) o) f)
+      ∙ sym (ap (λ (z : Turn). play m (z ∷ turns) ts s) e) ∙ h
+
+  pub left : (k : ℕ) (ts : List Lexeme) (s new : List V) → turn ≡ Leave k → reduce k s ≡ Some new → (turns : List Turn) (behind : List V)
+      → Plays m (turn ∷ turns) ts s behind → Plays m turns ts new behind
+  left k ts s new e f turns behind h = (h.0, left_in k (kinded h.0 ts) s new e f turns behind h.1)
+
+  not_left : (k : ℕ) (ts : List Kinded) (s : List V) → turn ≡ Leave k → reduce k s ≡ None → (turns : List Turn) (behind : List V)
+      → play m (turn ∷ turns) ts s ≡ Some behind → ⊥
+  not_left k ts s e f turns behind h =
+      none-some behind (sym (ap (λ (o : Option (List V)). option_and_then (λ (z : List V). play m turns ts z) o) f)
+      ∙ sym (ap (λ (z : Turn). play m (z ∷ turns) ts s) e) ∙ h)
+
+  -- or it isn't
+  pub missed : (k : ℕ) (ts : List Lexeme) (s : List V) (e : Stop) → turn ≡ Leave k → Missed e (reduce k s) → (turns : List Turn) (behind : List V)
+      → Plays m (turn ∷ turns) ts s behind → RanOut e
+  missed k ts s stop.Mistyped is f turns behind h = not_left k (kinded h.0 ts) s is f turns behind h.1
+  missed k ts s stop.NoMemory is f turns behind h = tt
+
+  -- ---- the same, of any tokens
+
+  pub any_passed : (v : V) (s new : List V) → ((t : Lexeme) → leaf t ≡ v) → turn ≡ Pass → new ≡ v ∷ s → (turns : List Turn) (behind : List V)
+      → Makes m (turn ∷ turns) s behind → Makes m turns new behind
+  any_passed v s new all e q turns behind h = without h.0 (ap (λ (z : Turn). play m (z ∷ turns) h.0 s) (sym e) ∙ h.1)
+    where
+      without : (ts : List Kinded) → play m (Pass ∷ turns) ts s ≡ Some behind → Makes m turns new behind
+      without [] p = absurd (none-some behind p)
+      without (x ∷ ts) p = (
+        ts,
+        ap (λ (z : List V). play m turns ts z) (q ∙ ap (λ (z : V). z ∷ s) (sym (all x.lexeme))) ∙ p,
+      )
+
+  pub any_left : (k : ℕ) (s new : List V) → turn ≡ Leave k → reduce k s ≡ Some new → (turns : List Turn) (behind : List V)
+      → Makes m (turn ∷ turns) s behind → Makes m turns new behind
+  any_left k s new e f turns behind h = (h.0, left_in k h.0 s new e f turns behind h.1)
+
+  pub any_missed : (k : ℕ) (s : List V) (e : Stop) → turn ≡ Leave k → Missed e (reduce k s) → (turns : List Turn) (behind : List V)
+      → Makes m (turn ∷ turns) s behind → RanOut e
+  any_missed k s stop.Mistyped is f turns behind h = not_left k h.0 s is f turns behind h.1
+  any_missed k s stop.NoMemory is f turns behind h = tt
+
+-- ---- a loop over turns
+
+-- what is left is the next turn and those behind it
+pub begun : (P : List Turn → Type 0) (turns : List Turn) (i : ℕ) (d : Turn) → i < length turns → P (drop i turns)
+    → P (get_or turns i d ∷ drop (i + 1) turns)
+begun P turns i d inside h = subst P (drop_more turns i d inside) h
+
+-- the loop stops there
+pub stopped : {Y W : Type 0} (seen : Y → W) (wanted : W) (e : Stop) (result : Result Y Stop) → result ≡ Err e → RanOut e → Built seen result wanted
+stopped {Y} seen wanted e result r h = subst (λ (z : Result Y Stop). Built seen z wanted) (sym r) h
+
+-- it is over
+pub ended : {V : Type 0} (m : Making Kinded V) (turns : List Turn) (i : ℕ) (ts : List Kinded) (s behind : List V) → length turns ≤ i
+    → play m (drop i turns) ts s ≡ Some behind → s ≡ behind
+ended m turns i ts s behind over h =
+    let e : Some s ≡ Some behind = ap (λ (z : List Turn). play m z ts s) (sym (drop_all i turns over)) ∙ h in
+    cc (e)
+
+-- ---- all turns of a text
+
 pub kinds_kinded : (marked : Bool) (ts : List Lexeme) → kinds_of marked ts ≡ map (λ (t : Kinded). t.kind) (kinded marked ts)
 kinds_kinded marked [] = refl
 kinds_kinded marked (t ∷ ts) = ap (λ (z : List ℕ). kind_of marked t ∷ z) (kinds_kinded (marks t) ts)
 
--- a step that does nothing isn't one of a walk that makes something
-pub stuck_out : {X V W : Type 0} (view : X → W) (wanted : W) (m : Making Kinded V) (old new : Walk) (step : Step) (ts : List Lexeme) (s behind : List V)
-    (marked : Bool) (e : Stop) → IsNext old (Some step) new → IsLeft m old (kinded marked ts) s behind → Stuck m step ts s e → Built view (Err e) wanted
-stuck_out view wanted m old new step ts s behind marked stop.Mistyped next h k = is_not_left m old new step next h (k marked)
-stuck_out view wanted m old new step ts s behind marked stop.NoMemory next h k = tt
-
-pub answered : {X V W : Type 0} (view : X → W) (wanted : W) (m : Making Kinded V) (old new : Walk) (found : Option Step) (step : Step) (ts : List Lexeme)
-    (s behind : List V) (marked : Bool) (e : Stop) (result : Result X Stop) → found ≡ Some step → result ≡ Err e → IsNext old found new
-    → IsLeft m old (kinded marked ts) s behind → Stuck m step ts s e → Built view result wanted
-answered {X} view wanted m old new found step ts s behind marked e result f r next h k =
-    subst (λ (z : Result X Stop). Built view z wanted) (sym r)
-    (stuck_out view wanted m old new step ts s behind marked e (subst (λ (z : Option Step). IsNext old z new) f next) h k)
-
--- a step is taken
-pub goes_on : {V : Type 0} (m : Making Kinded V) (old new : Walk) (found : Option Step) (step : Step) (ts left_ : List Lexeme) (s now_ behind : List V)
-    (marked : Bool) → found ≡ Some step → IsNext old found new → IsLeft m old (kinded marked ts) s behind → Steps m step ts s left_ now_
-    → (after : Bool) × IsLeft m new (kinded after left_) now_ behind
-goes_on m old new found step ts left_ s now_ behind marked f next h k =
-    let taken = k marked in
-    (taken.0, is_left_behind m old new step (subst (λ (z : Option Step). IsNext old z new) f next) h taken.1)
-
--- the walk begins with the text
-pub begins : {V : Type 0} (l : Language) (leaf : Lexeme → V) (reduce : ℕ → List V → Option (List V)) (walk : Walk) (trace : List ℕ) (ts : List Lexeme)
-    (behind : List V) → IsTrue (is_ll1 l) → Opens (grammar_of l) l.start trace (kinds_of false ts) walk
+-- they make what its symbols make
+pub plays : {V : Type 0} (l : Language) (leaf : Lexeme → V) (reduce : ℕ → List V → Option (List V)) (flags : List Bool) (turns : List Turn) (ts : List Lexeme)
+    (behind : List V) → IsTrue (is_ll1 l) → Idles flags (kinded_making leaf reduce) → IsTold (grammar_of l) l.start flags (kinds_of false ts) turns
     → Runs (grammar_of l) (kinded_making leaf reduce) (Name l.start ∷ []) (kinded false ts) [] behind
-    → IsLeft (kinded_making leaf reduce) walk (kinded false ts) [] behind
-begins l leaf reduce walk trace ts behind fits o r =
-    is_left_at_first (ll1_from l fits) (kinded_making leaf reduce) walk o (kinds_kinded false ts) r
-
--- it is over
-pub ends : {V : Type 0} (m : Making Kinded V) (old new : Walk) (found : Option Step) (ts : List Lexeme) (s behind : List V) (marked : Bool)
-    → found ≡ None → IsNext old found new → IsLeft m old (kinded marked ts) s behind → s ≡ behind
-ends m old new found ts s behind marked f next h = is_left_at_last m old new (subst (λ (z : Option Step). IsNext old z new) f next) h
+    → Plays (kinded_making leaf reduce) turns ts [] behind
+plays l leaf reduce flags turns ts behind fits idles told r = (false, plays_to (ll1_from l fits) idles told (kinds_kinded false ts) r)

@@ -1,32 +1,56 @@
--- What a loop over a walk keeps, and what it answers.
-use Rattle.std.specs.Prelude.{◌≡◌, Bool, List, Some, None, Result, Ok, Err}
+-- What a loop over the turns of a text keeps, and what it answers.
+use Rattle.std.specs.Prelude.{◌≡◌, Bool, true, false, List, ◌∷◌, Some, Result, Ok, Err}
 use Rattle.pv_tree.specs.Lexemes.{Lexeme}
-use Rattle.pv_ll.specs.declared.visit.Step.{Step}
-use Rattle.pv_ll.specs.Making.{Making, one_step}
+use Rattle.pv_ll.specs.declared.turn.Turn.{Turn}
+use Rattle.pv_ll.specs.Making.{Making, play}
+use Rattle.pv_parse.specs.declared.action.Action.{Action}
+use Rattle.pv_parse.specs.declared.action.Action.TheVariants.{Keep}
 use Rattle.pv_parse.specs.declared.stack.Stop.{Stop}
 use Rattle.pv_parse.specs.declared.stack.Stop.TheVariants as stop
 use Rattle.pv_parse.specs.Deeds.{Kinded, kinded}
 
--- the step does nothing
-abbrev pub Stuck : {V : Type 0} → Making Kinded V → Step → List Lexeme → List V → Stop → Type 0
-Stuck m step tokens s stop.Mistyped = (marked : Bool) → one_step m step (kinded marked tokens) s ≡ None
-Stuck m step tokens s stop.NoMemory = Unit {0}
+-- whether an alternative does anything
+abbrev pub acts : Action → Bool
+acts Keep = false
+acts _ = true
 
--- the step leaves these tokens and this stack
-abbrev pub Steps : {V : Type 0} → Making Kinded V → Step → List Lexeme → List V → List Lexeme
-    → List V → Type 0
-Steps m step tokens s left behind =
-    (marked : Bool) → (after : Bool)
-    × (one_step m step (kinded marked tokens) s ≡ Some (kinded after left, behind))
+-- the turns make that stack of these tokens and this one, whatever stands before the tokens
+abbrev pub Plays : {V : Type 0} → Making Kinded V → List Turn → List Lexeme → List V → List V
+    → Type 0
+Plays m turns tokens s behind = (marked : Bool) × (play m turns (kinded marked tokens) s ≡ Some behind)
 
--- what a step did to the tokens, seen by the view, and to the stack
-abbrev pub Taken : {X V : Type 0} → (X → List Lexeme) → Making Kinded V → Step → Result X Stop
+-- it stopped for want of memory
+abbrev pub RanOut : Stop → Type 0
+RanOut stop.Mistyped = ⊥
+RanOut stop.NoMemory = Unit {0}
+
+-- the turns make that stack of what a turn answered: the tokens that are left, seen by the view, and its stack
+abbrev pub PlaysOn : {X V : Type 0} → (X → List Lexeme) → Making Kinded V → List Turn → Result X Stop
+    → List V → List V → Type 0
+PlaysOn view m turns (Ok left) s behind = Plays m turns (view left) s behind
+PlaysOn view m turns (Err e) s behind = RanOut e
+
+-- a turn was taken: what the turns behind it make is what they and it made before
+abbrev pub Taken : {X V : Type 0} → (X → List Lexeme) → Making Kinded V → Turn → Result X Stop
     → List Lexeme → List V → List V → Type 0
-Taken view m step (Ok left) tokens s behind = Steps m step tokens s (view left) behind
-Taken view m step (Err e) tokens s behind = Stuck m step tokens s e
+Taken {X} {V} view m turn result tokens old new =
+    (turns : List Turn) (behind : List V) → Plays m (turn ∷ turns) tokens old behind
+    → PlaysOn view m turns result new behind
 
--- what is there behind the walk, seen by the view, where this is to be there
+-- the same, of any tokens
+abbrev pub Makes : {V : Type 0} → Making Kinded V → List Turn → List V → List V → Type 0
+Makes m turns s behind = (tokens : List Kinded) × (play m turns tokens s ≡ Some behind)
+
+abbrev pub MakesOn : {V : Type 0} → Making Kinded V → List Turn → Result Unit Stop → List V → List V
+    → Type 0
+MakesOn m turns (Ok _) s behind = Makes m turns s behind
+MakesOn m turns (Err e) s behind = RanOut e
+
+abbrev pub Turned : {V : Type 0} → Making Kinded V → Turn → Result Unit Stop → List V → List V → Type 0
+Turned {V} m turn result old new =
+    (turns : List Turn) (behind : List V) → Makes m (turn ∷ turns) old behind → MakesOn m turns result new behind
+
+-- what is there behind the turns, seen by the view, where this is to be there
 abbrev pub Built : {X V : Type 0} → (X → V) → Result X Stop → V → Type 0
 Built view (Ok v) behind = view v ≡ behind
-Built view (Err stop.Mistyped) behind = ⊥
-Built view (Err stop.NoMemory) behind = Unit {0}
+Built view (Err e) behind = RanOut e

@@ -4,6 +4,7 @@ use Rattle.std.specs.declared.alloc.Global.{Global}
 use Rattle.pv_types.specs.declared.declaration.Literal.{Literal}
 use Rattle.pv_tree.specs.declared.expr.Expr.{Expr}
 use Rattle.pv_tree.specs.declared.stmt.Arg.{Arg}
+use Rattle.pv_tree.specs.declared.range.ChoiceRange.{ChoiceRange}
 use Rattle.pv_tree.specs.declared.stmt.Choice.{Choice}
 use Rattle.pv_tree.specs.declared.stmt.Stmt.{Stmt}
 use Rattle.pv_tree.specs.Tree.{ExprTree, ArgTree, CallPlain, Choices, StmtTree, StmtTrees}
@@ -63,7 +64,7 @@ else_list other = option_map (λ body. stmt_trees body.value.items) other
 
 -- the values of a label, each alone or as the lower end of a range
 abbrev pub ChoiceVec : Type 0
-ChoiceVec = Vec (Choice × Option Choice) Global
+ChoiceVec = Vec ChoiceRange Global
 
 abbrev pub choice_list : ChoiceVec → Choices
 choice_list label = label.items
@@ -76,13 +77,13 @@ branch_list all = map branch_tree all.items
 
 abbrev pub code_of : CodeItem → CodeTree
 code_of (i.Args list) = arguments (arg_list list)
-code_of (i.Call c) = called (call_tree c)
+code_of (i.Call c) = called (call_tree c.value)
 code_of (i.Value x) = value (value_tree x)
 code_of (i.Stmt x) = statement (stmt_tree x)
 code_of (i.Stmts list) = statements (stmt_list list)
 code_of (i.Arms list) = conditions (arm_list list)
 code_of (i.Else list) = otherwise (else_list list)
-code_of (i.By literal) = stepping literal
-code_of (i.Choice x) = choice x
+code_of (i.By literal) = stepping (option_map (λ l. l.value) literal)
+code_of (i.Choice x) = choice x.value
 code_of (i.Choices list) = choices (choice_list list)
 code_of (i.Branches list) = cases (branch_list list)

@@ -2,6 +2,7 @@
 use Rattle.std.specs.Prelude.{◌≡◌, List, [], ◌∷◌, map, reverse, Option, Some, None, option_and_then, Result, Ok, Err, Vec}
 use Rattle.std.specs.declared.alloc.Global.{Global}
 use Rattle.pv_place.specs.declared.place.Place.{Place}
+use Rattle.pv_lex.specs.Values.{token_value}
 use Rattle.pv_types.specs.declared.name.Name.{Name}
 use Rattle.pv_types.specs.declared.declaration.Literal.{Literal}
 use Rattle.pv_types.specs.declared.declaration.Section.{Section}
@@ -77,7 +78,12 @@ Stack = List ItemTree
 
 -- a token with its bytes
 abbrev pub lexeme_of_slice : Sliced → Lexeme
-lexeme_of_slice s = record { kind = s.kind; bytes = s.bytes.now; value = s.value; place = s.place }
+lexeme_of_slice s = record {
+  kind = s.kind;
+  bytes = s.bytes.now;
+  value = token_value s.kind s.bytes.now;
+  place = s.place;
+}
 
 abbrev pub path_tree : Operand → PathTree
 path_tree o = record { root = o.root.value; steps = map step_tree o.steps.items; place = o.place }

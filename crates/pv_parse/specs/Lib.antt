@@ -29,6 +29,7 @@ pub mod StmtShades
 pub mod DeclShades
 pub mod InstrShades
 pub mod ItemShades
+pub mod Levels
 pub mod Building
 pub mod ExprAnswers
 pub mod InOrder

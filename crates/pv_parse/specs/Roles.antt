@@ -1,10 +1,11 @@
 -- Words that matter for what is outside the profile, in one table, and the spot behind a word by it.
-use Rattle.std.specs.Prelude.{ℕ, Bool, true, false, ◌&&◌, ◌||◌, not, ◌==◌, if◌then◌else◌, List, [], ◌∷◌, ◌++◌, Option, Some, None}
+use Rattle.std.specs.Prelude.{ℕ, Bool, true, false, ◌&&◌, ◌||◌, not, ◌==◌, if◌then◌else◌, List, [], ◌∷◌, ◌++◌, Option, Some, None, codes}
 use Rattle.pv_lex.specs.declared.token.Language.{Language}
 use Rattle.pv_lex.specs.declared.token.Language.TheVariants as language
+use Rattle.pv_lex.specs.declared.token.Kind.{Kind}
 use Rattle.pv_lex.specs.Shapes.{is_one_of}
 use Rattle.pv_tree.specs.Lexemes.{Lexeme}
-use Rattle.pv_tree.specs.Outside.{left_out, area_words, left_out_instructions, timer_words, Spot, behind_other, code_words, data_words, end_words, begin_words, network_words, is_outside, behind, is_colon_next, is_number_next, is_area_word, is_outside_word}
+use Rattle.pv_tree.specs.Outside.{left_out, area_words, left_out_instructions, timer_words, Spot, behind_other, code_words, data_words, end_words, begin_words, network_words, same_bytes, is_outside, is_outside_kind, is_outside_sign, behind, behind_kind, behind_word, behind_sign, is_colon_next, is_number_next, is_area_word, is_outside_word}
 use Rattle.pv_parse.specs.LookUps.{Entry, look_up, all_are}
 use Rattle.pv_parse.specs.declared.spot.Spot.{Spot as CodeSpot}
 
@@ -96,6 +97,24 @@ word_role language.Stl spot role others = outside_role spot role others
 abbrev pub is_outside_by_role : Language → Spot → ℕ → List ℕ → List Lexeme → Bool
 is_outside_by_role its_language spot role bytes others =
     (role == left_out_word) || is_area_word bytes || word_role its_language spot role others
+
+-- the spot behind a token, where the token isn't outside: of any token, of a word where no mark stands
+-- before it, and of a sign
+abbrev pub unless_outside : Bool → Spot → Option Spot
+unless_outside outside next = if outside then None else Some next
+
+abbrev pub passed_kind : Kind → Language → Spot → List ℕ → List Lexeme → Option Spot
+passed_kind kind its_language spot bytes others =
+    unless_outside (is_outside_kind kind its_language spot bytes others) (behind_kind kind spot bytes)
+
+abbrev pub passed_word : Language → Spot → List ℕ → List Lexeme → Option Spot
+passed_word its_language spot bytes others =
+    unless_outside (is_outside_unmarked its_language spot bytes others) (behind_word spot bytes)
+
+abbrev pub passed_sign : Language → Spot → List ℕ → List Lexeme → Option Spot
+passed_sign its_language spot bytes others =
+    unless_outside (same_bytes bytes (codes "**") || is_outside_sign its_language spot bytes others)
+    (behind_sign spot bytes)
 
 -- the first of the tokens from this spot on that is outside
 abbrev pub find_outside : Language → Spot → List Lexeme → Option Lexeme

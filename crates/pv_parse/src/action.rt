@@ -1,7 +1,9 @@
 //! What alternatives do when the walk leaves them.
-ghost use Rattle.std.specs.Prelude.{◌≡◌, slice_index_or};
+ghost use Rattle.std.specs.Prelude.{◌≡◌, slice_index_or, map, IfOk};
+ghost use Rattle.pv_parse.specs.Building.{acts};
 
 use pv_tree::{BinaryOp, UnaryOp};
+use std::alloc::{AllocError, Global};
 
 /// What an alternative does with what lies on the stack.
 #[derive(Clone, Copy, Debug)]
@@ -283,4 +285,30 @@ pub fn action_at(actions: &[Action], k: u16) -> Action
     ensures { result ≡ slice_index_or actions.now k Action.Keep }
 {
     actions.get(k as usize).copied().unwrap_or(Action::Keep)
+}
+
+/// Whether an alternative does anything.
+fn acts(action: &Action) -> bool
+    ensures { result ≡ acts action.now }
+{
+    match *action {
+        Action::Keep => false,
+        Action::Expr(_)
+        | Action::Decl(_)
+        | Action::Block(_)
+        | Action::Call(_)
+        | Action::Stmt(_)
+        | Action::Instr(_) => true,
+    }
+}
+
+/// Of each alternative, by its number, whether it does anything.
+pub fn acting(alloc: Global, actions: &[Action]) -> Result<Vec<bool>, AllocError>
+    ensures { IfOk result (λ flags. flags.items ≡ map acts actions.now) }
+{
+    let mut flags = Vec::with_capacity(alloc, actions.len())?;
+    for action in actions {
+        flags.push(acts(action))?;
+    }
+    Ok(flags)
 }

@@ -1,6 +1,6 @@
 //! Parts of statements and calls, as they lie on the stack.
 
-use pv_tree::{Arg, CallTree, Choice, Expr, Stmt};
+use pv_tree::{Arg, CallTree, Choice, ChoiceRange, Expr, Stmt};
 use pv_types::Literal;
 
 /// The right side of an assignment.
@@ -11,12 +11,12 @@ pub enum Value {
     Call(Box<CallTree>),
 }
 
-/// A part of a statement or of a call.
+/// A part of a statement or of a call. What is large and rare lies in a box, so that no other part takes its room.
 #[derive(Drop)]
 pub enum CodeItem {
     /// The arguments of a call so far.
     Args(Vec<Arg>),
-    Call(CallTree),
+    Call(Box<CallTree>),
     Value(Value),
     Stmt(Stmt),
     /// A list of statements so far.
@@ -26,11 +26,11 @@ pub enum CodeItem {
     /// What stands behind ELSE.
     Else(Option<Box<Vec<Stmt>>>),
     /// What stands behind BY.
-    By(Option<Literal>),
+    By(Option<Box<Literal>>),
     /// A value of a label.
-    Choice(Choice),
+    Choice(Box<Choice>),
     /// The values of a label so far.
-    Choices(Vec<(Choice, Option<Choice>)>),
+    Choices(Vec<ChoiceRange>),
     /// The branches of a CASE so far, but for the one that is read.
-    Branches(Vec<(Vec<(Choice, Option<Choice>)>, Vec<Stmt>)>),
+    Branches(Vec<(Vec<ChoiceRange>, Vec<Stmt>)>),
 }

@@ -31,7 +31,7 @@ pub struct Heading {
     pub of: Option<(Name, Place)>,
 }
 
-/// A part of a declaration or of a block.
+/// A part of a declaration or of a block. What is large lies in a box, so that no other part takes its room.
 #[derive(Drop)]
 pub enum DeclItem {
     /// A name that stands alone, with the place of its first token.
@@ -43,13 +43,13 @@ pub enum DeclItem {
     /// The variables of a section or a structure so far.
     Fields(Fields),
     /// The type of a declaration.
-    Typed(DeclType),
+    Typed(Box<DeclType>),
     /// A start value, where one is written.
     Start(Option<Literal>),
     /// The bounds of an array whose elements' type is still to come.
     Bounds(Bounds),
     /// A block before its body.
-    Heading(Heading),
+    Heading(Box<Heading>),
     /// The body of a block with code.
     Body(Body),
     /// The values of a data block so far.

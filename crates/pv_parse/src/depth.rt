@@ -1,26 +1,22 @@
-//! How deep a text nests, found along the walk through its derivation before a tree is built.
+//! How deep a text nests, found along the turns of its walk before a tree is built.
 //!
-//! The loop is the one of the tree's, over another making of values: what is left of the walk makes of what is left of the
-//! tokens, on the stack as it is, what the whole walk makes of all of them.
-ghost use Rattle.std.specs.Prelude.{◌≡◌, ◌∷◌, [], ℕ, List, false, IsTrue, slice_get};
+//! Each loop is the one of the tree's, over another making of values: what is left of the turns makes of what is left of the
+//! tokens, on the stack as it is, what all of them make of all tokens. The first makes numbers alone; only where these tell that
+//! something is too deep does the second one look for its place.
+ghost use Rattle.std.specs.Prelude.{◌≡◌, [], ℕ, List, slice_get};
 ghost use Rattle.pv_tree.specs.Lexemes.{lexeme_of, lexemes_of};
 ghost use Rattle.pv_tree.specs.Nesting.{most_levels};
-ghost use Rattle.pv_ll.specs.Grammar.{Leftmost};
-ghost use Rattle.pv_ll.specs.Table.{grammar_of};
-ghost use Rattle.pv_ll.specs.Check.{is_ll1};
-ghost use Rattle.pv_ll.specs.Making.{Runs};
-ghost use Rattle.pv_parse.specs.Kinds.{kinds_of};
-ghost use Rattle.pv_parse.specs.Deeds.{kinded};
 ghost use Rattle.pv_parse.specs.Shades.{Shade, shade_of_token, shade_in, shades_of, place_at};
 ghost use Rattle.pv_parse.specs.ItemShades.{shading_of, shade_making};
-ghost use Rattle.pv_parse.specs.Building.{Taken, Built};
+ghost use Rattle.pv_parse.specs.Levels.{level_making, levels_in, level_at};
+ghost use Rattle.pv_parse.specs.Building.{Plays, Taken, Makes, Turned, Built};
 
 use crate::action::{Action, action_at};
 use crate::shade::{Shaded, Shading, push, sink};
 use crate::stack::Stop;
-use crate::{decl_shades, expr_shades, instr_shades, stmt_shades};
+use crate::{decl_shades, expr_shades, instr_shades, levels, stmt_shades};
 use pv_lex::Token;
-use pv_ll::{Language, Step, Symbol, Walk};
+use pv_ll::Turn;
 use pv_place::Place;
 use std::alloc::Global;
 
@@ -52,27 +48,26 @@ fn token_shade(alloc: Global, token: &Token) -> Shaded
     }
 }
 
-/// Takes a step, and gives the tokens that are left.
+/// Takes a turn, and gives the tokens that are left.
 fn take<'b>(
     alloc: Global,
     actions: &[Action],
-    step: Step,
+    turn: Turn,
     tokens: &'b [Token],
     stack: &mut Vec<Shaded>,
 ) -> Result<&'b [Token], Stop>
-    ensures { (text : List ℕ) → Taken (λ left. lexemes_of text left.now) (shade_making actions.now) step result
+    ensures { (text : List ℕ) → Taken (λ left. lexemes_of text left.now) (shade_making actions.now) turn result
         (lexemes_of text tokens.now) (shades_of stack.old) (shades_of stack.new) }
 {
-    match step {
-        Step::Enter(_) => Ok(tokens),
-        Step::Pass(_) => {
+    match turn {
+        Turn::Pass => {
             let Some((token, others)) = tokens.split_first() else {
                 return Err(Stop::Mistyped);
             };
             push(stack, token_shade(alloc, token))?;
             Ok(others)
         }
-        Step::Leave(k) => {
+        Turn::Leave(k) => {
             sink(alloc, shading(action_at(actions, k)), stack)?;
             Ok(tokens)
         }
@@ -100,27 +95,62 @@ fn too_deep(stack: &mut Vec<Shaded>) -> Option<Place>
     }
 }
 
-/// Where the first part begins that has 64 parts above it, by the trace of the tokens' derivation; none where no part has. The
-/// error is NoMemory wherever the tokens make anything.
-pub fn find_too_deep(
+/// Where the first part begins that has 64 parts above it; none where no part has.
+fn find_place(
     alloc: Global,
-    language: &Language,
     actions: &[Action],
-    trace: &[u16],
-    text: &[u8],
+    turns: &[Turn],
     tokens: &[Token],
 ) -> Result<Option<Place>, Stop>
-    requires { IsTrue (is_ll1 language.now) }
-    ensures { (behind : List Shade) → Leftmost (grammar_of language.now) trace.now (Symbol.Name language.now.start ∷ [])
-        (kinds_of false (lexemes_of text.now tokens.now))
-        → Runs (grammar_of language.now) (shade_making actions.now) (Symbol.Name language.now.start ∷ [])
-        (kinded false (lexemes_of text.now tokens.now)) [] behind → Built (λ place. place) result (place_at most_levels behind) }
+    ensures { (text : List ℕ) (behind : List Shade) → Plays (shade_making actions.now) turns.now (lexemes_of text tokens.now) [] behind
+        → Built (λ place. place) result (place_at most_levels behind) }
 {
-    let mut walk = Walk::new(alloc, language, trace)?;
     let mut stack = Vec::new(alloc);
     let mut rest = tokens;
-    'steps: while let Some(step) = walk.step()? {
-        rest = take(alloc, actions, step, rest, &mut stack)?;
+    for turn in turns {
+        rest = take(alloc, actions, *turn, rest, &mut stack)?;
     }
     Ok(too_deep(&mut stack))
+}
+
+/// What a turn does with the levels of the values on the stack.
+fn take_levels(actions: &[Action], turn: Turn, stack: &mut Vec<u8>) -> Result<(), Stop>
+    ensures { Turned (level_making actions.now) turn result (levels_in stack.old) (levels_in stack.new) }
+{
+    match turn {
+        Turn::Pass => {
+            levels::push(stack, 0)?;
+            Ok(())
+        }
+        Turn::Leave(k) => levels::sink(shading(action_at(actions, k)), stack),
+    }
+}
+
+/// How many levels the whole has, where more than are too deep count as so many.
+fn count_levels(alloc: Global, actions: &[Action], turns: &[Turn]) -> Result<u8, Stop>
+    ensures { (behind : List ℕ) → Makes (level_making actions.now) turns.now [] behind → Built (λ levels. levels) result (level_at behind) }
+{
+    let mut stack = Vec::new(alloc);
+    for turn in turns {
+        take_levels(actions, *turn, &mut stack)?;
+    }
+    Ok(levels::top(&mut stack))
+}
+
+/// Where the first part begins that has 64 parts above it, by the turns of the tokens' walk; none where no part has. The error is
+/// NoMemory wherever the turns make anything of the tokens.
+pub fn find_too_deep(
+    alloc: Global,
+    actions: &[Action],
+    turns: &[Turn],
+    tokens: &[Token],
+) -> Result<Option<Place>, Stop>
+    ensures { (text : List ℕ) (behind : List Shade) → Plays (shade_making actions.now) turns.now (lexemes_of text tokens.now) [] behind
+        → Built (λ place. place) result (place_at most_levels behind) }
+{
+    let levels = count_levels(alloc, actions, turns)?;
+    if (levels as usize) <= MOST_LEVELS {
+        return Ok(None);
+    }
+    find_place(alloc, actions, turns, tokens)
 }

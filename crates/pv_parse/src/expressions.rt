@@ -14,6 +14,7 @@ use crate::item::{Item, Sliced};
 use crate::numbers::{area_of, number_type};
 use crate::stack::{Stop, pop_expr, pop_path, pop_token, push, word_in};
 use crate::texts::{compare_of, function_of, times_of, truth_of};
+use pv_lex::token_value;
 use pv_place::Place;
 use pv_tree::{BinaryOp, Expr, Operand, Root, Step, UnaryOp};
 use pv_types::Name;
@@ -225,7 +226,7 @@ pub fn number(stack: &mut Vec<Item>) -> Result<(), Stop>
         stack,
         Item::Expr(Expr::Lit {
             ty,
-            value: token.value,
+            value: token_value(token.kind, token.bytes),
             place: token.place,
         }),
     )?;

@@ -8,13 +8,12 @@ use pv_place::Place;
 use pv_tree::{Expr, Operand};
 use pv_types::Literal;
 
-/// A token with its bytes.
+/// A token with its bytes, from which its value is computed where one is asked for.
 #[derive(Clone, Copy)]
 pub struct Sliced<'a> {
-    pub kind: Kind,
     pub bytes: &'a [u8],
-    pub value: i128,
     pub place: Place,
+    pub kind: Kind,
 }
 
 /// A thing on the stack.
@@ -33,3 +32,6 @@ pub enum Item<'a> {
     /// A part of a declaration or of a block.
     Decl(DeclItem),
 }
+
+// An item's bytes: each push and each pop moves them.
+const _: () = prove!(size_of::<Item>() <= 80);

@@ -15,6 +15,7 @@ mod instr_shades;
 mod item;
 mod kind;
 mod laws;
+mod levels;
 mod look_up;
 mod numbers;
 mod outside;
@@ -27,7 +28,8 @@ mod texts;
 mod token_kinds;
 
 pub use action::{
-    Action, BlockAction, CallAction, DeclAction, ExprAction, InstrAction, StmtAction, action_at,
+    Action, BlockAction, CallAction, DeclAction, ExprAction, InstrAction, StmtAction, acting,
+    action_at,
 };
 pub use code_item::{CodeItem, Value};
 pub use decl_item::{Bounds, DeclItem, Fields, Heading};

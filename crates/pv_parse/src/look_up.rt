@@ -1,5 +1,5 @@
 //! Tables of words and of signs, and what a text is by them, whatever the case of its letters.
-ghost use Rattle.std.specs.Prelude.{◌≡◌, ℕ, map, unwrap_or};
+ghost use Rattle.std.specs.Prelude.{◌≡◌, ◌<◌, ℕ, [], ◌∷◌, map, unwrap_or};
 ghost use Rattle.std.specs.Str.{str_eq_ignore_ascii_case};
 ghost use Rattle.pv_parse.specs.LookUps.{entry_of, look_up};
 
@@ -28,4 +28,13 @@ pub fn is_same(text: &[u8], word: &[u8]) -> bool
     ensures { result ≡ str_eq_ignore_ascii_case text.now word.now }
 {
     text.eq_ignore_ascii_case(word)
+}
+
+/// Whether the text is this sign, which is no letter.
+#[inline(always)]
+pub fn is_sign(text: &[u8], sign: u8) -> bool
+    requires { sign < 65 }
+    ensures { result ≡ str_eq_ignore_ascii_case text.now (sign ∷ []) }
+{
+    text.len() == 1 && text[0] == sign
 }

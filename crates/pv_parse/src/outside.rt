@@ -5,13 +5,13 @@ ghost use Rattle.std.specs.Prelude.{◌≡◌, IfSome, IfNone, Contains};
 ghost use Rattle.std.specs.Option.{option_map};
 ghost use Rattle.pv_lex.specs.Shapes.{is_one_of};
 ghost use Rattle.pv_tree.specs.Lexemes.{lexeme_of, lexemes_of};
-ghost use Rattle.pv_tree.specs.Outside.{IsFirstOutside, IsWithin, area_words, is_area_word, is_outside_sign, is_outside_kind, is_number_next, is_colon_next};
-ghost use Rattle.pv_parse.specs.Roles.{spot_of, find_outside, is_outside_unmarked, is_outside_by_role, word_role};
+ghost use Rattle.pv_tree.specs.Outside.{IsFirstOutside, IsWithin, area_words, is_area_word, is_outside_sign, is_number_next, is_colon_next};
+ghost use Rattle.pv_parse.specs.Roles.{spot_of, find_outside, passed_kind, passed_word, passed_sign, is_outside_by_role, word_role};
 ghost use Rattle.pv_tree.specs.Outside.{first_spot};
 
-use crate::look_up::is_same;
+use crate::look_up::{is_same, is_sign};
 use crate::role::{AREA_WORD, LEFT_OUT_INSTRUCTION, LEFT_OUT_WORD, TIMER_WORD, role_of};
-use crate::spot::{Spot, behind, first_spot};
+use crate::spot::{Spot, behind_other, behind_role, behind_sign, first_spot};
 use crate::token_kinds::{are_digits, bytes_of};
 use pv_lex::{Kind, Language, Token};
 
@@ -36,47 +36,75 @@ fn find(language: Language, text: &[u8], tokens: &[Token]) -> Option<Token>
     for i in 0..tokens.len() {
         let token = &tokens[i];
         let bytes = bytes_of(text, token);
-        if is_outside(language, spot, token.kind, bytes, text, &tokens[i + 1..]) {
-            return Some(*token);
+        match passed(language, spot, token.kind, bytes, text, &tokens[i + 1..]) {
+            Some(next) => spot = next,
+            None => return Some(*token),
         }
-        spot = behind(spot, token.kind, bytes);
     }
     None
 }
 
-/// Whether a token of these bytes is outside, at such a spot and before the others.
-fn is_outside(
+/// The spot behind a token of these bytes, at such a spot and before the others, or none where it is outside.
+fn passed(
     language: Language,
     spot: Spot,
     kind: Kind,
     bytes: &[u8],
     text: &[u8],
     others: &[Token],
-) -> bool
-    ensures { result ≡ is_outside_kind kind language (spot_of spot) bytes.now (lexemes_of text.now others.now) }
+) -> Option<Spot>
+    ensures { option_map spot_of result ≡ passed_kind kind language (spot_of spot) bytes.now (lexemes_of text.now others.now) }
 {
     match kind {
-        Kind::Real => true,
-        Kind::Sign => is_same(bytes, b"**") || is_outside_sign(language, spot, bytes, text, others),
-        Kind::Word => !spot.marked && is_outside_word(language, spot, bytes, text, others),
-        _ => false,
+        Kind::Real => None,
+        Kind::Sign => passed_sign(language, spot, bytes, text, others),
+        Kind::Word => {
+            if spot.marked {
+                Some(behind_other(spot))
+            } else {
+                passed_word(language, spot, bytes, text, others)
+            }
+        }
+        Kind::Quoted | Kind::Number | Kind::Address | Kind::End => Some(behind_other(spot)),
     }
 }
 
-/// Whether a word is outside where no mark stands before it.
-fn is_outside_word(
+/// The same, of a word where no mark stands before it.
+fn passed_word(
     language: Language,
     spot: Spot,
     bytes: &[u8],
     text: &[u8],
     others: &[Token],
-) -> bool
-    ensures { result ≡ is_outside_unmarked language (spot_of spot) bytes.now (lexemes_of text.now others.now) }
+) -> Option<Spot>
+    ensures { option_map spot_of result ≡ passed_word language (spot_of spot) bytes.now (lexemes_of text.now others.now) }
 {
-    is_role_outside(language, spot, role_of(bytes), bytes, text, others)
+    let role = role_of(bytes);
+    if is_role_outside(language, spot, role, bytes, text, others) {
+        None
+    } else {
+        Some(behind_role(spot, role))
+    }
 }
 
-/// The same, by what the word is.
+/// The same, of a sign.
+fn passed_sign(
+    language: Language,
+    spot: Spot,
+    bytes: &[u8],
+    text: &[u8],
+    others: &[Token],
+) -> Option<Spot>
+    ensures { option_map spot_of result ≡ passed_sign language (spot_of spot) bytes.now (lexemes_of text.now others.now) }
+{
+    if is_same(bytes, b"**") || is_outside_sign(language, spot, bytes, text, others) {
+        None
+    } else {
+        Some(behind_sign(spot, bytes))
+    }
+}
+
+/// Whether a word of this role is outside where no mark stands before it.
 fn is_role_outside(
     language: Language,
     spot: Spot,
@@ -121,7 +149,7 @@ fn is_outside_sign(
 {
     match language {
         Language::Scl => false,
-        Language::Stl => spot.begins && is_same(bytes, b"+") && is_number_next(text, others),
+        Language::Stl => spot.begins && is_sign(bytes, b'+') && is_number_next(text, others),
     }
 }
 
@@ -134,7 +162,7 @@ fn is_area_word(bytes: &[u8]) -> bool
         return false;
     }
     let (front, digits) = bytes.split_at(3);
-    is_area(front) && are_digits(digits)
+    are_digits(digits) && is_area(front)
 }
 
 /// Whether the word is one that an area is written with.
@@ -159,7 +187,7 @@ fn is_colon_next(text: &[u8], others: &[Token]) -> bool
     ensures { result ≡ is_colon_next (lexemes_of text.now others.now) }
 {
     match others {
-        [next, ..] => next.kind == Kind::Sign && is_same(bytes_of(text, next), b":"),
+        [next, ..] => next.kind == Kind::Sign && is_sign(bytes_of(text, next), b':'),
         [] => false,
     }
 }

@@ -1,12 +1,11 @@
 //! What the tokens before a place say of it, as far as it matters for words outside the profile.
 ghost use Rattle.std.specs.Prelude.{◌≡◌};
-ghost use Rattle.pv_tree.specs.Outside.{first_spot, behind_other, behind_kind, behind_word, behind_sign};
+ghost use Rattle.pv_tree.specs.Outside.{first_spot, behind_other, behind_sign};
 ghost use Rattle.pv_parse.specs.Roles.{spot_of, behind_role};
 
-use crate::look_up::is_same;
-use crate::role::{BEGIN_WORD, CODE_WORD, DATA_WORD, END_WORD, NETWORK_WORD, role_of};
+use crate::look_up::is_sign;
+use crate::role::{BEGIN_WORD, CODE_WORD, DATA_WORD, END_WORD, NETWORK_WORD};
 use crate::token_kinds::is_mark;
-use pv_lex::Kind;
 
 /// A place between tokens.
 #[derive(Clone, Copy)]
@@ -36,25 +35,8 @@ pub fn first_spot() -> Spot
     }
 }
 
-/// The spot behind a token of these bytes.
-pub fn behind(spot: Spot, kind: Kind, bytes: &[u8]) -> Spot
-    ensures { spot_of result ≡ behind_kind kind (spot_of spot) bytes.now }
-{
-    match kind {
-        Kind::Word => {
-            if spot.marked {
-                behind_other(spot)
-            } else {
-                behind_word(spot, bytes)
-            }
-        }
-        Kind::Sign => behind_sign(spot, bytes),
-        _ => behind_other(spot),
-    }
-}
-
 /// The spot behind a token that says nothing of what follows it.
-fn behind_other(spot: Spot) -> Spot
+pub fn behind_other(spot: Spot) -> Spot
     ensures { spot_of result ≡ behind_other (spot_of spot) }
 {
     Spot {
@@ -66,15 +48,8 @@ fn behind_other(spot: Spot) -> Spot
     }
 }
 
-/// The spot behind a word that isn't directly behind `#` or `.`.
-fn behind_word(spot: Spot, bytes: &[u8]) -> Spot
-    ensures { spot_of result ≡ behind_word (spot_of spot) bytes.now }
-{
-    behind_role(spot, role_of(bytes))
-}
-
-/// The same, by what the word is.
-fn behind_role(spot: Spot, role: u8) -> Spot
+/// The spot behind a word of this role that isn't directly behind `#` or `.`.
+pub fn behind_role(spot: Spot, role: u8) -> Spot
     ensures { spot_of result ≡ behind_role (spot_of spot) role }
 {
     let mut next = behind_other(spot);
@@ -97,11 +72,11 @@ fn behind_role(spot: Spot, role: u8) -> Spot
 
 /// The spot behind a sign.
 #[tactic(auto, unfolding(pv_tree::specs::Outside::behind_sign))]
-fn behind_sign(spot: Spot, bytes: &[u8]) -> Spot
+pub fn behind_sign(spot: Spot, bytes: &[u8]) -> Spot
     ensures { spot_of result ≡ behind_sign (spot_of spot) bytes.now }
 {
     let mut next = behind_other(spot);
     next.marked = is_mark(bytes);
-    next.begins = (is_same(bytes, b";") && spot.in_code) || (is_same(bytes, b":") && spot.labels);
+    next.begins = (is_sign(bytes, b';') && spot.in_code) || (is_sign(bytes, b':') && spot.labels);
     next
 }

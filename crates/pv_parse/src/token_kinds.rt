@@ -16,7 +16,7 @@ use crate::entries::{signs_with, words_with};
 use crate::kind::{
     ADDRESS, FREE_NUMBERED, FREE_PREFIX, FREE_WORD, NUMBER, NUMBERED, OUTSIDE, PLAIN, QUOTED,
 };
-use crate::look_up::{is_same, meaning_of};
+use crate::look_up::{is_same, is_sign, meaning_of};
 use pv_lex::{Kind, Token};
 use std::alloc::{AllocError, Global};
 
@@ -88,7 +88,7 @@ pub fn marks_by(kind: Kind, bytes: &[u8]) -> bool
 pub fn is_mark(bytes: &[u8]) -> bool
     ensures { result ≡ is_mark bytes.now }
 {
-    is_same(bytes, b"#") || is_same(bytes, b".")
+    is_sign(bytes, b'#') || is_sign(bytes, b'.')
 }
 
 /// The kind of a word that isn't directly behind `#` or `.`.
@@ -171,7 +171,7 @@ fn is_numbered_at(bytes: &[u8], len: usize) -> bool
         return false;
     }
     let (front, digits) = bytes.split_at(len);
-    is_prefix(front) && are_digits(digits)
+    are_digits(digits) && is_prefix(front)
 }
 
 /// Whether the bytes are digits, at least one.

@@ -9,7 +9,7 @@ ghost use Rattle.pv_parse.specs.Items.{stack_of, path, path_tree, token_on, path
 ghost use Rattle.pv_parse.specs.ExprDeeds.{rooted, stepped};
 ghost use Rattle.pv_parse.specs.CallDeeds.{name_of_root, named_of, is_hashed, field_of, base_of, plain_on, quoted_on, pair_on, hashed_name, second_name, named_on, first_argument_deed, next_argument_deed, no_argument_deed, alone_deed, call_of, call_deed, call_value_deed, expr_value_deed, call_action_deed};
 
-use crate::parts::{pop_args, pop_boxed_call};
+use crate::parts::{pop_args, pop_call};
 use pv_parse::{
     CallAction, CodeItem, Item, Stop, Value, added, joined_name, pop_boxed, pop_expr, pop_path,
     pop_token, push, push_root, push_step, with,
@@ -281,15 +281,16 @@ fn call(alloc: Global, stack: &mut Vec<Item>) -> Result<(), Stop>
     let (args, _begin) = with(args, pop_token(stack))?;
     let (args, path) = with(args, pop_path(stack))?;
     let call = called(alloc, path, args)?;
+    let call = Box::new(alloc, call)?;
     push(stack, Item::Code(CodeItem::Call(call)))?;
     Ok(())
 }
 
 /// The right side of an assignment is a call.
-fn call_value(alloc: Global, stack: &mut Vec<Item>) -> Result<(), Stop>
+fn call_value(stack: &mut Vec<Item>) -> Result<(), Stop>
     ensures { Leaves result (stack_of stack.new) (call_value_deed (stack_of stack.old)) }
 {
-    let call = pop_boxed_call(alloc, stack)?;
+    let call = pop_call(stack)?;
     push(stack, Item::Code(CodeItem::Value(Value::Call(call))))?;
     Ok(())
 }
@@ -319,7 +320,7 @@ pub fn act_on_call(alloc: Global, action: CallAction, stack: &mut Vec<Item>) -> 
         CallAction::NoArgument => no_argument(alloc, stack),
         CallAction::Alone => alone(alloc, stack),
         CallAction::Call => call(alloc, stack),
-        CallAction::CallValue => call_value(alloc, stack),
+        CallAction::CallValue => call_value(stack),
         CallAction::ExprValue => expr_value(alloc, stack),
     }
 }

@@ -7,6 +7,6 @@ mod parts;
 
 pub use calls::{act_on_call, path_name};
 pub use parts::{
-    mistyped_code, mistyped_decl, pop_args, pop_body, pop_boxed_call, pop_call, pop_code, pop_decl,
-    pop_literal, pop_words,
+    mistyped_code, mistyped_decl, pop_args, pop_body, pop_call, pop_code, pop_decl, pop_literal,
+    pop_words,
 };

@@ -11,7 +11,6 @@ use pv_parse::{CodeItem, DeclItem, Item, Stop, mistyped, pop_item};
 use pv_place::Place;
 use pv_tree::{Arg, Body, CallTree};
 use pv_types::{Literal, Name};
-use std::alloc::Global;
 
 fn literal_in(item: Item) -> Result<Literal, Stop>
     ensures { Finds (λ literal. literal) result (literal_in (item_of item.entry)) }
@@ -76,8 +75,8 @@ pub fn pop_args<'a>(stack: &mut Vec<Item<'a>>) -> Result<Vec<Arg>, Stop>
     Ok(found)
 }
 
-fn call_in(item: CodeItem) -> Result<CallTree, Stop>
-    ensures { Finds call_tree result (call_in (code_of item)) }
+fn call_in(item: CodeItem) -> Result<Box<CallTree>, Stop>
+    ensures { Finds (λ call. call_tree call.value) result (call_in (code_of item)) }
 {
     match item {
         CodeItem::Call(found) => Ok(found),
@@ -86,21 +85,12 @@ fn call_in(item: CodeItem) -> Result<CallTree, Stop>
 }
 
 /// Takes a call.
-pub fn pop_call<'a>(stack: &mut Vec<Item<'a>>) -> Result<CallTree, Stop>
-    ensures { Pops call_tree result (stack_of stack.new) (call_on (stack_of stack.old)) }
+pub fn pop_call<'a>(stack: &mut Vec<Item<'a>>) -> Result<Box<CallTree>, Stop>
+    ensures { Pops (λ call. call_tree call.value) result (stack_of stack.new) (call_on (stack_of stack.old)) }
 {
     let item = pop_code(stack)?;
     let found = call_in(item)?;
     Ok(found)
-}
-
-/// Takes a call into a box.
-pub fn pop_boxed_call(alloc: Global, stack: &mut Vec<Item>) -> Result<Box<CallTree>, Stop>
-    ensures { Pops (λ call. call_tree call.value) result (stack_of stack.new) (call_on (stack_of stack.old)) }
-{
-    let call = pop_call(stack)?;
-    let call = Box::new(alloc, call)?;
-    Ok(call)
 }
 
 /// A part of a declaration or of a block is another than what was asked for. It is dropped here, as above.

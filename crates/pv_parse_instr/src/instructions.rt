@@ -135,10 +135,9 @@ fn parenthesis<'a>() -> Item<'a>
     ensures { item_of result ≡ token no_token }
 {
     Item::Token(Sliced {
-        kind: Kind::Sign,
         bytes: b"",
-        value: 0,
         place: Place { file: 0, offset: 0 },
+        kind: Kind::Sign,
     })
 }
 
@@ -160,7 +159,6 @@ fn call(alloc: Global, stack: &mut Vec<Item>) -> Result<(), Stop>
     let (mut call, front) = with(call, pop_front(alloc, stack))?;
     let op = op_of(front.token.bytes);
     call.place = front.token.place;
-    let (front, call) = with(front, Box::new(alloc, call))?;
     add(stack, front, op, Behind::Call(call))?;
     Ok(())
 }

@@ -8,6 +8,7 @@ ghost use Rattle.pv_tree.specs.Literals.{is_based, loaded_type};
 ghost use Rattle.pv_parse.specs.Items.{stack_of, lexeme_of_slice, Finds, Leaves};
 ghost use Rattle.pv_parse.specs.InstrDeeds.{type_behind, number_behind, number_deed, negative_deed, truth_deed};
 
+use pv_lex::token_value;
 use pv_parse::{Item, Sliced, Stop, is_text, number_type, pop_token, push, truth_of};
 use pv_place::Place;
 use pv_types::Literal;
@@ -94,7 +95,8 @@ pub fn number(stack: &mut Vec<Item>) -> Result<(), Stop>
 {
     let token = pop_token(stack)?;
     let op = pop_token(stack)?;
-    let literal = number_behind(op, token, token.value, token.place);
+    let value = token_value(token.kind, token.bytes);
+    let literal = number_behind(op, token, value, token.place);
     push(stack, Item::Token(op))?;
     push(stack, Item::Literal(literal))?;
     Ok(())
@@ -118,7 +120,7 @@ pub fn negative(stack: &mut Vec<Item>) -> Result<(), Stop>
     let token = pop_token(stack)?;
     let minus = pop_token(stack)?;
     let op = pop_token(stack)?;
-    let value = negated(token.value)?;
+    let value = negated(token_value(token.kind, token.bytes))?;
     let literal = number_behind(op, token, value, minus.place);
     push(stack, Item::Token(op))?;
     push(stack, Item::Literal(literal))?;

@@ -1,12 +1,14 @@
--- Sources as texts: what reading one answers, from what the recognizer and the loop over the walk say, in each language whose
+-- Sources as texts: what reading one answers, from what the recognizer and the loops over the turns say, in each language whose
 -- derivations are exact.
-use Rattle.std.proofs.Common.{◌≡◌, ℕ, zero, suc, ◌+◌, ◌<◌, ◌≤◌, false, List, [], ◌∷◌, ◌++◌, All, take, Some, None, Option, Result, Ok, Err, ap, ◌∙◌, sym, subst}
+use Rattle.std.proofs.Common.{◌≡◌, ℕ, zero, suc, ◌+◌, ◌<◌, ◌≤◌, Bool, false, List, [], ◌∷◌, ◌++◌, All, take, Some, None, Option, Result, Ok, Err, ap, ◌∙◌, sym, subst}
 use Rattle.std.specs.List.{slice_get}
 use Rattle.std.proofs.lemmas.List.Elements.{All-head, All-tail}
 use Rattle.pv_place.specs.declared.place.Place.{Place}
 use Rattle.pv_ll.specs.declared.table.Symbol.TheVariants.{Name}
 use Rattle.pv_ll.specs.declared.table.Language.{Language}
-use Rattle.pv_ll.specs.Grammar.{Leftmost, IsSentence, IsFault, IsExact}
+use Rattle.pv_ll.specs.declared.turn.Turn.{Turn}
+use Rattle.pv_ll.specs.Grammar.{IsSentence, IsFault}
+use Rattle.pv_ll.specs.Turns.{IsExact}
 use Rattle.pv_ll.specs.Table.{grammar_of}
 use Rattle.pv_ll.specs.Making.{Runs}
 use Rattle.pv_ll.proofs.ForCallers.{forgotten}
@@ -27,10 +29,10 @@ use Rattle.pv_parse.proofs.ForCallers.{kinds-append, witness-of, kinds_kinded, k
 use Rattle.std.proofs.lemmas.Option.{none-some}
 use Rattle.pv_parse.specs.declared.stack.Stop.{Stop}
 use Rattle.pv_parse.specs.declared.stack.Stop.TheVariants.{Mistyped}
-use Rattle.pv_parse.specs.Building.{Built}
+use Rattle.pv_parse.specs.Building.{Plays, Built}
 use Rattle.pv_parse.specs.Shades.{Shade, place_at}
 use Rattle.pv_parse.specs.ItemShades.{shade_making}
-use Rattle.pv_parse_source.proofs.Answering.{Finds, exact_in, traced}
+use Rattle.pv_parse_source.proofs.Answering.{Finds, Told, exact_in, played, shades_played, finds}
 
 sentence_of : (its : Of) (l : Language) (actions : List Action) → ReadsSources its l actions → (all : List BlockTree) (ls : List Lexeme)
     → ReadAsBlocks its all ls → IsSentence (grammar_of l) l.start (kinds_of false ls)
@@ -84,13 +86,12 @@ fault_of its l actions h ls i kinds f =
 
 -- ---- blocks
 
--- what the walk over the shades finds is what the source's shade has at the depth that is too deep
-found_of : (its : Of) (l : Language) (actions : List Action) (ls : List Lexeme) (trace : List ℕ) (found : Option Place) (h : ReadsSources its l actions)
-    (all : List BlockTree) (r : ReadAsBlocks its all ls) → Leftmost (grammar_of l) trace (Name l.start ∷ []) (kinds_of false ls)
-    → Finds l actions ls trace found → found ≡ slice_get (h.shaded all ls r).shade.parts most_levels
-found_of its l actions ls trace found h all r there finds =
+-- what the loop over the shades finds is what the source's shade has at the depth that is too deep
+found_of : (its : Of) (l : Language) (actions : List Action) (ls : List Lexeme) (found : Option Place) (h : ReadsSources its l actions)
+    (all : List BlockTree) (r : ReadAsBlocks its all ls) → Finds l actions ls found → found ≡ slice_get (h.shaded all ls r).shade.parts most_levels
+found_of its l actions ls found h all r found_is =
     let x : IsShaded its l actions all ls r = h.shaded all ls r in
-    finds (x.shade ∷ []) there x.runs
+    found_is (x.shade ∷ []) x.runs
 
 abbrev first : Option (List BlockTree × Stack) → List BlockTree → List BlockTree
 first (Some x) d = x.0
@@ -101,12 +102,12 @@ top_is stack all got left p q =
     let r : ◌≡◌ {A = Option (List BlockTree × Stack)} (Some (all, [])) (Some (got, left)) = sym (ap (λ (z : Stack). blocks_on z) p) ∙ q in
     ap (λ (z : Option (List BlockTree × Stack)). first z all) r
 
-only_source : (its : Of) (l : Language) (actions : List Action) (ls : List Lexeme) (trace : List ℕ) (stack left : Stack) (got : List BlockTree)
+only_source : (its : Of) (l : Language) (actions : List Action) (ls : List Lexeme) (stack left : Stack) (got : List BlockTree)
     → ReadsSources its l actions → HaveKinds ls (kinds_of false ls) → IsSentence (grammar_of l) l.start (kinds_of false ls)
-    → Leftmost (grammar_of l) trace (Name l.start ∷ []) (kinds_of false ls) → Finds l actions ls trace None
+    → Finds l actions ls None
     → ((behind : Stack) → Runs (grammar_of l) (making actions) (Name l.start ∷ []) (kinded false ls) [] behind → stack ≡ behind)
     → blocks_on stack ≡ Some (got, left) → IsOnlySource its got ls
-only_source its l actions ls trace stack left got h kinds s there finds built top =
+only_source its l actions ls stack left got h kinds s found_is built top =
     let f : ReadBlocks its ls = h.sound ls (kinds_of false ls) kinds s in
     let one : (all : List BlockTree) → ReadAsBlocks its all ls → all ≡ got = λ all r.
     top_is stack all got left (built (blocks all ∷ []) (h.complete all ls r)) top in
@@ -114,88 +115,71 @@ only_source its l actions ls trace stack left got h kinds s there finds built to
     record {
       read = read;
       only = one;
-      shallow = (h.shaded got ls read).shallow (sym (found_of its l actions ls trace None h got read there finds));
+      shallow = (h.shaded got ls read).shallow (sym (found_of its l actions ls None h got read found_is));
     }
 
 -- blocks that nest too deep
-deep_source : (its : Of) (l : Language) (actions : List Action) (ls : List Lexeme) (trace : List ℕ) (place : Place) → ReadsSources its l actions
-    → HaveKinds ls (kinds_of false ls) → LieInOrder 0 ls → IsSentence (grammar_of l) l.start (kinds_of false ls)
-    → Leftmost (grammar_of l) trace (Name l.start ∷ []) (kinds_of false ls) → Finds l actions ls trace (Some place) → IsDeepSource its ls place
-deep_source its l actions ls trace place h kinds order s there finds =
+deep_source : (its : Of) (l : Language) (actions : List Action) (ls : List Lexeme) (place : Place) → ReadsSources its l actions
+    → HaveKinds ls (kinds_of false ls) → LieInOrder 0 ls → IsSentence (grammar_of l) l.start (kinds_of false ls) → Finds l actions ls (Some place)
+    → IsDeepSource its ls place
+deep_source its l actions ls place h kinds order s found_is =
     let f : ReadBlocks its ls = h.sound ls (kinds_of false ls) kinds s in
     record {
       all = f.all;
       read = f.read;
-      deepest = (h.shaded f.all ls f.read).deepest place order (sym (found_of its l actions ls trace (Some place) h f.all f.read there finds));
+      deepest = (h.shaded f.all ls f.read).deepest place order (sym (found_of its l actions ls (Some place) h f.all f.read found_is));
     }
 
 -- ---- by the recognizer's answer
 
-pub at_fault : (its : Of) (l : Language) (actions : List Action) (ls : List Lexeme) (ks : List ℕ) (answer : Result (List ℕ) ℕ) (i : ℕ)
-    → ReadsSources its l actions → HaveKinds ls (kinds_of false ls) → ks ≡ kinds_of false ls → answer ≡ Err i → IsExact (grammar_of l) l.start ks answer
-    → IsSyntaxFault (ReadAsBlocks its) ls i
-at_fault its l actions ls ks answer i h kinds e f x = fault_of its l actions h ls i kinds (exact_in l ls ks answer (Err i) e f x)
+pub at_fault : (its : Of) (l : Language) (actions : List Action) (ls : List Lexeme) (flags : List Bool) (ks : List ℕ) (answer : Result (List Turn) ℕ)
+    (i : ℕ) → ReadsSources its l actions → HaveKinds ls (kinds_of false ls) → ks ≡ kinds_of false ls → answer ≡ Err i
+    → IsExact (grammar_of l) l.start flags ks answer → IsSyntaxFault (ReadAsBlocks its) ls i
+at_fault its l actions ls flags ks answer i h kinds e f x = fault_of its l actions h ls i kinds (exact_in l flags ls ks answer (Err i) e f x)
 
-pub read_well : (its : Of) (l : Language) (actions : List Action) (ls : List Lexeme) (ks : List ℕ) (answer : Result (List ℕ) ℕ)
-    (trace handed again : List ℕ) (found : Option Place) (stack left : Stack) (got : List BlockTree) → ReadsSources its l actions
-    → HaveKinds ls (kinds_of false ls) → ks ≡ kinds_of false ls → answer ≡ Ok trace → handed ≡ trace → again ≡ trace
-    → IsExact (grammar_of l) l.start ks answer → found ≡ None → Finds l actions ls again found
-    → ((behind : Stack) → Leftmost (grammar_of l) handed (Name l.start ∷ []) (kinds_of false ls)
-    → Runs (grammar_of l) (making actions) (Name l.start ∷ []) (kinded false ls) [] behind → stack ≡ behind)
-    → blocks_on stack ≡ Some (got, left) → IsOnlySource its got ls
-read_well its l actions ls ks answer trace handed again found stack left got h kinds p f t u x none finds built top =
-    let there = traced l ls ks answer trace handed p f t x in
-    let walked = traced l ls ks answer trace again p f u x in
-    only_source its l actions ls again stack left got h kinds there.sentence walked.leftmost
-    (subst (λ (z : Option Place). Finds l actions ls again z) none finds) (λ behind runs. built behind there.leftmost runs) top
+pub read_well : (its : Of) (l : Language) (actions : List Action) (ls : List Lexeme) (handed again : List Turn) (found : Option Place)
+    (stack left : Stack) (got : List BlockTree) → ReadsSources its l actions → HaveKinds ls (kinds_of false ls) → Told l actions ls handed
+    → Told l actions ls again → found ≡ None
+    → ((behind : List Shade) → Plays (shade_making actions) again ls [] behind → found ≡ place_at most_levels behind)
+    → ((behind : Stack) → Plays (making actions) handed ls [] behind → stack ≡ behind) → blocks_on stack ≡ Some (got, left) → IsOnlySource its got ls
+read_well its l actions ls handed again found stack left got h kinds t u none found_is built top =
+    only_source its l actions ls stack left got h kinds t.sentence (finds l actions ls again u found None none found_is)
+    (λ behind r. built behind (played l actions ls handed t behind r)) top
 
-pub too_deep : (its : Of) (l : Language) (actions : List Action) (ls : List Lexeme) (ks : List ℕ) (answer : Result (List ℕ) ℕ) (trace again : List ℕ)
-    (found : Option Place) (place : Place) → ReadsSources its l actions → HaveKinds ls (kinds_of false ls) → LieInOrder 0 ls
-    → ks ≡ kinds_of false ls → answer ≡ Ok trace → again ≡ trace → IsExact (grammar_of l) l.start ks answer → found ≡ Some place
-    → Finds l actions ls again found → IsDeepSource its ls place
-too_deep its l actions ls ks answer trace again found place h kinds order p f u x some finds =
-    let walked = traced l ls ks answer trace again p f u x in
-    deep_source its l actions ls again place h kinds order walked.sentence walked.leftmost
-    (subst (λ (z : Option Place). Finds l actions ls again z) some finds)
+pub too_deep : (its : Of) (l : Language) (actions : List Action) (ls : List Lexeme) (turns : List Turn) (found : Option Place) (place : Place)
+    → ReadsSources its l actions → HaveKinds ls (kinds_of false ls) → LieInOrder 0 ls → Told l actions ls turns → found ≡ Some place
+    → ((behind : List Shade) → Plays (shade_making actions) turns ls [] behind → found ≡ place_at most_levels behind) → IsDeepSource its ls place
+too_deep its l actions ls turns found place h kinds order t some found_is =
+    deep_source its l actions ls place h kinds order t.sentence (finds l actions ls turns t found (Some place) some found_is)
 
--- ---- what can't come: the walk along the trace of tokens that read is never mistyped
+-- ---- what can't come: the turns of tokens that read make something
 
-module _ (its : Of) (l : Language) (actions : List Action) (ls : List Lexeme) (ks : List ℕ) (answer : Result (List ℕ) ℕ) (trace handed : List ℕ) where
-  -- the shade of what they read as is there behind the walk
-  pub never_deep : (r : Result (Option Place) Stop) → ReadsSources its l actions → HaveKinds ls (kinds_of false ls)
-      → ks ≡ kinds_of false ls → answer ≡ Ok trace → handed ≡ trace → IsExact (grammar_of l) l.start ks answer
-      → r ≡ Err Mistyped
-      → ((behind : List Shade) → Leftmost (grammar_of l) handed (Name l.start ∷ []) (kinds_of false ls)
-      → Runs (grammar_of l) (shade_making actions) (Name l.start ∷ []) (kinded false ls) [] behind
-      → Built (λ (o : Option Place). o) r (place_at most_levels behind))
-      → ⊥
-  never_deep r h kinds p f t x is found =
-      let there = traced l ls ks answer trace handed p f t x in
-      let b : ReadBlocks its ls = h.sound ls (kinds_of false ls) kinds there.sentence in
+module _ (its : Of) (l : Language) (actions : List Action) (ls : List Lexeme) (turns : List Turn) (h : ReadsSources its l actions)
+    (kinds : HaveKinds ls (kinds_of false ls)) (t : Told l actions ls turns) where
+  abbrev found_blocks : ReadBlocks its ls
+  found_blocks = h.sound ls (kinds_of false ls) kinds t.sentence
+
+  -- the shade of what they read as is there behind them
+  pub never_deep : (r : Result (Option Place) Stop) → r ≡ Err Mistyped
+      → ((behind : List Shade) → Plays (shade_making actions) turns ls [] behind → Built (λ (o : Option Place). o) r (place_at most_levels behind)) → ⊥
+  never_deep r is found =
+      let b : ReadBlocks its ls = found_blocks in
       let s : IsShaded its l actions b.all ls b.read = h.shaded b.all ls b.read in
       subst (λ (z : Result (Option Place) Stop). Built (λ (o : Option Place). o) z (place_at most_levels (s.shade ∷ []))) is
-      (found (s.shade ∷ []) there.leftmost s.runs)
+      (found (s.shade ∷ []) (shades_played l actions ls turns t (s.shade ∷ []) s.runs))
 
   -- so are their blocks
-  pub never_built : {X : Type 0} (view : X → Stack) (r : Result X Stop) → ReadsSources its l actions → HaveKinds ls (kinds_of false ls)
-      → ks ≡ kinds_of false ls → answer ≡ Ok trace → handed ≡ trace → IsExact (grammar_of l) l.start ks answer
-      → r ≡ Err Mistyped
-      → ((behind : Stack) → Leftmost (grammar_of l) handed (Name l.start ∷ []) (kinds_of false ls)
-      → Runs (grammar_of l) (making actions) (Name l.start ∷ []) (kinded false ls) [] behind → Built view r behind)
-      → ⊥
-  never_built {X} view r h kinds p f t x is found =
-      let there = traced l ls ks answer trace handed p f t x in
-      let b : ReadBlocks its ls = h.sound ls (kinds_of false ls) kinds there.sentence in
-      subst (λ (z : Result X Stop). Built view z (blocks b.all ∷ [])) is (found (blocks b.all ∷ []) there.leftmost (h.complete b.all ls b.read))
+  pub never_built : {X : Type 0} (view : X → Stack) (r : Result X Stop) → r ≡ Err Mistyped
+      → ((behind : Stack) → Plays (making actions) turns ls [] behind → Built view r behind) → ⊥
+  never_built {X} view r is found =
+      let b : ReadBlocks its ls = found_blocks in
+      subst (λ (z : Result X Stop). Built view z (blocks b.all ∷ [])) is
+      (found (blocks b.all ∷ []) (played l actions ls turns t (blocks b.all ∷ []) (h.complete b.all ls b.read)))
 
   -- and they lie on top
-  pub never_without : (stack : Stack) → ReadsSources its l actions → HaveKinds ls (kinds_of false ls)
-      → ks ≡ kinds_of false ls → answer ≡ Ok trace → handed ≡ trace → IsExact (grammar_of l) l.start ks answer
-      → ((behind : Stack) → Leftmost (grammar_of l) handed (Name l.start ∷ []) (kinds_of false ls)
-      → Runs (grammar_of l) (making actions) (Name l.start ∷ []) (kinded false ls) [] behind → stack ≡ behind)
-      → blocks_on stack ≡ None → ⊥
-  never_without stack h kinds p f t x built none =
-      let there = traced l ls ks answer trace handed p f t x in
-      let b : ReadBlocks its ls = h.sound ls (kinds_of false ls) kinds there.sentence in
-      let whole : stack ≡ blocks b.all ∷ [] = built (blocks b.all ∷ []) there.leftmost (h.complete b.all ls b.read) in
+  pub never_without : (stack : Stack) → ((behind : Stack) → Plays (making actions) turns ls [] behind → stack ≡ behind) → blocks_on stack ≡ None → ⊥
+  never_without stack built none =
+      let b : ReadBlocks its ls = found_blocks in
+      let whole : stack ≡ blocks b.all ∷ [] =
+      built (blocks b.all ∷ []) (played l actions ls turns t (blocks b.all ∷ []) (h.complete b.all ls b.read)) in
       none-some (b.all, []) (sym none ∙ ap (λ (z : Stack). blocks_on z) whole)

@@ -28,6 +28,7 @@ fn block_name(alloc: Global, stack: &mut Vec<Item>) -> Result<(), Stop>
         value: None,
         of: None,
     };
+    let heading = Box::new(alloc, heading)?;
     put(stack, DeclItem::Heading(heading))?;
     Ok(())
 }
@@ -199,7 +200,7 @@ fn code(kind: BlockKind, stack: &mut Vec<Item>) -> Result<(), Stop>
     let (body, heading) = with(body, pop_heading(stack))?;
     let ((body, heading), _word) = with((body, heading), pop_token(stack))?;
     let ((body, heading), blocks) = with((body, heading), pop_blocks(stack))?;
-    let blocks = with_block(blocks, kind, heading, body)?;
+    let blocks = with_block(blocks, kind, Box::into_inner(heading), body)?;
     put(stack, DeclItem::Blocks(blocks))?;
     Ok(())
 }
@@ -229,7 +230,7 @@ fn data(stack: &mut Vec<Item>) -> Result<(), Stop>
     let (values, heading) = with(values, pop_heading(stack))?;
     let ((values, heading), _word) = with((values, heading), pop_token(stack))?;
     let ((values, heading), blocks) = with((values, heading), pop_blocks(stack))?;
-    let (heading, kind) = without_of(heading);
+    let (heading, kind) = without_of(Box::into_inner(heading));
     let blocks = with_block(blocks, kind, heading, Body::Starts(values))?;
     put(stack, DeclItem::Blocks(blocks))?;
     Ok(())
@@ -244,7 +245,7 @@ fn structure(alloc: Global, stack: &mut Vec<Item>) -> Result<(), Stop>
     let (heading, _word) = with(heading, pop_token(stack))?;
     let (heading, blocks) = with(heading, pop_blocks(stack))?;
     let body = Body::Starts(Vec::new(alloc));
-    let blocks = with_block(blocks, BlockKind::Udt, heading, body)?;
+    let blocks = with_block(blocks, BlockKind::Udt, Box::into_inner(heading), body)?;
     put(stack, DeclItem::Blocks(blocks))?;
     Ok(())
 }

@@ -7,7 +7,10 @@ ghost use Rattle.pv_parse.specs.DeclStack.{name_of};
 ghost use Rattle.pv_parse.specs.DeclDeeds.{declared, name_deed, number_deed, negative_deed, truth_deed, first_word_deed, next_word_deed, type_head_deed, simple_deed, unread_deed, named_deed, array_head_deed, array_deed, struct_head_deed, struct_deed, start_deed, no_start_deed, declared_deed, constant_of, constant_deed, own_head_deed, section_head_deed, const_head_deed, dropped_deed, decl_deed};
 
 use crate::decl_texts::{section_of_word, type_alone, type_of_word};
-use crate::pops::{pop_around, pop_bounds, pop_fields, pop_name, pop_start, pop_typed, put};
+use crate::pops::{
+    pop_around, pop_bounds, pop_fields, pop_name, pop_start, pop_typed, put, put_typed,
+};
+use pv_lex::token_value;
 use pv_parse::{
     Bounds, DeclAction, DeclItem, Fields, Item, Stop, added, number_type, pop_path, pop_token,
     pop_word, push, truth_of, with,
@@ -56,7 +59,7 @@ fn number(stack: &mut Vec<Item>) -> Result<(), Stop>
     let token = pop_token(stack)?;
     let literal = Literal {
         ty: number_type(token.bytes),
-        value: token.value,
+        value: token_value(token.kind, token.bytes),
         place: token.place,
     };
     push(stack, Item::Literal(literal))?;
@@ -80,7 +83,7 @@ fn negative(stack: &mut Vec<Item>) -> Result<(), Stop>
 {
     let token = pop_token(stack)?;
     let minus = pop_token(stack)?;
-    let value = negated(token.value)?;
+    let value = negated(token_value(token.kind, token.bytes))?;
     let literal = Literal {
         ty: number_type(token.bytes),
         value,
@@ -142,33 +145,33 @@ fn type_head(stack: &mut Vec<Item>) -> Result<(), Stop>
 }
 
 /// The type is a simple one.
-fn simple(stack: &mut Vec<Item>) -> Result<(), Stop>
+fn simple(alloc: Global, stack: &mut Vec<Item>) -> Result<(), Stop>
     ensures { Leaves result (stack_of stack.new) (simple_deed (stack_of stack.old)) }
 {
     let token = pop_token(stack)?;
     let _around = pop_around(stack)?;
     let ty = type_of_word(token.bytes);
-    put(stack, DeclItem::Typed(DeclType::Plain(ty)))?;
+    put_typed(alloc, stack, DeclType::Plain(ty))?;
     Ok(())
 }
 
 /// It is DATE_AND_TIME.
-fn unread(stack: &mut Vec<Item>) -> Result<(), Stop>
+fn unread(alloc: Global, stack: &mut Vec<Item>) -> Result<(), Stop>
     ensures { Leaves result (stack_of stack.new) (unread_deed (stack_of stack.old)) }
 {
     let _word = pop_token(stack)?;
     let _around = pop_around(stack)?;
-    put(stack, DeclItem::Typed(DeclType::Unread))?;
+    put_typed(alloc, stack, DeclType::Unread)?;
     Ok(())
 }
 
 /// It is a named one.
-fn named(stack: &mut Vec<Item>) -> Result<(), Stop>
+fn named(alloc: Global, stack: &mut Vec<Item>) -> Result<(), Stop>
     ensures { Leaves result (stack_of stack.new) (named_deed (stack_of stack.old)) }
 {
     let name = pop_name(stack)?;
     let ((name, place), _around) = with(name, pop_around(stack))?;
-    put(stack, DeclItem::Typed(DeclType::Named(name, place)))?;
+    put_typed(alloc, stack, DeclType::Named(name, place))?;
     Ok(())
 }
 
@@ -200,14 +203,13 @@ fn array(alloc: Global, stack: &mut Vec<Item>) -> Result<(), Stop>
 {
     let of = pop_typed(stack)?;
     let (of, bounds) = with(of, pop_bounds(stack))?;
-    let of = Box::new(alloc, of)?;
     let ty = DeclType::Array {
         low: bounds.low,
         high: bounds.high,
         of,
         place: bounds.place,
     };
-    put(stack, DeclItem::Typed(ty))?;
+    put_typed(alloc, stack, ty)?;
     Ok(())
 }
 
@@ -233,12 +235,12 @@ fn struct_head(alloc: Global, stack: &mut Vec<Item>) -> Result<(), Stop>
 }
 
 /// It ends.
-fn structure(stack: &mut Vec<Item>) -> Result<(), Stop>
+fn structure(alloc: Global, stack: &mut Vec<Item>) -> Result<(), Stop>
     ensures { Leaves result (stack_of stack.new) (struct_deed (stack_of stack.old)) }
 {
     let _end = pop_token(stack)?;
     let fields = pop_fields(stack)?;
-    put(stack, DeclItem::Typed(DeclType::Struct(fields.vars)))?;
+    put_typed(alloc, stack, DeclType::Struct(fields.vars))?;
     Ok(())
 }
 
@@ -290,7 +292,7 @@ fn declaration(stack: &mut Vec<Item>) -> Result<(), Stop>
     let (ty, words) = with(ty, pop_words(stack))?;
     let ((ty, words), mut fields) = with((ty, words), pop_fields(stack))?;
     let section = fields.section;
-    let declared = add_vars(&mut fields.vars, section, ty, start, words);
+    let declared = add_vars(&mut fields.vars, section, Box::into_inner(ty), start, words);
     let (fields, ()) = with(fields, declared)?;
     put(stack, DeclItem::Fields(fields))?;
     Ok(())
@@ -388,13 +390,13 @@ pub fn act_on_decl(alloc: Global, action: DeclAction, stack: &mut Vec<Item>) -> 
         DeclAction::FirstWord => first_word(alloc, stack),
         DeclAction::NextWord => next_word(stack),
         DeclAction::TypeHead => type_head(stack),
-        DeclAction::Simple => simple(stack),
-        DeclAction::Unread => unread(stack),
-        DeclAction::Named => named(stack),
+        DeclAction::Simple => simple(alloc, stack),
+        DeclAction::Unread => unread(alloc, stack),
+        DeclAction::Named => named(alloc, stack),
         DeclAction::ArrayHead => array_head(stack),
         DeclAction::Array => array(alloc, stack),
         DeclAction::StructHead => struct_head(alloc, stack),
-        DeclAction::Struct => structure(stack),
+        DeclAction::Struct => structure(alloc, stack),
         DeclAction::Start => start(stack),
         DeclAction::NoStart => no_start(stack),
         DeclAction::Declared => declaration(stack),

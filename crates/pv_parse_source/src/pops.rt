@@ -3,7 +3,7 @@ ghost use Rattle.std.specs.Prelude.{OnOk, ◌≡◌, ◌∷◌, map};
 ghost use Rattle.pv_types.specs.View.{type_tree};
 ghost use Rattle.pv_tree.specs.View.{start_tree, block_trees};
 ghost use Rattle.pv_parse.specs.DeclItems.{decl_of, fields_tree, bounds_tree, head_tree};
-ghost use Rattle.pv_parse.specs.Items.{stack_of, decl, Pops, Finds};
+ghost use Rattle.pv_parse.specs.Items.{stack_of, decl, typed, Pops, Finds};
 ghost use Rattle.pv_parse.specs.DeclStack.{name_in, name_on, around_in, around_on, fields_in, fields_on, typed_in, typed_on, start_in, start_on, bounds_in, bounds_on, heading_in, heading_on, values_in, values_on, blocks_in, blocks_on};
 
 use pv_parse::{Bounds, DeclItem, Fields, Heading, Item, Stop, push};
@@ -11,13 +11,25 @@ use pv_parse_call::{mistyped_decl, pop_decl};
 use pv_place::Place;
 use pv_tree::{Block, Operand};
 use pv_types::{DeclType, Literal, Name, Section};
-use std::alloc::AllocError;
+use std::alloc::{AllocError, Global};
 
 /// Puts a part of a declaration or of a block on the stack.
 pub fn put<'a>(stack: &mut Vec<Item<'a>>, item: DeclItem) -> Result<(), AllocError>
     ensures { OnOk result (stack_of stack.new ≡ decl (decl_of item) ∷ stack_of stack.old) }
 {
     push(stack, Item::Decl(item))
+}
+
+/// Puts a type on the stack, in a box.
+pub fn put_typed<'a>(
+    alloc: Global,
+    stack: &mut Vec<Item<'a>>,
+    ty: DeclType,
+) -> Result<(), AllocError>
+    ensures { OnOk result (stack_of stack.new ≡ typed (type_tree ty) ∷ stack_of stack.old) }
+{
+    let ty = Box::new(alloc, ty)?;
+    put(stack, DeclItem::Typed(ty))
 }
 
 fn name_in(item: DeclItem) -> Result<(Name, Place), Stop>
@@ -74,8 +86,8 @@ pub fn pop_fields(stack: &mut Vec<Item>) -> Result<Fields, Stop>
     Ok(found)
 }
 
-fn typed_in(item: DeclItem) -> Result<DeclType, Stop>
-    ensures { Finds type_tree result (typed_in (decl_of item)) }
+fn typed_in(item: DeclItem) -> Result<Box<DeclType>, Stop>
+    ensures { Finds (λ ty. type_tree ty.value) result (typed_in (decl_of item)) }
 {
     match item {
         DeclItem::Typed(found) => Ok(found),
@@ -83,9 +95,9 @@ fn typed_in(item: DeclItem) -> Result<DeclType, Stop>
     }
 }
 
-/// Takes a type.
-pub fn pop_typed(stack: &mut Vec<Item>) -> Result<DeclType, Stop>
-    ensures { Pops type_tree result (stack_of stack.new) (typed_on (stack_of stack.old)) }
+/// Takes a type, in its box.
+pub fn pop_typed(stack: &mut Vec<Item>) -> Result<Box<DeclType>, Stop>
+    ensures { Pops (λ ty. type_tree ty.value) result (stack_of stack.new) (typed_on (stack_of stack.old)) }
 {
     let item = pop_decl(stack)?;
     let found = typed_in(item)?;
@@ -128,8 +140,8 @@ pub fn pop_bounds(stack: &mut Vec<Item>) -> Result<Bounds, Stop>
     Ok(found)
 }
 
-fn heading_in(item: DeclItem) -> Result<Heading, Stop>
-    ensures { Finds head_tree result (heading_in (decl_of item)) }
+fn heading_in(item: DeclItem) -> Result<Box<Heading>, Stop>
+    ensures { Finds (λ heading. head_tree heading.value) result (heading_in (decl_of item)) }
 {
     match item {
         DeclItem::Heading(found) => Ok(found),
@@ -137,9 +149,9 @@ fn heading_in(item: DeclItem) -> Result<Heading, Stop>
     }
 }
 
-/// Takes a block before its body.
-pub fn pop_heading(stack: &mut Vec<Item>) -> Result<Heading, Stop>
-    ensures { Pops head_tree result (stack_of stack.new) (heading_on (stack_of stack.old)) }
+/// Takes a block before its body, in its box.
+pub fn pop_heading(stack: &mut Vec<Item>) -> Result<Box<Heading>, Stop>
+    ensures { Pops (λ heading. head_tree heading.value) result (stack_of stack.new) (heading_on (stack_of stack.old)) }
 {
     let item = pop_decl(stack)?;
     let found = heading_in(item)?;

@@ -9,7 +9,7 @@ ghost use Rattle.pv_parse.specs.ExprAnswers.{ReadsExpressions, AnswersExpression
 use crate::builder::build;
 use pv_lex::Token;
 use pv_ll::{Language, recognize};
-use pv_parse::{Action, ReadFault, Stop, find_too_deep, kinds, pop_expr};
+use pv_parse::{Action, ReadFault, Stop, acting, find_too_deep, kinds, pop_expr};
 use pv_tree::Expr;
 use std::alloc::{AllocError, Global};
 
@@ -31,12 +31,13 @@ pub fn read_expression(
     ensures { IfOk result (λ answer. AnswersExpression (lexemes_of text.now tokens.now) answer) }
 {
     let kinds = kinds(alloc, text, tokens)?;
-    let trace = match recognize(alloc, language, &kinds)? {
-        Ok(trace) => trace,
+    let acts = acting(alloc, actions)?;
+    let turns = match recognize(alloc, language, &acts, &kinds)? {
+        Ok(turns) => turns,
         Err(at) => return Ok(Err(ReadFault::Syntax(at))),
     };
     drop(kinds);
-    let deep = match find_too_deep(alloc, language, actions, &trace, text, tokens) {
+    let deep = match find_too_deep(alloc, actions, &turns, tokens) {
         Ok(deep) => deep,
         Err(Stop::NoMemory) => return Err(AllocError),
         Err(Stop::Mistyped) => unreachable!(),
@@ -44,7 +45,7 @@ pub fn read_expression(
     if let Some(place) = deep {
         return Ok(Err(ReadFault::Deep(place)));
     }
-    let mut stack = match build(alloc, language, actions, &trace, text, tokens) {
+    let mut stack = match build(alloc, actions, &turns, text, tokens) {
         Ok(stack) => stack,
         Err(Stop::NoMemory) => return Err(AllocError),
         Err(Stop::Mistyped) => unreachable!(),

@@ -11,7 +11,7 @@ use crate::builder::build;
 use crate::pops::pop_blocks;
 use pv_lex::Token;
 use pv_ll::{Language, recognize};
-use pv_parse::{Action, ReadFault, Stop, find_too_deep, kinds};
+use pv_parse::{Action, ReadFault, Stop, acting, find_too_deep, kinds};
 use pv_tree::Blocks;
 use std::alloc::{AllocError, Global};
 
@@ -35,12 +35,13 @@ pub fn read_source(
         → AnswersSource its (lexemes_of text.now tokens.now) answer) }
 {
     let kinds = kinds(alloc, text, tokens)?;
-    let trace = match recognize(alloc, language, &kinds)? {
-        Ok(trace) => trace,
+    let acts = acting(alloc, actions)?;
+    let turns = match recognize(alloc, language, &acts, &kinds)? {
+        Ok(turns) => turns,
         Err(at) => return Ok(Err(ReadFault::Syntax(at))),
     };
     drop(kinds);
-    let deep = match find_too_deep(alloc, language, actions, &trace, text, tokens) {
+    let deep = match find_too_deep(alloc, actions, &turns, tokens) {
         Ok(deep) => deep,
         Err(Stop::NoMemory) => return Err(AllocError),
         Err(Stop::Mistyped) => unreachable!(),
@@ -48,7 +49,7 @@ pub fn read_source(
     if let Some(place) = deep {
         return Ok(Err(ReadFault::Deep(place)));
     }
-    let mut stack = match build(alloc, language, actions, &trace, text, tokens) {
+    let mut stack = match build(alloc, actions, &turns, text, tokens) {
         Ok(stack) => stack,
         Err(Stop::NoMemory) => return Err(AllocError),
         Err(Stop::Mistyped) => unreachable!(),

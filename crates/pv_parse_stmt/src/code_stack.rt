@@ -1,4 +1,5 @@
 //! Parts of statements, taken off the stack.
+ghost use Rattle.std.specs.Prelude.{◌≡◌, option_map};
 ghost use Rattle.pv_tree.specs.View.{stmt_tree};
 ghost use Rattle.pv_parse.specs.CodeItems.{code_of, value_tree, stmt_list, arm_list, else_list, choice_list, branch_list};
 ghost use Rattle.pv_parse.specs.Items.{stack_of, Pops, Finds};
@@ -6,7 +7,7 @@ ghost use Rattle.pv_parse.specs.CodeStack.{value_in, stmt_in, stmts_in, arms_in,
 
 use pv_parse::{CodeItem, Item, Stop, Value};
 use pv_parse_call::{mistyped_code, pop_code};
-use pv_tree::{Choice, Expr, Stmt};
+use pv_tree::{Choice, ChoiceRange, Expr, Stmt};
 use pv_types::Literal;
 
 fn value_in(item: CodeItem) -> Result<Value, Stop>
@@ -108,12 +109,22 @@ pub fn pop_else<'a>(stack: &mut Vec<Item<'a>>) -> Result<Option<Box<Vec<Stmt>>>,
     Ok(found)
 }
 
-fn by_in(item: CodeItem) -> Result<Option<Literal>, Stop>
-    ensures { Finds (λ step. step) result (by_in (code_of item)) }
+fn by_in(item: CodeItem) -> Result<Option<Box<Literal>>, Stop>
+    ensures { Finds (λ step. option_map (λ literal. literal.value) step) result (by_in (code_of item)) }
 {
     match item {
         CodeItem::By(found) => Ok(found),
         other => Err(mistyped_code(other)),
+    }
+}
+
+/// A literal out of its box, where there is one.
+fn unboxed(literal: Option<Box<Literal>>) -> Option<Literal>
+    ensures { result ≡ option_map (λ literal. literal.value) literal }
+{
+    match literal {
+        Some(literal) => Some(Box::into_inner(literal)),
+        None => None,
     }
 }
 
@@ -123,11 +134,11 @@ pub fn pop_by<'a>(stack: &mut Vec<Item<'a>>) -> Result<Option<Literal>, Stop>
 {
     let item = pop_code(stack)?;
     let found = by_in(item)?;
-    Ok(found)
+    Ok(unboxed(found))
 }
 
-fn choice_in(item: CodeItem) -> Result<Choice, Stop>
-    ensures { Finds (λ choice. choice) result (choice_in (code_of item)) }
+fn choice_in(item: CodeItem) -> Result<Box<Choice>, Stop>
+    ensures { Finds (λ choice. choice.value) result (choice_in (code_of item)) }
 {
     match item {
         CodeItem::Choice(found) => Ok(found),
@@ -135,16 +146,24 @@ fn choice_in(item: CodeItem) -> Result<Choice, Stop>
     }
 }
 
-/// Takes a value of a label.
-pub fn pop_choice<'a>(stack: &mut Vec<Item<'a>>) -> Result<Choice, Stop>
-    ensures { Pops (λ choice. choice) result (stack_of stack.new) (choice_on (stack_of stack.old)) }
+/// Takes a value of a label, in its box.
+pub fn pop_boxed_choice<'a>(stack: &mut Vec<Item<'a>>) -> Result<Box<Choice>, Stop>
+    ensures { Pops (λ choice. choice.value) result (stack_of stack.new) (choice_on (stack_of stack.old)) }
 {
     let item = pop_code(stack)?;
     let found = choice_in(item)?;
     Ok(found)
 }
 
-fn choices_in(item: CodeItem) -> Result<Vec<(Choice, Option<Choice>)>, Stop>
+/// Takes a value of a label.
+pub fn pop_choice<'a>(stack: &mut Vec<Item<'a>>) -> Result<Choice, Stop>
+    ensures { Pops (λ choice. choice) result (stack_of stack.new) (choice_on (stack_of stack.old)) }
+{
+    let found = pop_boxed_choice(stack)?;
+    Ok(Box::into_inner(found))
+}
+
+fn choices_in(item: CodeItem) -> Result<Vec<ChoiceRange>, Stop>
     ensures { Finds choice_list result (choices_in (code_of item)) }
 {
     match item {
@@ -154,7 +173,7 @@ fn choices_in(item: CodeItem) -> Result<Vec<(Choice, Option<Choice>)>, Stop>
 }
 
 /// Takes the values of a label.
-pub fn pop_choices<'a>(stack: &mut Vec<Item<'a>>) -> Result<Vec<(Choice, Option<Choice>)>, Stop>
+pub fn pop_choices<'a>(stack: &mut Vec<Item<'a>>) -> Result<Vec<ChoiceRange>, Stop>
     ensures { Pops choice_list result (stack_of stack.new) (choices_on (stack_of stack.old)) }
 {
     let item = pop_code(stack)?;
@@ -163,7 +182,7 @@ pub fn pop_choices<'a>(stack: &mut Vec<Item<'a>>) -> Result<Vec<(Choice, Option<
 }
 
 /// Takes the values of a label to which no more come, with no room beyond them.
-pub fn pop_label<'a>(stack: &mut Vec<Item<'a>>) -> Result<Vec<(Choice, Option<Choice>)>, Stop>
+pub fn pop_label<'a>(stack: &mut Vec<Item<'a>>) -> Result<Vec<ChoiceRange>, Stop>
     ensures { Pops choice_list result (stack_of stack.new) (choices_on (stack_of stack.old)) }
 {
     let mut found = pop_choices(stack)?;
@@ -171,7 +190,7 @@ pub fn pop_label<'a>(stack: &mut Vec<Item<'a>>) -> Result<Vec<(Choice, Option<Ch
     Ok(found)
 }
 
-fn branches_in(item: CodeItem) -> Result<Vec<(Vec<(Choice, Option<Choice>)>, Vec<Stmt>)>, Stop>
+fn branches_in(item: CodeItem) -> Result<Vec<(Vec<ChoiceRange>, Vec<Stmt>)>, Stop>
     ensures { Finds branch_list result (branches_in (code_of item)) }
 {
     match item {
@@ -183,7 +202,7 @@ fn branches_in(item: CodeItem) -> Result<Vec<(Vec<(Choice, Option<Choice>)>, Vec
 /// Takes the branches of a CASE.
 pub fn pop_branches<'a>(
     stack: &mut Vec<Item<'a>>,
-) -> Result<Vec<(Vec<(Choice, Option<Choice>)>, Vec<Stmt>)>, Stop>
+) -> Result<Vec<(Vec<ChoiceRange>, Vec<Stmt>)>, Stop>
     ensures { Pops branch_list result (stack_of stack.new) (branches_on (stack_of stack.old)) }
 {
     let item = pop_code(stack)?;

@@ -5,7 +5,7 @@ ghost use Rattle.pv_tree.specs.View.{expr_tree, stmt_tree, arms_of, branches_of,
 ghost use Rattle.pv_parse.specs.CodeItems.{arm_list, branch_list, else_list};
 
 use pv_place::Place;
-use pv_tree::{Choice, Expr, Stmt};
+use pv_tree::{ChoiceRange, Expr, Stmt};
 
 /// An IF of its conditions, each with its statements, and of those behind ELSE.
 pub fn if_of(arms: Vec<(Expr, Vec<Stmt>)>, other: Option<Box<Vec<Stmt>>>, place: Place) -> Stmt
@@ -17,7 +17,7 @@ pub fn if_of(arms: Vec<(Expr, Vec<Stmt>)>, other: Option<Box<Vec<Stmt>>>, place:
 /// A CASE of its branches, each with the values of its label, and of the statements behind ELSE.
 pub fn case_of(
     selector: Box<Expr>,
-    branches: Vec<(Vec<(Choice, Option<Choice>)>, Vec<Stmt>)>,
+    branches: Vec<(Vec<ChoiceRange>, Vec<Stmt>)>,
     other: Option<Box<Vec<Stmt>>>,
     place: Place,
 ) -> Stmt

@@ -1,5 +1,5 @@
 //! What alternatives of statements make of what lies on the stack.
-ghost use Rattle.std.specs.Prelude.{◌≡◌, ◌∷◌, ◌++◌, Some, None, option_and_then};
+ghost use Rattle.std.specs.Prelude.{◌≡◌, ◌∷◌, ◌++◌, Some, None, option_and_then, option_map};
 ghost use Rattle.pv_tree.specs.declared.stmt.Choice.{Choice as A_choice};
 ghost use Rattle.pv_tree.specs.View.{stmt_tree};
 ghost use Rattle.pv_parse.specs.ExprDeeds.{operand_of};
@@ -9,21 +9,21 @@ ghost use Rattle.pv_parse.specs.Items.{stack_of, path_tree, code, Leaves, Pops};
 ghost use Rattle.pv_parse.specs.StmtDeeds.{single_of, drop_deed, empty_deed, single_deed, call_statement_deed, assigned, assign_deed, new_list_deed, add_deed, arm_on, first_arm_deed, next_arm_deed, else_deed, no_else_deed, if_deed, literal_choice_deed, word_choice_deed, upper_on, first_range_deed, first_choice_deed, added_choice, next_range_deed, next_choice_deed, new_branches_deed, opened, label_deed, closed_on, next_label_deed, branches_deed, case_deed, by_deed, no_by_deed, body_on, for_deed, while_deed, repeat_deed, stmt_deed};
 
 use crate::code_stack::{
-    pop_arms, pop_branches, pop_by, pop_choice, pop_choices, pop_else, pop_label, pop_stmt,
-    pop_stmts, pop_value, pop_whole,
+    pop_arms, pop_boxed_choice, pop_branches, pop_by, pop_choice, pop_choices, pop_else, pop_label,
+    pop_stmt, pop_stmts, pop_value, pop_whole,
 };
 use crate::making::{case_of, if_of};
 use pv_parse::{
     CodeItem, Item, StmtAction, Stop, Value, added, is_text, pop_boxed, pop_expr, pop_path,
     pop_token, push, with,
 };
-use pv_parse_call::{path_name, pop_boxed_call, pop_literal};
+use pv_parse_call::{path_name, pop_call, pop_literal};
 use pv_place::Place;
-use pv_tree::{Choice, Expr, ForHead, Operand, Stmt};
+use pv_tree::{Choice, ChoiceRange, Expr, ForHead, Operand, Stmt};
 use std::alloc::Global;
 
 /// The values of a label.
-type Choices = Vec<(Choice, Option<Choice>)>;
+type Choices = Vec<ChoiceRange>;
 
 /// A token is forgotten.
 fn forget(stack: &mut Vec<Item>) -> Result<(), Stop>
@@ -67,10 +67,10 @@ fn single(stack: &mut Vec<Item>) -> Result<(), Stop>
 }
 
 /// A call is a statement.
-fn call(alloc: Global, stack: &mut Vec<Item>) -> Result<(), Stop>
+fn call(stack: &mut Vec<Item>) -> Result<(), Stop>
     ensures { Leaves result (stack_of stack.new) (call_statement_deed (stack_of stack.old)) }
 {
-    let call = pop_boxed_call(alloc, stack)?;
+    let call = pop_call(stack)?;
     push(stack, Item::Code(CodeItem::Stmt(Stmt::Call(call))))?;
     Ok(())
 }
@@ -189,11 +189,12 @@ fn branch_on(stack: &mut Vec<Item>) -> Result<(), Stop>
 }
 
 /// A literal is a value of a label.
-fn literal_choice(stack: &mut Vec<Item>) -> Result<(), Stop>
+fn literal_choice(alloc: Global, stack: &mut Vec<Item>) -> Result<(), Stop>
     ensures { Leaves result (stack_of stack.new) (literal_choice_deed (stack_of stack.old)) }
 {
     let literal = pop_literal(stack)?;
-    push(stack, Item::Code(CodeItem::Choice(Choice::Lit(literal))))?;
+    let choice = Box::new(alloc, Choice::Lit(literal))?;
+    push(stack, Item::Code(CodeItem::Choice(choice)))?;
     Ok(())
 }
 
@@ -203,18 +204,16 @@ fn word_choice(alloc: Global, stack: &mut Vec<Item>) -> Result<(), Stop>
 {
     let word = pop_path(stack)?;
     let (name, place) = path_name(alloc, word)?;
-    push(
-        stack,
-        Item::Code(CodeItem::Choice(Choice::Const(name, place))),
-    )?;
+    let choice = Box::new(alloc, Choice::Const(name, place))?;
+    push(stack, Item::Code(CodeItem::Choice(choice)))?;
     Ok(())
 }
 
 /// The upper end of a range.
-fn pop_upper(stack: &mut Vec<Item>) -> Result<Choice, Stop>
-    ensures { Pops (λ choice. choice) result (stack_of stack.new) (upper_on (stack_of stack.old)) }
+fn pop_upper(stack: &mut Vec<Item>) -> Result<Box<Choice>, Stop>
+    ensures { Pops (λ choice. choice.value) result (stack_of stack.new) (upper_on (stack_of stack.old)) }
 {
-    let upper = pop_choice(stack)?;
+    let upper = pop_boxed_choice(stack)?;
     let (upper, _dots) = with(upper, pop_token(stack))?;
     Ok(upper)
 }
@@ -225,7 +224,7 @@ fn first_range(alloc: Global, stack: &mut Vec<Item>) -> Result<(), Stop>
 {
     let upper = pop_upper(stack)?;
     let (upper, lower) = with(upper, pop_choice(stack))?;
-    let label = vec![in alloc; (lower, Some(upper))]?;
+    let label = vec![in alloc; ChoiceRange::of(lower, Some(upper))]?;
     push(stack, Item::Code(CodeItem::Choices(label)))?;
     Ok(())
 }
@@ -235,19 +234,20 @@ fn first_choice(alloc: Global, stack: &mut Vec<Item>) -> Result<(), Stop>
     ensures { Leaves result (stack_of stack.new) (first_choice_deed (stack_of stack.old)) }
 {
     let choice = pop_choice(stack)?;
-    let label = vec![in alloc; (choice, None)]?;
+    let label = vec![in alloc; ChoiceRange::of(choice, None)]?;
     push(stack, Item::Code(CodeItem::Choices(label)))?;
     Ok(())
 }
 
 /// A label has a value more, behind its comma.
-fn push_choice(upper: Option<Choice>, stack: &mut Vec<Item>) -> Result<(), Stop>
-    ensures { Leaves result (stack_of stack.new) (added_choice upper (stack_of stack.old)) }
+fn push_choice(upper: Option<Box<Choice>>, stack: &mut Vec<Item>) -> Result<(), Stop>
+    ensures { Leaves result (stack_of stack.new) (added_choice (option_map (λ choice. choice.value) upper)
+        (stack_of stack.old)) }
 {
     let (upper, lower) = with(upper, pop_choice(stack))?;
     let ((lower, upper), _comma) = with((lower, upper), pop_token(stack))?;
     let ((lower, upper), label) = with((lower, upper), pop_choices(stack))?;
-    let label = added(label, (lower, upper))?;
+    let label = added(label, ChoiceRange::of(lower, upper))?;
     push(stack, Item::Code(CodeItem::Choices(label)))?;
     Ok(())
 }
@@ -346,11 +346,12 @@ fn case(alloc: Global, stack: &mut Vec<Item>) -> Result<(), Stop>
 }
 
 /// BY with its literal.
-fn by(stack: &mut Vec<Item>) -> Result<(), Stop>
+fn by(alloc: Global, stack: &mut Vec<Item>) -> Result<(), Stop>
     ensures { Leaves result (stack_of stack.new) (by_deed (stack_of stack.old)) }
 {
     let literal = pop_literal(stack)?;
     let _word = pop_token(stack)?;
+    let literal = Box::new(alloc, literal)?;
     push(stack, Item::Code(CodeItem::By(Some(literal))))?;
     Ok(())
 }
@@ -451,7 +452,7 @@ pub fn act_on_stmt(alloc: Global, action: StmtAction, stack: &mut Vec<Item>) -> 
         StmtAction::Drop => forget(stack),
         StmtAction::Empty => empty(stack),
         StmtAction::Single => single(stack),
-        StmtAction::Call => call(alloc, stack),
+        StmtAction::Call => call(stack),
         StmtAction::Assign => assign(stack),
         StmtAction::NewList => new_list(alloc, stack),
         StmtAction::Add => add(stack),
@@ -460,7 +461,7 @@ pub fn act_on_stmt(alloc: Global, action: StmtAction, stack: &mut Vec<Item>) -> 
         StmtAction::Else => otherwise(alloc, stack),
         StmtAction::NoElse => no_else(stack),
         StmtAction::If => branch_on(stack),
-        StmtAction::LiteralChoice => literal_choice(stack),
+        StmtAction::LiteralChoice => literal_choice(alloc, stack),
         StmtAction::WordChoice => word_choice(alloc, stack),
         StmtAction::FirstRange => first_range(alloc, stack),
         StmtAction::FirstChoice => first_choice(alloc, stack),
@@ -471,7 +472,7 @@ pub fn act_on_stmt(alloc: Global, action: StmtAction, stack: &mut Vec<Item>) -> 
         StmtAction::NextLabel => next_label(alloc, stack),
         StmtAction::Branches => branches(stack),
         StmtAction::Case => case(alloc, stack),
-        StmtAction::By => by(stack),
+        StmtAction::By => by(alloc, stack),
         StmtAction::NoBy => no_by(stack),
         StmtAction::For => count(alloc, stack),
         StmtAction::While => repeat_while(alloc, stack),

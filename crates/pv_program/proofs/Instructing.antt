@@ -125,16 +125,15 @@ call-in : (source : Source) (block : BlockTree) (p : Program) (n : ℕ) (i : Ins
 call-in source block p n i d call makes of h = subst (λ e. CallsSo source block p i e) makes h call of
 
 pub body-made : {source : Source} {block : BlockTree} {p q : Program} (all : List InstrTree) (code slice : List Instr) (s : Span) → Extends p q
-    → slice ≡ code → instrs_in q s ≡ slice → s.first ≤ s.end → s.end ≤ length q.instrs.items → length code ≡ length all → length all < 2 ^ 32
+    → slice ≡ code → instrs_in q s ≡ slice → s.first ≤ s.end → s.end ≤ length q.instrs.items → length code ≡ length all
     → ranges_in code ≤ q.ranges → AreMadeInstrs source block p all code → HasInstrs source block q s all
-body-made {source} {block} {p} {q} all code slice s x taken is ordered within long short room made =
+body-made {source} {block} {p} {q} all code slice s x taken is ordered within long room made =
     let same : code ≡ instrs_in q s = sym (is ∙ taken) in
     record {
       ordered = ordered;
       within = within;
       are = subst (λ l. AreInstrs source block q.targets.items q.scratch l all) same (record {
         same = long;
-        short = omega (arith, long, short);
         each = λ k c i at tree. instr-kept x (made k c i at tree).is;
       });
       ranges = subst (λ l. ranges_in l ≤ q.ranges) same room;

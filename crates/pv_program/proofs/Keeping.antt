@@ -245,7 +245,6 @@ are-kept : {source : Source} {block : BlockTree} {p q : Program} {all : List Ins
     → AreInstrs source block p.targets.items p.scratch code all → AreInstrs source block q.targets.items q.scratch code all
 are-kept x h = record {
   same = h.same;
-  short = h.short;
   each = λ k c i at is. instr-kept x (h.each k c i at is);
 }
 
@@ -278,7 +277,7 @@ pub code-kept : {source : Source} {p q : Program} {block : BlockTree} {c : Code}
 code-kept {source = source} {block = block} {c = c} x k = record {
   brief = k.brief;
   widest = omega (arith, k.widest, x.widest);
-  short = k.short;
+  within = omega (arith, k.within, x.longer);
   value = k.value;
   body = runs-body-kept source block c.body block.body x k.body;
 }

@@ -180,10 +180,13 @@ no-range all k i at is = sym (ap range_of (drop-here all k i at) ∙ ap (range_b
 
 -- ---- the goals of jumps
 
-pub goal-ahead : (table : Firsts) (all : List InstrTree) (k at to : ℕ) (key : List ℕ) → Some at ≡ number_in table key → to ≡ at → k < at
-    → FindsLabels table all → LeadsTo all k key (Ahead to)
-goal-ahead table all k at to key e same le h =
-    subst (λ n. LeadsTo all k key (Ahead n)) (sym same) (leads-ahead all k at key (label-at table all key (Some at) e h) le)
+pub goal-ahead : (table : Firsts) (all : List InstrTree) (k at : ℕ) (key : List ℕ) → Some at ≡ number_in table key → k < at
+    → FindsLabels table all → LeadsTo all k key (Ahead at)
+goal-ahead table all k at key e le h = leads-ahead all k at key (label-at table all key (Some at) e h) le
+
+pub goal-back : (table : Firsts) (all : List InstrTree) (k at : ℕ) (key : List ℕ) → Some at ≡ number_in table key → at ≤ k
+    → FindsLabels table all → LeadsTo all k key (Back at)
+goal-back table all k at key e le h = leads-back all k at key (label-at table all key (Some at) e h) le
 
 pub goal-nowhere : (table : Firsts) (all : List InstrTree) (k to : ℕ) (key : List ℕ) → None ≡ number_in table key → length all ≤ to
     → FindsLabels table all → LeadsTo all k key (Back to)

@@ -40,7 +40,6 @@ use Rattle.pv_run.specs.declared.program.List as code
 use Rattle.pv_run.specs.declared.program.Stmt.{Stmt}
 use Rattle.pv_run.specs.declared.program.Called.{Called}
 use Rattle.pv_run.specs.declared.program.Code.{Code}
-use Rattle.pv_run.specs.declared.program.TheConstants.{MOST_STATEMENTS}
 use Rattle.pv_run.specs.declared.program.Program.{Program}
 use Rattle.pv_run.specs.Code.{IsStmt, AreStmts, no_stmt, IsBody, body_before, nothing_else, something_else, RunsBlock, RunsSo, IsCall, HasInstrs, statements_end, RunsBody, IsCode, IsProgram}
 use Rattle.pv_eval.specs.Writes.{TypesOf}
@@ -186,6 +185,10 @@ body-runs : {source : Source} {block : BlockTree} {p : Program} {k : ℕ} {l : c
     → AreStmts source block p l.first l.end trees
 body-runs (body_before end are) = are
 
+pub list-within : {source : Source} {block : BlockTree} {p : Program} {l : code.List} {trees : StmtTrees} → IsList source block p l trees
+    → l.end ≤ length p.stmts.items
+list-within (body_before end are) = end
+
 pub scl-runs : (source : Source) (block : BlockTree) (p : Program) (l : code.List) (b : Body) (v : Vec code_tree.Stmt Global)
     (xs : List code_tree.Stmt) → b ≡ body.Scl v → xs ≡ v.items → IsList source block p l (stmt_trees xs)
     → RunsBody source block p (flat.Statements l) (body_tree b)
@@ -206,11 +209,11 @@ starts-runs source block p b v is =
 
 pub code-made : {source : Source} {p q : Program} (block seen : BlockTree) (c : Code) → Extends p q → seen ≡ block
     → c.value ≡ value_number source block → (c.value ≡ value_number source seen → c.brief ≡ brief_count source seen) → c.brief ≤ q.widest
-    → statements_end c.body < MOST_STATEMENTS → RunsBody source block p c.body seen.body → IsCode source q block c
-code-made {source} {p} {q} block seen c x is value brief widest short body-is = record {
+    → statements_end c.body ≤ length p.stmts.items → RunsBody source block p c.body seen.body → IsCode source q block c
+code-made {source} {p} {q} block seen c x is value brief widest within body-is = record {
   brief = brief (value ∙ ap (value_number source) (sym is)) ∙ ap (brief_count source) is;
   widest = widest;
-  short = short;
+  within = omega (arith, within, x.longer);
   value = value;
   body = runs-body-kept source block c.body block.body x (subst (λ (b : BlockTree). RunsBody source block p c.body b.body) is body-is);
 }

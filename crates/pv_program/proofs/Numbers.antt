@@ -24,12 +24,11 @@ number-finds key (x ∷ xs) n b e f = lead (bytes_eq key x.name.key) (λ m is re
     lead false ih is found = later (first_number (bytes_eq key) (map (λ b. b.name.key) xs)) x xs n b (λ m at. ih m at found) is
 
 -- by the number of its name in a table
-pub block-number : (blocks other : List BlockTree) (key : List ℕ) (b : BlockTree) (n v : ℕ) → other ≡ blocks → key ≡ b.name.key
-    → Some n ≡ first_number (bytes_eq key) (map (λ b. b.name.key) other) → first_block blocks b.name.key ≡ Some b → v ≡ n
-    → slice_get blocks v ≡ Some b
-block-number blocks other key b n v same name found first is =
-    ap (slice_get blocks) is
-    ∙ number-finds b.name.key blocks n b
+pub block-number : (blocks other : List BlockTree) (key : List ℕ) (b : BlockTree) (n : ℕ) → other ≡ blocks → key ≡ b.name.key
+    → Some n ≡ first_number (bytes_eq key) (map (λ b. b.name.key) other) → first_block blocks b.name.key ≡ Some b
+    → slice_get blocks n ≡ Some b
+block-number blocks other key b n same name found first =
+    number-finds b.name.key blocks n b
     (found ∙ ap (λ l. first_number (bytes_eq key) (map (λ b. b.name.key) l)) same
     ∙ ap (λ k. first_number (bytes_eq k) (map (λ b. b.name.key) blocks)) name) first
 

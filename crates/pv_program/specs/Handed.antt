@@ -1,10 +1,12 @@
 -- What is handed in and out, parameter by parameter.
-use Rattle.std.specs.Prelude.{◌≡◌, ℕ, List, [], ◌∷◌, ◌++◌, map, Bool as Truth, true, ◌||◌, if◌then◌else◌, Option, Some, None}
+use Rattle.std.specs.Prelude.{◌≡◌, ℕ, List, [], ◌∷◌, ◌++◌, map, bytes_eq, Bool as Truth, true, false, ◌||◌, if◌then◌else◌, Option, Some, None}
 use Rattle.pv_word.specs.declared.types.Ty.{Ty}
 use Rattle.pv_types.specs.declared.declaration.Section.TheVariants.{Output}
 use Rattle.pv_types.specs.Tree.{plain}
 use Rattle.pv_tree.specs.Scopes.{value_key}
-use Rattle.pv_mean.specs.Calls.{value_spot}
+use Rattle.pv_names.specs.declared.firsts.Firsts.{Firsts}
+use Rattle.pv_names.specs.Firsts.{number_in, first_number}
+use Rattle.pv_mean.specs.Calls.{value_spot, is_for}
 use Rattle.pv_types.specs.declared.name.Name.{Name}
 use Rattle.pv_types.specs.declared.declaration.Section.{Section}
 use Rattle.pv_types.specs.Tree.{VarTree}
@@ -93,3 +95,8 @@ pub data AreTaken (source : Source) (block : BlockTree) (p : Program) (site : Ca
       → ((first : ℕ) → slot_spot first c.from ≡ h.spot first)
       → AreTaken source block p site callee cs hs
       → AreTaken source block p site callee (c ∷ cs) (h ∷ hs)
+
+-- the table has of each name, but that of a function's value, the number of the first argument for the parameter that has it
+abbrev pub FindsArguments : How → BlockTree → List ArgTree → Firsts → Type 0
+FindsArguments how block args numbers = (key : List ℕ) → bytes_eq key value_key ≡ false
+    → number_in numbers key ≡ first_number (is_for how block key) args

@@ -163,7 +163,7 @@ fn moved(
     context: &Context,
     instr: &Instr,
     operand: &Operand,
-    n: u32,
+    n: usize,
 ) -> Result<Action, ResolveFault>
     ensures is { (source : Source) (targets : List Target) (room : ℕ) → IsContext context.now source
         → (instr_tree instr.now).operand ≡ Some (operand_tree operand.now)
@@ -287,7 +287,7 @@ fn jump(labels: &Labels, k: usize, instr: &Instr, test: When) -> Result<Action, 
     ensures is { (source : Source) (block : BlockTree) (targets : List Target) (room : ℕ)
         → WordJumps instr.now.op test
         → IfOk result (λ d. IsAction source block targets room d (instr_tree instr.now)) }
-    ensures leads { (all : List InstrTree) → FindsLabels labels.now.at all → length all < 2 ^ 32
+    ensures leads { (all : List InstrTree) → FindsLabels labels.now.at all → length all < 2 ^ 64
         → IfOk result (λ d. LeadsSo all k (instr_tree instr.now) d) }
     ensures suits { group_of instr.now.op ≡ jump → IfOk result (λ d. Suits d (group_of instr.now.op)) }
     ensures room { (l : PlacedName) × (label_of_jump (instr_tree instr.now) ≡ Some l)
@@ -295,7 +295,7 @@ fn jump(labels: &Labels, k: usize, instr: &Instr, test: When) -> Result<Action, 
 {
     match label_of(instr) {
         Some(label) => {
-            let goal = goal_of(labels, k, label.name)?;
+            let goal = goal_of(labels, k, label.name);
             Ok(Action::Jump(test, goal))
         }
         None => Err(ResolveFault::TooLarge),
@@ -315,7 +315,7 @@ fn action_alone(
     ensures is { (source : Source) → IsContext context.now source
         → IfOk result (λ d. IsAction source (block_in context.now) program.new.targets.items
         program.new.scratch d (instr_tree instr.now)) }
-    ensures leads { (all : List InstrTree) → FindsLabels labels.now.at all → length all < 2 ^ 32
+    ensures leads { (all : List InstrTree) → FindsLabels labels.now.at all → length all < 2 ^ 64
         → IfOk result (λ d. LeadsSo all k (instr_tree instr.now) d) }
     ensures suits { IfOk result (λ d. Suits d (group_of instr.now.op)) }
     ensures calls { OnOk result (program.new.calls ≡ program.old.calls) }
@@ -346,7 +346,7 @@ pub(crate) fn action_of(
 ) -> Result<Action, ResolveFault>
     ensures grows { OnOk result (Extends program.old program.new) }
     ensures made { (source : Source) (all : List InstrTree) → IsContext context.now source
-        → FindsLabels labels.now.at all → length all < 2 ^ 32
+        → FindsLabels labels.now.at all → length all < 2 ^ 64
         → IfOk result (λ d. IsMadeAction source (block_in context.now) program.new all k
         (instr_tree instr.now) d) }
     ensures suits { ((call : CallPlain) → (instr_tree instr.now).call ≡ Some call

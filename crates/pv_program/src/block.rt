@@ -6,7 +6,7 @@ ghost use Rattle.pv_mean.specs.declared.count.TheConstants.{BEYOND as BOUND};
 ghost use Rattle.pv_mean.specs.Sources.{Source};
 ghost use Rattle.pv_mean.specs.Cells.{stl_types};
 ghost use Rattle.pv_mean.specs.Activations.{value_number, brief_count};
-ghost use Rattle.pv_run.specs.Code.{IsCode, RunsBody};
+ghost use Rattle.pv_run.specs.Code.{IsCode, RunsBody, statements_end};
 ghost use Rattle.pv_resolve.specs.Contexts.{IsContext, block_in};
 ghost use Rattle.pv_resolve.specs.Rooms.{HasRoom};
 ghost use Rattle.pv_program.specs.declared.fault.ProgramFault.TheVariants.{NoMemory};
@@ -21,7 +21,7 @@ use crate::stmt::make_list;
 use pv_mean::BEYOND;
 use pv_names::is_stl;
 use pv_resolve::{Context, ResolveFault};
-use pv_run::{Body as CodeBody, Code, List, MOST_STATEMENTS, Program};
+use pv_run::{Body as CodeBody, Code, List, Program};
 use pv_tree::{Block, Body};
 use pv_word::Ty;
 use std::alloc::Global;
@@ -80,6 +80,8 @@ fn add_body(
     ensures runs { (source : Source) → IsContext context.now source
         → IfOk result (λ b. RunsBody source (block_in context.now) program.new b
         (body_tree body.now)) }
+    ensures within { (source : Source) → IsContext context.now source
+        → IfOk result (λ b. statements_end b ≤ length program.new.stmts.items) }
     ensures room { (source : Source) → IsContext context.now source
         → HasAllRoom source (block_in context.now)
         → FitsCode source (block_in context.now) (body_tree body.now)
@@ -123,9 +125,6 @@ pub(crate) fn add_code(
     let block = context.scope.entry.block();
     let value = value_number(context)?;
     let body = add_body(alloc, context, program, &block.body)?;
-    if body.statements_end() >= MOST_STATEMENTS {
-        return Err(ProgramFault::NoMemory);
-    }
     let brief = brief_count(block, value);
     widen(program, brief);
     Ok(Code { body, brief, value })

@@ -1,10 +1,10 @@
 //! Calls: which block one runs, on which instance, and what is handed in and out in the order of the declarations.
 //!
-//! Each parameter is looked for among the arguments of its call.
-ghost use Rattle.std.specs.Prelude.{◌≡◌, ◌++◌, ◌∷◌, [], List, find, map, bytes_eq, slice_get, option_map, is_some, IfOk, IfErr, IfSome, OnOk, None, Some, Contains};
+//! The arguments of a call are gone along once, for the parameters that they are for; then each parameter finds its own by its name.
+ghost use Rattle.std.specs.Prelude.{◌≡◌, ◌++◌, ◌∷◌, [], List, map, slice_get, option_map, is_some, IfOk, IfErr, IfSome, OnOk, None, Some, Contains};
 ghost use Rattle.pv_types.specs.Tree.{VarTree};
 ghost use Rattle.pv_types.specs.View.{var_tree};
-ghost use Rattle.pv_tree.specs.View.{arg_tree, call_tree, expr_tree, operand_tree};
+ghost use Rattle.pv_tree.specs.View.{call_tree, expr_tree, operand_tree};
 ghost use Rattle.pv_tree.specs.Tree.{ArgTree, BlockTree};
 ghost use Rattle.pv_tree.specs.Callees as callees;
 ghost use Rattle.pv_tree.specs.Callees.{CallSite};
@@ -12,11 +12,9 @@ ghost use Rattle.pv_tree.specs.Scopes as scopes;
 ghost use Rattle.pv_tree.specs.Scopes.{value_key};
 ghost use Rattle.pv_tree.specs.Parts as parts;
 ghost use Rattle.pv_tree.specs.Parts.{site};
-ghost use Rattle.pv_names.specs.Callees.{how_tree, param_tree};
+ghost use Rattle.pv_names.specs.Callees.{how_tree};
 ghost use Rattle.pv_names.specs.Entries.{block_of};
-ghost use Rattle.pv_names.specs.InScope.{scope_of};
 ghost use Rattle.pv_mean.specs.Sources.{Source};
-ghost use Rattle.pv_mean.specs.Calls as calls;
 ghost use Rattle.pv_mean.specs.Placed.{call_placed};
 ghost use Rattle.pv_run.specs.Code.{GoesTo, AreInward, AreOutward, IsCall};
 ghost use Rattle.pv_run.specs.Handing.{Handed, handed_in, handed_out, argument_of};
@@ -26,19 +24,20 @@ ghost use Rattle.pv_resolve.specs.declared.fault.ResolveFault.TheVariants.{NoMem
 ghost use Rattle.pv_laws_room.specs.Bodies.{FitsCall};
 ghost use Rattle.pv_program.specs.Growth.{Extends};
 ghost use Rattle.pv_program.specs.Led.{AreLed, HasAllRoom, RunsLed, IsVariable};
-ghost use Rattle.pv_program.specs.Handed.{goes_in, goes_out, handed_if, value_params, handed_value, values_handed, IsSpotOf, AreGiven, AreTaken};
+ghost use Rattle.pv_program.specs.Handed.{goes_in, goes_out, handed_if, value_params, handed_value, values_handed, FindsArguments, IsSpotOf, AreGiven, AreTaken};
 
+use crate::argument::{argument_for_value, arguments_of, named_argument};
 use crate::block::value_number;
-use crate::grow::{append_inward, append_outward, number, push_call, see_code};
+use crate::grow::{append_inward, append_outward, push_call, see_code};
 use crate::instance::instance_of;
 use crate::placed::call_placed;
 use crate::slot::slot_of;
 use crate::value::{add_target, add_value};
-use pv_names::{Callee, Entry, How, Param, param_for};
+use pv_names::{Callee, Entry, Firsts, How};
 use pv_place::Place;
 use pv_resolve::{Context, ResolveFault, context_in};
 use pv_run::{Called, First, Inward, Outward, Program, Slot, Span};
-use pv_tree::{Arg, CallTree, Expr, Operand};
+use pv_tree::{CallTree, Expr, Operand};
 use pv_types::{Name, Section, Var};
 use pv_word::Ty;
 use std::alloc::Global;
@@ -61,41 +60,6 @@ fn goes_out(section: Section) -> bool
         Section::Output | Section::InOut => true,
         Section::Input | Section::Static | Section::Temp | Section::Const => false,
     }
-}
-
-/// Whether a parameter has this name.
-fn has_name(param: Param, name: &Name) -> bool
-    ensures { result ≡ bytes_eq name.now.key (param_tree param.entry).key }
-{
-    match param {
-        Param::Var(var) => *name == *var.name,
-        Param::Value(_) => name.key().bytes() == b"ret_val".as_slice(),
-    }
-}
-
-/// Whether an argument is for the parameter of this name.
-fn is_for(how: How, callee: &Entry, name: &Name, arg: &Arg) -> bool
-    ensures { result
-        ≡ calls.is_for (how_tree how) (block_of callee.now) name.now.key (arg_tree arg.now) }
-{
-    match param_for(how, callee, arg) {
-        Some(param) => has_name(param, name),
-        None => false,
-    }
-}
-
-/// The first argument for the parameter of this name.
-fn argument_for<'c>(how: How, callee: &Entry, name: &Name, call: &'c CallTree) -> Option<&'c Arg>
-    ensures { option_map (λ a. arg_tree a.now) result
-        ≡ find (calls.is_for (how_tree how) (block_of callee.now) name.now.key)
-        (call_tree call.now).args }
-{
-    for arg in &call.args {
-        if is_for(how, callee, name, arg) {
-            return Some(arg);
-        }
-    }
-    None
 }
 
 /// The operand that an expression reads.
@@ -154,10 +118,12 @@ fn hand_in(
     inner: &Context,
     how: How,
     call: &CallTree,
+    named: &Firsts,
     program: &mut Program,
     made: &mut Vec<Inward>,
     var: Var,
 ) -> Result<(), ResolveFault>
+    requires { FindsArguments (how_tree how) (block_in inner.now) (call_tree call.now).args named.now }
     ensures grows { OnOk result (Extends program.old program.new) }
     ensures given { (source : Source) (hs : List Handed)
         → IsContext context.now source → IsContext inner.now source
@@ -177,7 +143,7 @@ fn hand_in(
     if !goes_in(var.of.section) {
         return Ok(());
     }
-    match argument_for(how, inner.scope.entry, var.name, call) {
+    match named_argument(named, how, inner.scope.entry, var.name, call) {
         Some(arg) => give(alloc, context, inner, program, made, var.name, &arg.value),
         None => Ok(()),
     }
@@ -190,8 +156,10 @@ fn add_inward(
     inner: &Context,
     how: How,
     call: &CallTree,
+    named: &Firsts,
     program: &mut Program,
 ) -> Result<Span, ResolveFault>
+    requires { FindsArguments (how_tree how) (block_in inner.now) (call_tree call.now).args named.now }
     ensures grows { OnOk result (Extends program.old program.new) }
     ensures are { (source : Source) → IsContext context.now source → IsContext inner.now source
         → IfOk result (λ s. AreInward source (block_in context.now) program.new
@@ -206,7 +174,9 @@ fn add_inward(
     let mut made = Vec::new(alloc);
     let vars = inner.scope.entry.vars();
     for var in vars {
-        hand_in(alloc, context, inner, how, call, program, &mut made, *var)?;
+        hand_in(
+            alloc, context, inner, how, call, named, program, &mut made, *var,
+        )?;
     }
     let span = append_inward(program, made.as_slice())?;
     Ok(span)
@@ -218,7 +188,7 @@ fn add_taker(
     context: &Context,
     program: &mut Program,
     e: &Expr,
-) -> Result<Option<u32>, ResolveFault>
+) -> Result<Option<usize>, ResolveFault>
     ensures grows { OnOk result (Extends program.old program.new) }
     ensures goes { (source : Source) → IsContext context.now source
         → IfOk result (λ to. GoesTo source (block_in context.now) program.new to
@@ -279,10 +249,12 @@ fn hand_out(
     inner: &Context,
     how: How,
     call: &CallTree,
+    named: &Firsts,
     program: &mut Program,
     made: &mut Vec<Outward>,
     var: Var,
 ) -> Result<(), ResolveFault>
+    requires { FindsArguments (how_tree how) (block_in inner.now) (call_tree call.now).args named.now }
     ensures grows { OnOk result (Extends program.old program.new) }
     ensures taken { (source : Source) (hs : List Handed)
         → IsContext context.now source → IsContext inner.now source
@@ -302,7 +274,7 @@ fn hand_out(
     if !goes_out(var.of.section) {
         return Ok(());
     }
-    match argument_for(how, inner.scope.entry, var.name, call) {
+    match named_argument(named, how, inner.scope.entry, var.name, call) {
         Some(arg) => take(alloc, context, inner, program, made, var.name, &arg.value),
         None => Ok(()),
     }
@@ -315,41 +287,6 @@ fn is_by_stl(how: How) -> bool
         How::Call | How::Uc => true,
         How::Statement | How::Value => false,
     }
-}
-
-/// Whether a parameter has the name of a function's value.
-fn has_value_name(param: Param) -> bool
-    ensures { result ≡ bytes_eq value_key (param_tree param.entry).key }
-{
-    match param {
-        Param::Var(var) => b"ret_val".as_slice() == var.name.key().bytes(),
-        Param::Value(_) => true,
-    }
-}
-
-/// Whether an argument is for the parameter with the name of a function's value.
-fn is_for_value(how: How, callee: &Entry, arg: &Arg) -> bool
-    ensures { result
-        ≡ calls.is_for (how_tree how) (block_of callee.now) value_key (arg_tree arg.now) }
-{
-    match param_for(how, callee, arg) {
-        Some(param) => has_value_name(param),
-        None => false,
-    }
-}
-
-/// The first argument for the parameter with the name of a function's value.
-fn argument_for_value<'c>(how: How, callee: &Entry, call: &'c CallTree) -> Option<&'c Arg>
-    ensures { option_map (λ a. arg_tree a.now) result
-        ≡ find (calls.is_for (how_tree how) (block_of callee.now) value_key)
-        (call_tree call.now).args }
-{
-    for arg in &call.args {
-        if is_for_value(how, callee, arg) {
-            return Some(arg);
-        }
-    }
-    None
 }
 
 /// Whether a variable has the name of a function's value.
@@ -451,8 +388,10 @@ fn add_outward(
     inner: &Context,
     how: How,
     call: &CallTree,
+    named: &Firsts,
     program: &mut Program,
 ) -> Result<Span, ResolveFault>
+    requires { FindsArguments (how_tree how) (block_in inner.now) (call_tree call.now).args named.now }
     ensures grows { OnOk result (Extends program.old program.new) }
     ensures are { (source : Source) → IsContext context.now source → IsContext inner.now source
         → IfOk result (λ s. AreOutward source (block_in context.now) program.new
@@ -467,7 +406,9 @@ fn add_outward(
     let mut made = Vec::new(alloc);
     let vars = inner.scope.entry.vars();
     for var in vars {
-        hand_out(alloc, context, inner, how, call, program, &mut made, *var)?;
+        hand_out(
+            alloc, context, inner, how, call, named, program, &mut made, *var,
+        )?;
     }
     hand_any_value(alloc, context, inner, how, call, program, &mut made)?;
     let span = append_outward(program, made.as_slice())?;
@@ -475,28 +416,29 @@ fn add_outward(
 }
 
 /// The number of a block, which is the first of its name, so that the table has it.
-fn number_of_block(context: &Context, entry: &Entry) -> Result<u32, ResolveFault>
-    ensures number { (source : Source) → IsContext context.now source
+fn number_of_block(context: &Context, entry: &Entry) -> usize
+    ensures { (source : Source) → IsContext context.now source
         → scopes.first_block source.project.blocks (block_of entry.now).name.key
         ≡ Some (block_of entry.now)
-        → IfOk result (λ n. slice_get source.project.blocks n ≡ Some (block_of entry.now)) }
-    ensures memory { IfErr result (λ e. e ≡ NoMemory) }
+        → slice_get source.project.blocks result ≡ Some (block_of entry.now) }
 {
     match context.scope.tables.number_of(&entry.block().name) {
-        Some(n) => number(n),
-        None => Ok(0),
+        Some(n) => n,
+        None => 0,
     }
 }
 
-/// Puts a call that runs a block behind those of the program, and gives its number.
-fn add_running(
+/// Puts a call that runs a block behind those of the program, and gives its number; its arguments have these numbers.
+fn add_named(
     alloc: Global,
     context: &Context,
     inner: &Context,
     how: How,
     call: &CallTree,
+    named: &Firsts,
     program: &mut Program,
-) -> Result<u32, ResolveFault>
+) -> Result<usize, ResolveFault>
+    requires { FindsArguments (how_tree how) (block_in inner.now) (call_tree call.now).args named.now }
     ensures grows { OnOk result (Extends program.old program.new) }
     ensures means { (source : Source) → IsContext context.now source → IsContext inner.now source
         → callees.callee_of (record { project = source.project; block = block_in context.now })
@@ -514,10 +456,10 @@ fn add_running(
         → AreLed source program.old.calls.items
         → OnOk result (AreLed source program.new.calls.items) }
 {
-    let block = number_of_block(context, inner.scope.entry)?;
+    let block = number_of_block(context, inner.scope.entry);
     let first = instance_of(context, call)?;
-    let inward = add_inward(alloc, context, inner, how, call, program)?;
-    let outward = add_outward(alloc, context, inner, how, call, program)?;
+    let inward = add_inward(alloc, context, inner, how, call, named, program)?;
+    let outward = add_outward(alloc, context, inner, how, call, named, program)?;
     let made = push_call(
         program,
         Called {
@@ -532,8 +474,38 @@ fn add_running(
     Ok(made)
 }
 
+/// Puts a call that runs a block behind those of the program, and gives its number.
+fn add_running(
+    alloc: Global,
+    context: &Context,
+    inner: &Context,
+    how: How,
+    call: &CallTree,
+    program: &mut Program,
+) -> Result<usize, ResolveFault>
+    ensures grows { OnOk result (Extends program.old program.new) }
+    ensures means { (source : Source) → IsContext context.now source → IsContext inner.now source
+        → callees.callee_of (record { project = source.project; block = block_in context.now })
+        (site (how_tree how) (call_tree call.now)) ≡ callees.runs (block_in inner.now)
+        → IfOk result (λ c. IsCall source (block_in context.now) program.new c
+        (site (how_tree how) (call_tree call.now))) }
+    ensures room { (source : Source)
+        → IsContext context.now source → IsContext inner.now source
+        → HasRoom source (block_in context.now) → HasRoom source (block_in inner.now)
+        → FitsCall (call_tree call.now) → IfErr result (λ e. e ≡ NoMemory) }
+    ensures led { (source : Source) → IsContext context.now source
+        → callees.callee_of (record { project = source.project; block = block_in context.now })
+        (site (how_tree how) (call_tree call.now)) ≡ callees.runs (block_in inner.now)
+        → RunsLed source (block_in context.now) (site (how_tree how) (call_tree call.now))
+        → AreLed source program.old.calls.items
+        → OnOk result (AreLed source program.new.calls.items) }
+{
+    let named = arguments_of(alloc, how, inner.scope.entry, call)?;
+    add_named(alloc, context, inner, how, call, &named, program)
+}
+
 /// Puts a call that runs no block behind those of the program, and gives its number.
-fn add_idle(program: &mut Program, place: Place) -> Result<u32, ResolveFault>
+fn add_idle(program: &mut Program, place: Place) -> Result<usize, ResolveFault>
     ensures grows { OnOk result (Extends program.old program.new) }
     ensures means { (source : Source) (block : BlockTree) (at : CallSite)
         → callees.block_of_callee (callees.callee_of
@@ -564,7 +536,7 @@ pub(crate) fn add_call(
     how: How,
     call: &CallTree,
     program: &mut Program,
-) -> Result<u32, ResolveFault>
+) -> Result<usize, ResolveFault>
     ensures grows { OnOk result (Extends program.old program.new) }
     ensures means { (source : Source) → IsContext context.now source
         → IfOk result (λ c. IsCall source (block_in context.now) program.new c
@@ -596,7 +568,7 @@ pub(crate) fn add_placed_call(
     how: How,
     call: &CallTree,
     program: &mut Program,
-) -> Result<u32, ResolveFault>
+) -> Result<usize, ResolveFault>
     ensures grows { OnOk result (Extends program.old program.new) }
     ensures means { (source : Source) → IsContext context.now source
         → IfOk result (λ c. IsCall source (block_in context.now) program.new c

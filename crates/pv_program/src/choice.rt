@@ -13,7 +13,7 @@ ghost use Rattle.pv_program.specs.Growth.{Extends};
 use crate::grow::append_choices;
 use pv_resolve::{Context, ResolveFault, number_of, start_of};
 use pv_run::{Choice, Program, Span};
-use pv_tree::Choice as ChoiceTree;
+use pv_tree::{Choice as ChoiceTree, ChoiceRange};
 use std::alloc::Global;
 
 /// The value of a choice that is one.
@@ -33,17 +33,13 @@ fn choice_value(context: &Context, choice: &ChoiceTree) -> Result<i64, ResolveFa
 }
 
 /// One value, or a range of them.
-fn choice_of(
-    context: &Context,
-    low: &ChoiceTree,
-    high: &Option<ChoiceTree>,
-) -> Result<Choice, ResolveFault>
-    ensures is { IfOk result (λ c. IsChoiceTo (block_in context.now) c low.now high.now) }
+fn choice_of(context: &Context, range: &ChoiceRange) -> Result<Choice, ResolveFault>
+    ensures is { IfOk result (λ c. IsChoiceTo (block_in context.now) c range.now.0 range.now.1) }
     ensures room { (source : Source) → HasRoom source (block_in context.now)
-        → FitsChoice low.now → FitsUpper high.now → IsOk result }
+        → FitsChoice range.now.0 → FitsUpper range.now.1 → IsOk result }
 {
-    let first = choice_value(context, low)?;
-    match high {
+    let first = choice_value(context, range.lower())?;
+    match range.upper() {
         None => Ok(Choice {
             low: first,
             high: first,
@@ -63,7 +59,7 @@ pub(crate) fn add_choices(
     alloc: Global,
     context: &Context,
     program: &mut Program,
-    choices: &[(ChoiceTree, Option<ChoiceTree>)],
+    choices: &[ChoiceRange],
 ) -> Result<Span, ResolveFault>
     ensures grows { OnOk result (Extends program.old program.new) }
     ensures are { IfOk result (λ s. AreChoices (block_in context.now) program.new s.first s.end
@@ -74,7 +70,7 @@ pub(crate) fn add_choices(
 {
     let mut made = Vec::new(alloc);
     for choice in choices {
-        let range = choice_of(context, &choice.0, &choice.1)?;
+        let range = choice_of(context, choice)?;
         made.push(range)?;
     }
     let span = append_choices(program, made.as_slice())?;

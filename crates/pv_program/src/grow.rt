@@ -10,29 +10,19 @@ use pv_run::{Arm, Body, Branch, Called, Choice, Code, Inward, List, Outward, Pro
 use pv_stl_run::Instr;
 use std::alloc::AllocError;
 
-/// A number of 32 bits; there is no memory for more.
-pub(crate) fn number(n: usize) -> Result<u32, ResolveFault>
-    ensures value { IfOk result (λ v. v ≡ n) }
-    ensures memory { IfErr result (λ e. e ≡ NoMemory) }
-{
-    match u32::try_from(n) {
-        Ok(v) => Ok(v),
-        Err(_) => Err(ResolveFault::NoMemory),
-    }
-}
-
 /// Puts more behind what is there, and gives the numbers of the first of it and of what would stand behind it.
-fn append<T: Copy>(all: &mut Vec<T>, more: &[T]) -> Result<Span, ResolveFault>
+fn append<T: Copy>(all: &mut Vec<T>, more: &[T]) -> Result<Span, AllocError>
     ensures items { OnOk result (all.new.items ≡ all.old.items ++ more.now) }
     ensures stands { IfOk result (λ s. Stands all.new.items s.first s.end more.now) }
     ensures first { IfOk result (λ s. s.first ≡ length all.old.items) }
     ensures end { IfOk result (λ s. s.end ≡ length all.new.items) }
-    ensures memory { IfErr result (λ e. e ≡ NoMemory) }
 {
-    let first = number(all.len())?;
+    let first = all.len();
     all.extend_from_slice(more)?;
-    let end = number(all.len())?;
-    Ok(Span { first, end })
+    Ok(Span {
+        first,
+        end: all.len(),
+    })
 }
 
 /// Puts statements behind those of the program.
@@ -124,13 +114,13 @@ pub(crate) fn make_ranges(program: &mut Program, ranges: usize)
 }
 
 /// Puts a call behind those of the program, and gives its number.
-pub(crate) fn push_call(program: &mut Program, call: Called) -> Result<u32, ResolveFault>
+pub(crate) fn push_call(program: &mut Program, call: Called) -> Result<usize, ResolveFault>
     ensures grows { OnOk result (Extends program.old program.new) }
     ensures at { IfOk result (λ n. slice_get program.new.calls.items n ≡ Some call) }
     ensures pushed { OnOk result (program.new.calls.items ≡ program.old.calls.items ++ call ∷ []) }
     ensures memory { IfErr result (λ e. e ≡ NoMemory) }
 {
-    let n = number(program.calls.len())?;
+    let n = program.calls.len();
     program.calls.push(call)?;
     Ok(n)
 }
@@ -143,19 +133,19 @@ const NOT_MADE: Code = Code {
 };
 
 /// The code of a block is this.
-pub(crate) fn put_code(codes: &mut Vec<Option<Code>>, block: u32, code: Code)
+pub(crate) fn put_code(codes: &mut Vec<Option<Code>>, block: usize, code: Code)
     requires { block < length codes.now.items }
     ensures { codes.new.items ≡ slice_set codes.old.items block (Some code) }
 {
-    codes[block as usize] = Some(code);
+    codes[block] = Some(code);
 }
 
 /// The block of this number counts as one with code.
-fn count_code(codes: &mut Vec<Option<Code>>, block: u32) -> Result<(), AllocError>
+fn count_code(codes: &mut Vec<Option<Code>>, block: usize) -> Result<(), AllocError>
     ensures coded { OnOk result (Coded codes.new.items block) }
     ensures kept { OnOk result ((n : ℕ) → Coded codes.old.items n → Coded codes.new.items n) }
 {
-    while codes.len() <= block as usize {
+    while codes.len() <= block {
         codes.push(Some(NOT_MADE))?;
     }
     put_code(codes, block, NOT_MADE);
@@ -163,7 +153,7 @@ fn count_code(codes: &mut Vec<Option<Code>>, block: u32) -> Result<(), AllocErro
 }
 
 /// While a program is made, each block that a call runs counts as one with code.
-pub(crate) fn see_code(program: &mut Program, block: u32) -> Result<(), ResolveFault>
+pub(crate) fn see_code(program: &mut Program, block: usize) -> Result<(), ResolveFault>
     ensures grows { OnOk result (Extends program.old program.new) }
     ensures calls { OnOk result (program.new.calls ≡ program.old.calls) }
     ensures coded { OnOk result (HasCode program.new block) }
@@ -185,7 +175,7 @@ fn make_room(program: &mut Program, count: usize)
 }
 
 /// Puts an expression behind the values of the program, and gives its number.
-pub(crate) fn push_value(program: &mut Program, value: Expression) -> Result<u32, ResolveFault>
+pub(crate) fn push_value(program: &mut Program, value: Expression) -> Result<usize, ResolveFault>
     ensures grows { OnOk result (Extends program.old program.new) }
     ensures at { IfOk result (λ n. slice_get program.new.values.items n ≡ Some value) }
     ensures fits { OnOk result (value.count ≤ program.new.scratch) }
@@ -193,13 +183,13 @@ pub(crate) fn push_value(program: &mut Program, value: Expression) -> Result<u32
     ensures calls { OnOk result (program.new.calls ≡ program.old.calls) }
 {
     make_room(program, value.len());
-    let n = number(program.values.len())?;
+    let n = program.values.len();
     program.values.push(value)?;
     Ok(n)
 }
 
 /// Puts a target behind those of the program, and gives its number.
-pub(crate) fn push_target(program: &mut Program, target: Target) -> Result<u32, ResolveFault>
+pub(crate) fn push_target(program: &mut Program, target: Target) -> Result<usize, ResolveFault>
     ensures grows { OnOk result (Extends program.old program.new) }
     ensures at { IfOk result (λ n. slice_get program.new.targets.items n ≡ Some target) }
     ensures fits { OnOk result (target.count ≤ program.new.scratch) }
@@ -207,7 +197,7 @@ pub(crate) fn push_target(program: &mut Program, target: Target) -> Result<u32, 
     ensures calls { OnOk result (program.new.calls ≡ program.old.calls) }
 {
     make_room(program, target.len());
-    let n = number(program.targets.len())?;
+    let n = program.targets.len();
     program.targets.push(target)?;
     Ok(n)
 }

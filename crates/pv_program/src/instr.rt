@@ -101,7 +101,7 @@ fn add_instr(
     ensures nested { depth ≡ nested_behind made.old.items 0
         → IfOk result (λ n. n ≡ nested_behind made.new.items 0) }
     ensures are { (source : Source) (all : List InstrTree) → IsContext context.now source
-        → FindsLabels labels.now.at all → FindsJumps labels.now.last all 0 → length all < 2 ^ 32
+        → FindsLabels labels.now.at all → FindsJumps labels.now.last all 0 → length all < 2 ^ 64
         → slice_get all k ≡ Some (instr_tree instr.now) → k ≡ length made.old.items
         → depth ≡ nested_behind made.old.items 0
         → AreMadeInstrs source (block_in context.now) program.old all made.old.items
@@ -143,17 +143,6 @@ fn count_ranges(made: &[Code]) -> usize
     count
 }
 
-/// Sees that instructions go by numbers of 32 bits; there is no memory for more.
-fn see_count(instrs: &[Instr]) -> Result<(), ResolveFault>
-    ensures few { OnOk result (length instrs.now < 2 ^ 32) }
-    ensures memory { IfErr result (λ e. e ≡ NoMemory) }
-{
-    match u32::try_from(instrs.len()) {
-        Ok(_) => Ok(()),
-        Err(_) => Err(ResolveFault::NoMemory),
-    }
-}
-
 /// Puts the instructions of a body behind those of the program.
 pub(crate) fn add_instrs(
     alloc: Global,
@@ -174,7 +163,6 @@ pub(crate) fn add_instrs(
         → AreLed source program.old.calls.items
         → OnOk result (AreLed source program.new.calls.items) }
 {
-    see_count(instrs)?;
     let labels = labels_of(alloc, instrs)?;
     let mut made = Vec::new(alloc);
     let mut depth = 0;

@@ -10,7 +10,6 @@ ghost use Rattle.pv_stl_run.specs.Going.{LeadsTo, range_of};
 ghost use Rattle.pv_resolve.specs.declared.fault.ResolveFault.TheVariants.{NoMemory};
 ghost use Rattle.pv_program.specs.Labels.{label_tree, ends_here, FindsLabels, FindsJumps, IsUnmet, is_from};
 
-use crate::grow::number;
 use crate::word::when;
 use pv_names::Firsts;
 use pv_place::Place;
@@ -142,21 +141,19 @@ pub(crate) fn labels_of(alloc: Global, instrs: &[Instr]) -> Result<Labels, Resol
 }
 
 /// Where a jump at a position leads. Without the label it leads to no instruction, which ends the body.
-pub(crate) fn goal_of(labels: &Labels, k: usize, name: &Name) -> Result<Goal, ResolveFault>
-    ensures leads { (all : List InstrTree) → FindsLabels labels.now.at all → length all < 2 ^ 32
-        → IfOk result (λ goal. LeadsTo all k name.now.key goal) }
-    ensures memory { IfErr result (λ e. e ≡ NoMemory) }
+pub(crate) fn goal_of(labels: &Labels, k: usize, name: &Name) -> Goal
+    ensures { (all : List InstrTree) → FindsLabels labels.now.at all → length all < 2 ^ 64
+        → LeadsTo all k name.now.key result }
 {
     match labels.at.find(name) {
         Some(at) => {
-            let to = number(at)?;
             if at > k {
-                Ok(Goal::Ahead(to))
+                Goal::Ahead(at)
             } else {
-                Ok(Goal::Back(to))
+                Goal::Back(at)
             }
         }
-        None => Ok(Goal::Back(u32::MAX)),
+        None => Goal::Back(usize::MAX),
     }
 }
 

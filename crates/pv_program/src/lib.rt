@@ -6,6 +6,7 @@
 #![tactic(auto)]
 
 mod action;
+mod argument;
 mod block;
 mod call;
 mod choice;

@@ -64,7 +64,7 @@ fn visible_types(alloc: Global, cells: &[Cell]) -> Result<Vec<Ty>, AllocError>
 }
 
 /// A program of nothing yet.
-fn begun(alloc: Global, types: Vec<Ty>, bound: u32, entry: u32) -> Program
+fn begun(alloc: Global, types: Vec<Ty>, bound: u32, entry: usize) -> Program
     ensures types { result.types ≡ types }
     ensures bound { result.bound ≡ bound }
     ensures entry { result.entry ≡ entry }
@@ -125,7 +125,7 @@ fn program_with(
         → IfErr result (λ e. e ≡ NoMemory) }
 {
     let types = visible_types(alloc, cells)?;
-    let mut program = begun(alloc, types, bound, entry);
+    let mut program = begun(alloc, types, bound, entry as usize);
     let blocks = reached(alloc, context, &mut program)?;
     Ok(with_blocks(program, blocks))
 }
@@ -229,7 +229,7 @@ fn program_among(
 /// It is too large where a number of a cell lies beyond what a table may have, or an instance begins at 2^16 cells or more; where a
 /// number of the text doesn't fit 64 bits; where there is no such block; where an address has no cell, or a parameter the name of a
 /// constant; and where a body of STL breaks a rule, as `add_instrs` says. No project that keeps the rules, with its own table, whose
-/// blocks tokens spell, is refused so. Want of memory is also told of 2^31 statements of a body, and of 2^32 elements of an array.
+/// blocks tokens spell, is refused so.
 pub fn program_of(
     alloc: Global,
     project: &Project,

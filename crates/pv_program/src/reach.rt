@@ -23,17 +23,17 @@ use pv_run::{Called, Code, Program};
 use std::alloc::Global;
 
 /// Whether there is code of the block of this number.
-fn has_code(codes: &[Option<Code>], block: u32) -> bool
+fn has_code(codes: &[Option<Code>], block: usize) -> bool
     ensures { result ≡ is_some (slice_index_or codes.now block None) }
 {
-    match codes.get(block as usize) {
+    match codes.get(block) {
         Some(code) => code.is_some(),
         None => false,
     }
 }
 
 /// The block that a call runs, if it has no code.
-fn missing(call: &Called, codes: &[Option<Code>]) -> Option<u32>
+fn missing(call: &Called, codes: &[Option<Code>]) -> Option<usize>
     ensures none { IfNone result (IsMade codes.now call.now) }
     ensures some { IfSome result (λ n. slice_index_or codes.now n None ≡ None) }
     ensures runs { IfSome result (λ n. call.now.block ≡ Some n) }
@@ -51,7 +51,7 @@ fn missing(call: &Called, codes: &[Option<Code>]) -> Option<u32>
 }
 
 /// The first of the calls from this number on that runs a block without code: its number, and the block's.
-fn next_missing(calls: &[Called], from: usize, codes: &[Option<Code>]) -> Option<(usize, u32)>
+fn next_missing(calls: &[Called], from: usize, codes: &[Option<Code>]) -> Option<(usize, usize)>
     ensures none { AreMade codes.now calls.now from
         → IfNone result (AreMade codes.now calls.now (length calls.now)) }
     ensures some { AreMade codes.now calls.now from
@@ -74,7 +74,7 @@ fn make_code(
     alloc: Global,
     context: &Context,
     program: &mut Program,
-    block: u32,
+    block: usize,
 ) -> Result<Code, ProgramFault>
     ensures grows { OnOk result (Extends program.old program.new) }
     ensures inside { OnOk result (block < length (blocks_of context.now.scope.tables.now)) }
@@ -87,7 +87,7 @@ fn make_code(
         → IsLed source block → AreLed source program.old.calls.items
         → OnOk result (AreLed source program.new.calls.items) }
 {
-    match context_at(*context, block as usize) {
+    match context_at(*context, block) {
         Some(inner) => add_code(alloc, &inner, program),
         None => Err(ProgramFault::TooLarge),
     }
@@ -99,7 +99,7 @@ fn add_block(
     context: &Context,
     program: &mut Program,
     codes: &mut Vec<Option<Code>>,
-    block: u32,
+    block: usize,
 ) -> Result<(), ProgramFault>
     requires { length codes.now.items ≡ length (blocks_of context.now.scope.tables.now) }
     ensures grows { OnOk result (Extends program.old program.new) }

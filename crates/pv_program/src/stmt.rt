@@ -26,7 +26,7 @@ use pv_names::How;
 use pv_place::Place;
 use pv_resolve::{Context, ResolveFault, number_of};
 use pv_run::{Arm, Branch, Counting, List, Program, Span, Stmt};
-use pv_tree::{CallTree, Choice as ChoiceTree, Expr, ForHead, Operand, Stmt as StmtTree};
+use pv_tree::{CallTree, ChoiceRange, Expr, ForHead, Operand, Stmt as StmtTree};
 use pv_types::Literal;
 use std::alloc::Global;
 
@@ -188,7 +188,7 @@ fn make_branches(
     alloc: Global,
     context: &Context,
     program: &mut Program,
-    branches: &Vec<(Vec<(ChoiceTree, Option<ChoiceTree>)>, Vec<StmtTree>)>,
+    branches: &Vec<(Vec<ChoiceRange>, Vec<StmtTree>)>,
 ) -> Result<Span, ResolveFault>
     ensures grows { OnOk result (Extends program.old program.new) }
     ensures are { (source : Source) → IsContext context.now source
@@ -291,7 +291,7 @@ fn make_case(
     context: &Context,
     program: &mut Program,
     selector: &Expr,
-    branches: &Vec<(Vec<(ChoiceTree, Option<ChoiceTree>)>, Vec<StmtTree>)>,
+    branches: &Vec<(Vec<ChoiceRange>, Vec<StmtTree>)>,
     other: &Option<Box<Vec<StmtTree>>>,
 ) -> Result<Stmt, ResolveFault>
     ensures grows { OnOk result (Extends program.old program.new) }

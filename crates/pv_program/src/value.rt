@@ -23,7 +23,7 @@ pub(crate) fn add_value(
     context: &Context,
     program: &mut Program,
     e: &Expr,
-) -> Result<u32, ResolveFault>
+) -> Result<usize, ResolveFault>
     ensures grows { OnOk result (Extends program.old program.new) }
     ensures means { (source : Source) → IsContext context.now source
         → IfOk result (λ n. IsValue source (block_in context.now) program.new n (expr_tree e.now)) }
@@ -43,7 +43,7 @@ pub(crate) fn add_target(
     context: &Context,
     program: &mut Program,
     operand: &Operand,
-) -> Result<u32, ResolveFault>
+) -> Result<usize, ResolveFault>
     ensures grows { OnOk result (Extends program.old program.new) }
     ensures means { (source : Source) → IsContext context.now source
         → IfOk result (λ n. IsTarget source (block_in context.now) program.new n
@@ -83,7 +83,7 @@ pub(crate) fn add_counter(
     program: &mut Program,
     name: &Name,
     place: Place,
-) -> Result<u32, ResolveFault>
+) -> Result<usize, ResolveFault>
     ensures grows { OnOk result (Extends program.old program.new) }
     ensures means { (source : Source) → IsContext context.now source
         → IfOk result (λ n. IsTarget source (block_in context.now) program.new n

@@ -1,7 +1,7 @@
 -- Tables of first cells: as they are made, variable by variable and block by block, and what is found by them.
 use Rattle.std.proofs.Common.{◌≡◌, ℕ, zero, suc, ◌+◌, ◌<◌, ◌≤◌, List, [], ◌∷◌, ◌++◌, Bool, true, false, cond, Option, Some, None, length, map, get_or, drop, slice_get, option_map, refl, sym, ap, ◌∙◌, subst, append_assoc, append-nil, arith}
-use Rattle.std.specs.Prelude.{bytes_eq, nat_lt, IfSome, if◌then◌else◌}
-use Rattle.std.proofs.lemmas.List.{drop_all}
+use Rattle.std.specs.Prelude.{bytes_eq, nat_lt, if◌then◌else◌}
+use Rattle.std.proofs.lemmas.List.{drop_all, length-append, length-map}
 use Rattle.std.proofs.lemmas.Bool.{ltb-true, ltb-false}
 use Rattle.std.proofs.lemmas.Option.{same_Some, none-some, slice_get-map, slice_get-get_or, slice_get_past}
 use Rattle.pv_types.specs.declared.declaration.Section.{Section}
@@ -9,7 +9,7 @@ use Rattle.pv_place.specs.declared.place.Place.{Place}
 use Rattle.pv_types.specs.declared.name.Name.{Name}
 use Rattle.pv_types.specs.declared.declaration.Vars.{Vars}
 use Rattle.pv_types.specs.declared.var.Var.{Var}
-use Rattle.pv_types.specs.Tree.{TypeTree, VarTree, var}
+use Rattle.pv_types.specs.Tree.{VarTree, var}
 use Rattle.pv_types.specs.View.{type_tree, vars_tree, word_tree, var_tree, var_trees, name_of, section_of, declared_type_of}
 use Rattle.pv_types.proofs.ForCallers.{vars_seen, var_seen, mapped_from, vars_from}
 use Rattle.pv_tree.specs.Tree.{BlockTree}
@@ -20,7 +20,7 @@ use Rattle.pv_mean.specs.Counts.{capped}
 use Rattle.pv_mean.specs.LaidOut.{capped_laid, size_where}
 use Rattle.pv_resolve.specs.declared.firsts.BlockFirsts.{BlockFirsts}
 use Rattle.pv_resolve.specs.Begins.{further}
-use Rattle.pv_resolve.specs.Firsts.{fronts, laid_nth, HasFirsts, AreTables, IsNumbered}
+use Rattle.pv_resolve.specs.Firsts.{fronts, laid_nth, HasFirsts, AreOfBlock, AreTables, IsNumbered}
 use Rattle.pv_resolve.proofs.Beginning.{laid_from}
 
 -- ---- the table of a part
@@ -221,9 +221,9 @@ are_of ts sized seen project bs of same all are =
     subst (λ p. AreTables p ts project.blocks) same (subst (AreTables sized ts) (of ∙ ap (λ (p : ProjectTree). p.blocks) all) are)
 
 pub tables_more : (project : ProjectTree) (ts : List BlockFirsts) (bs : List BlockTree) (t : BlockFirsts) (b : BlockTree)
-    → AreTables project ts bs → slice_get bs (length ts) ≡ Some b → HasFirsts project b.vars t → AreTables project (ts ++ t ∷ []) bs
+    → AreTables project ts bs → slice_get bs (length ts) ≡ Some b → AreOfBlock project b t → AreTables project (ts ++ t ∷ []) bs
 tables_more project [] [] t b are is h = tt
-tables_more project [] (x ∷ bs) t b are is h = (subst (λ (b : BlockTree). HasFirsts project b.vars t) (sym (same_Some x b is)) h, tt)
+tables_more project [] (x ∷ bs) t b are is h = (subst (λ (b : BlockTree). AreOfBlock project b t) (sym (same_Some x b is)) h, tt)
 tables_more project (u ∷ ts) [] t b are is h = tt
 tables_more project (u ∷ ts) (x ∷ bs) t b are is h = (are.0, tables_more project ts bs t b are.1 is h)
 
@@ -232,8 +232,21 @@ pub table_at : (project : ProjectTree) (ts : List BlockFirsts) (bs : List BlockT
 table_at project [] bs n t b are is at = absurd (none-some t is)
 table_at project (u ∷ ts) [] n t b are is at = absurd (none-some b at)
 table_at project (u ∷ ts) (x ∷ bs) zero t b are is at =
-    subst (λ t. HasFirsts project b.vars t) (same_Some u t is) (subst (λ (b : BlockTree). HasFirsts project b.vars u) (same_Some x b at) are.0)
+    subst (λ t. HasFirsts project b.vars t) (same_Some u t is) (subst (λ (b : BlockTree). HasFirsts project b.vars u) (same_Some x b at) are.0.firsts)
 table_at project (u ∷ ts) (x ∷ bs) (suc n) t b are is at = table_at project ts bs n t b are.1 is at
+
+-- each element has one, once a loop went along all
+pub one_more : {X Y Z : Type 0} (f : X → Y) (xs : List X) (ys : List Y) (old new : List Z) (z : Z) (i : ℕ) → map f xs ≡ ys → length old ≡ i
+    → i < length xs → new ≡ old ++ z ∷ [] → length new ≤ length ys
+one_more f xs ys old new z i all count inside is =
+    let n = ap length is in let k = length-append old (z ∷ []) in let m : length xs ≡ length ys = sym (length-map xs f) ∙ ap length all in
+    omega (arith, count, inside, n, k, m)
+
+pub one_each : {X Y : Type 0} (f : X → Y) (xs : List X) (ys : List Y) (n i : ℕ) → map f xs ≡ ys → n ≡ i → n ≤ length ys → length xs ≤ i
+    → n ≡ length ys
+one_each f xs ys n i all count within past =
+    let m : length xs ≡ length ys = sym (length-map xs f) ∙ ap length all in
+    omega (arith, count, within, past, m)
 
 -- ---- the number of a block
 

@@ -1,18 +1,19 @@
 //! Where the variables of a project's blocks lie: found once, in time that is linear in the project, so that of each name it is then
 //! known without a walk along the variables in front of it.
-ghost use Rattle.std.specs.Prelude.{◌≡◌, ◌+◌, ◌++◌, ℕ, ◌∷◌, [], map, slice_get, Some, List, IfOk, IfSome, OnOk};
+ghost use Rattle.std.specs.Prelude.{◌≡◌, ◌+◌, ◌++◌, ℕ, ◌∷◌, [], map, slice_get, is_some, Some, List, IfOk, IfSome, OnOk};
 ghost use Rattle.pv_types.specs.View.{type_tree, vars_tree, var_tree, var_trees};
 ghost use Rattle.pv_types.specs.Tree.{VarTree};
-ghost use Rattle.pv_tree.specs.Scopes.{ProjectTree};
+ghost use Rattle.pv_tree.specs.Scopes.{ProjectTree, is_fb};
 ghost use Rattle.pv_tree.specs.Tree.{BlockTree};
 ghost use Rattle.pv_tree.specs.View.{block_tree};
 ghost use Rattle.pv_mean.specs.Layout as layout;
 ghost use Rattle.pv_mean.specs.LaidOut as counted;
+ghost use Rattle.pv_mean.specs.declared.laid.Part.TheVariants.{Temporary};
 ghost use Rattle.pv_mean.specs.Sized.{sized_project};
 ghost use Rattle.pv_mean.specs.Sources.{Source};
 ghost use Rattle.pv_mean.specs.Counts.{capped};
 ghost use Rattle.pv_resolve.specs.Contexts.{IsContext};
-ghost use Rattle.pv_resolve.specs.Firsts.{fronts, laid_nth, AddsVariables, HasFronts, HasFirsts, AreFirsts};
+ghost use Rattle.pv_resolve.specs.Firsts.{fronts, laid_nth, main_part, AddsVariables, HasFronts, HasFirsts, AreOfBlock, AreFirsts};
 
 use crate::context::Context;
 use pv_mean::{BEYOND, Laid, Part, Sizes};
@@ -67,7 +68,8 @@ impl PartFirsts {
 
     /// Those of a part of these variables.
     fn of(alloc: Global, sizes: &Sizes, part: Part, vars: &[Vars]) -> Result<PartFirsts, AllocError>
-        ensures { IfOk result (HasFronts (sized_project sizes.now) (var_trees vars.now)) }
+        ensures fronts { IfOk result (HasFronts (sized_project sizes.now) (var_trees vars.now)) }
+        ensures part { IfOk result (λ p. p.part ≡ part) }
     {
         let mut so_far = PartFirsts {
             part,
@@ -121,10 +123,14 @@ struct BlockFirsts {
 }
 
 /// The part of the first table of a block.
-fn main_part(kind: &BlockKind) -> Part {
+fn main_part(kind: &BlockKind) -> Part
+    ensures { result ≡ main_part kind.now }
+{
     match kind {
-        BlockKind::Fb | BlockKind::Udt => Part::Instance,
-        BlockKind::Fc | BlockKind::Ob => Part::Activation,
+        BlockKind::Fb => Part::Instance,
+        BlockKind::Udt => Part::Instance,
+        BlockKind::Fc => Part::Activation,
+        BlockKind::Ob => Part::Activation,
         BlockKind::Db { .. } => Part::Fields,
     }
 }
@@ -135,8 +141,10 @@ fn temporary_of(
     sizes: &Sizes,
     block: &Block,
 ) -> Result<Option<PartFirsts>, AllocError>
-    ensures { IfOk result (λ o. IfSome o (HasFronts (sized_project sizes.now)
+    ensures fronts { IfOk result (λ o. IfSome o (HasFronts (sized_project sizes.now)
         (block_tree block.now).vars)) }
+    ensures two { IfOk result (λ o. is_some o ≡ is_fb (block_tree block.now).kind) }
+    ensures second { IfOk result (λ o. IfSome o (λ p. p.part ≡ Temporary)) }
 {
     match block.kind {
         BlockKind::Fb => {
@@ -144,14 +152,17 @@ fn temporary_of(
             let firsts = PartFirsts::of(alloc, sizes, Part::Temporary, vars)?;
             Ok(Some(firsts))
         }
-        BlockKind::Fc | BlockKind::Ob | BlockKind::Db { .. } | BlockKind::Udt => Ok(None),
+        BlockKind::Fc => Ok(None),
+        BlockKind::Ob => Ok(None),
+        BlockKind::Db { .. } => Ok(None),
+        BlockKind::Udt => Ok(None),
     }
 }
 
 impl BlockFirsts {
     /// Those of a block of the project of these sizes.
     fn of(alloc: Global, sizes: &Sizes, block: &Block) -> Result<BlockFirsts, AllocError>
-        ensures { IfOk result (HasFirsts (sized_project sizes.now) (block_tree block.now).vars) }
+        ensures { IfOk result (AreOfBlock (sized_project sizes.now) (block_tree block.now)) }
     {
         let vars = block.interface.vars.as_slice();
         let main = PartFirsts::of(alloc, sizes, main_part(&block.kind), vars)?;

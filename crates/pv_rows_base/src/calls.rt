@@ -66,7 +66,7 @@ impl Calls for Base {
             "tokens of SCL" => tell_tokens(Language::Scl, row.bytes(0, told).as_slice(), told),
             "tokens of STL" => tell_tokens(Language::Stl, row.bytes(0, told).as_slice(), told),
             "sample" => tell_sample(false, said(row, 0, told).as_str(), told),
-            "sample trace" => tell_sample(true, said(row, 0, told).as_str(), told),
+            "sample turns" => tell_sample(true, said(row, 0, told).as_str(), told),
             "formula" => tell_formula(given, said(row, 0, told).as_str(), told),
             "flip" => tell_flip(said(row, 0, told).as_str(), told),
             "values" => tell_values(given, said(row, 0, told).as_str(), told),

@@ -1,6 +1,6 @@
 //! The tokens of sources, and the recognizer on its sample language.
 use pv_lex::{Kind, Language, LexFault, MAX_SOURCE, Token, token_value, tokens};
-use pv_ll::recognize_sample;
+use pv_ll::{Turn, recognize_sample};
 use pv_rows_form::Told;
 use std::alloc::{AllocError, Global};
 
@@ -71,24 +71,29 @@ fn kinds_of(alloc: Global, said: &str) -> Result<Vec<u8>, AllocError> {
 }
 
 /// Whether a text is one of the sample language, whose kinds are 0 for a name, 1 for `:=`, 2 for `;`, 3 and 4 for parentheses, 5 for OR and 6
-/// for AND: its trace where that is asked, else `-`; or the number of its first token at fault.
-pub fn tell_sample(traced: bool, said: &str, told: &mut Told) {
+/// for AND: where that is asked, what happens along its walk if all alternatives act, else `-`; or the number of its first token at
+/// fault.
+pub fn tell_sample(walked: bool, said: &str, told: &mut Told) {
     let Ok(kinds) = kinds_of(told.alloc(), said) else {
         return told.lose();
     };
-    match recognize_sample(told.alloc(), kinds.as_slice()) {
-        Ok(Ok(trace)) if traced => tell_trace(trace.as_slice(), told),
+    match recognize_sample(told.alloc(), &[true; 11], kinds.as_slice()) {
+        Ok(Ok(turns)) if walked => tell_turns(turns.as_slice(), told),
         Ok(Ok(_)) => told.text("-"),
         Ok(Err(at)) => told.number(at as i128),
         Err(_) => told.lose(),
     }
 }
 
-fn tell_trace(trace: &[u16], told: &mut Told) {
+/// A token that is passed is a dot, an alternative that is left its number.
+fn tell_turns(turns: &[Turn], told: &mut Told) {
     let mut between = "";
-    for alternative in trace {
+    for turn in turns {
         told.text(between);
-        told.number(i128::from(*alternative));
+        match turn {
+            Turn::Pass => told.text("."),
+            Turn::Leave(k) => told.number(i128::from(*k)),
+        }
         between = " ";
     }
 }

@@ -65,13 +65,13 @@ fn short(k: usize) -> u32 {
 
 /// Where a jump of this number to the label goes.
 fn goal_of(parts: &str, from: usize, label: &str) -> Goal {
-    let mut back = u32::MAX;
+    let mut back = usize::MAX;
     for (k, part) in parts.split(';').enumerate() {
         if has_label(part, label) {
             if k > from {
-                return Goal::Ahead(short(k));
+                return Goal::Ahead(k);
             }
-            back = short(k);
+            back = k;
         }
     }
     Goal::Back(back)

@@ -19,6 +19,9 @@ DATA_BLOCK Data STRUCT END_STRUCT BEGIN END_DATA_BLOCK FUNCTION_BLOCK DEMO END_F
 
 /// Tells which of the blocks the entry's text names.
 fn tell_number(blocks: &Blocks, text: &str, told: &mut Told) {
+    if blocks.list.len() > u32::MAX as usize {
+        return;
+    }
     match entry_of(told.alloc(), blocks, text) {
         Ok(number) => told.number(i128::from(number)),
         Err(EntryFault::NoEntry) => told.text("no"),

@@ -6,7 +6,7 @@ use crate::trees::{
 };
 use pv_place::Place;
 use pv_rows_form::Told;
-use pv_tree::{Choice, Expr, ForHead, Instr, Stmt};
+use pv_tree::{Choice, ChoiceRange, Expr, ForHead, Instr, Stmt};
 use pv_types::{Literal, Name};
 
 fn tell_choice(view: View, choice: &Choice, told: &mut Told) {
@@ -17,12 +17,12 @@ fn tell_choice(view: View, choice: &Choice, told: &mut Told) {
 }
 
 /// The values of a branch of CASE.
-fn tell_label(view: View, label: &[(Choice, Option<Choice>)], told: &mut Told) {
+fn tell_label(view: View, label: &[ChoiceRange], told: &mut Told) {
     let mut between = "[";
-    for (lower, upper) in label {
+    for range in label {
         told.text(between);
-        tell_choice(view, lower, told);
-        if let Some(upper) = upper {
+        tell_choice(view, range.lower(), told);
+        if let Some(upper) = range.upper() {
             told.text("..");
             tell_choice(view, upper, told);
         }
@@ -115,7 +115,7 @@ fn tell_arm(view: View, arm: &(Expr, Vec<Stmt>), told: &mut Told) {
 }
 
 /// The values of a branch of CASE.
-fn tell_branch(view: View, branch: &(Vec<(Choice, Option<Choice>)>, Vec<Stmt>), told: &mut Told) {
+fn tell_branch(view: View, branch: &(Vec<ChoiceRange>, Vec<Stmt>), told: &mut Told) {
     tell_label(view, branch.0.as_slice(), told);
 }
 

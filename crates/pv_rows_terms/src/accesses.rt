@@ -5,9 +5,9 @@ use pv_access::{Check, Move, Storage, Writing, push_read, push_unset, push_write
 use pv_flow::{Node, Set};
 use pv_place::Place;
 use pv_rows_form::{Row, Told};
-use pv_terms::push_variable;
+use pv_terms::{TermFault, push_variable};
 use pv_word::Ty;
-use std::alloc::{AllocError, Global};
+use std::alloc::Global;
 
 /// What a row asks: what is read or written, of which type, the indexes and what is put.
 #[derive(Clone, Copy)]
@@ -52,11 +52,11 @@ fn storage_of(text: &str) -> Storage {
 }
 
 /// The term of a variable, `v` and its number.
-fn push_named(nodes: &mut Vec<Node>, word: &str) -> Result<u32, AllocError> {
+fn push_named(nodes: &mut Vec<Node>, word: &str) -> Result<u32, TermFault> {
     push_variable(nodes, number_in(word.strip_prefix("v").unwrap_or("")))
 }
 
-fn push_move(nodes: &mut Vec<Node>, moves: &mut Vec<Move>, text: &str) -> Result<(), AllocError> {
+fn push_move(nodes: &mut Vec<Node>, moves: &mut Vec<Move>, text: &str) -> Result<(), TermFault> {
     let index = push_named(nodes, word_at(text, 0))?;
     moves.push(Move {
         index,
@@ -67,7 +67,7 @@ fn push_move(nodes: &mut Vec<Node>, moves: &mut Vec<Move>, text: &str) -> Result
     Ok(())
 }
 
-fn push_moves(nodes: &mut Vec<Node>, moves: &mut Vec<Move>, text: &str) -> Result<(), AllocError> {
+fn push_moves(nodes: &mut Vec<Node>, moves: &mut Vec<Move>, text: &str) -> Result<(), TermFault> {
     for one in text.split(',') {
         if one != "" {
             push_move(nodes, moves, one.trim())?;
@@ -77,7 +77,7 @@ fn push_moves(nodes: &mut Vec<Node>, moves: &mut Vec<Move>, text: &str) -> Resul
 }
 
 /// What is put: a variable, or `where` one that is true another.
-fn push_writing(nodes: &mut Vec<Node>, text: &str) -> Result<Writing, AllocError> {
+fn push_writing(nodes: &mut Vec<Node>, text: &str) -> Result<Writing, TermFault> {
     if word_at(text, 0) != "where" {
         return Ok(Writing::Assign(push_named(nodes, word_at(text, 0))?));
     }
@@ -123,7 +123,7 @@ fn tell_checks(pushed: &Pushed, told: &mut Told) {
 
 // ---- what is asked
 
-fn push_read_of(pushed: &mut Pushed, row: &Asked<'_>) -> Result<u32, AllocError> {
+fn push_read_of(pushed: &mut Pushed, row: &Asked<'_>) -> Result<u32, TermFault> {
     push_moves(&mut pushed.nodes, &mut pushed.moves, row.moves)?;
     push_read(
         &mut pushed.nodes,
@@ -133,7 +133,7 @@ fn push_read_of(pushed: &mut Pushed, row: &Asked<'_>) -> Result<u32, AllocError>
     )
 }
 
-fn push_unset_of(pushed: &mut Pushed, row: &Asked<'_>) -> Result<(), AllocError> {
+fn push_unset_of(pushed: &mut Pushed, row: &Asked<'_>) -> Result<(), TermFault> {
     push_moves(&mut pushed.nodes, &mut pushed.moves, row.moves)?;
     push_unset(
         &mut pushed.nodes,
@@ -144,7 +144,7 @@ fn push_unset_of(pushed: &mut Pushed, row: &Asked<'_>) -> Result<(), AllocError>
     )
 }
 
-fn push_write_of(alloc: Global, pushed: &mut Pushed, row: &Asked<'_>) -> Result<(), AllocError> {
+fn push_write_of(alloc: Global, pushed: &mut Pushed, row: &Asked<'_>) -> Result<(), TermFault> {
     push_moves(&mut pushed.nodes, &mut pushed.moves, row.moves)?;
     let writing = push_writing(&mut pushed.nodes, row.value)?;
     push_write(
@@ -161,15 +161,15 @@ fn tell_asked(word: &str, pushed: &mut Pushed, asked: &Asked<'_>, told: &mut Tol
     match word {
         "reads" => match push_read_of(pushed, asked) {
             Ok(n) => tell_read(pushed, n, told),
-            Err(_) => told.lose(),
+            Err(fault) => told.words(&fault),
         },
         "unset" => match push_unset_of(pushed, asked) {
             Ok(()) => tell_checks(pushed, told),
-            Err(_) => told.lose(),
+            Err(fault) => told.words(&fault),
         },
         _ => match push_write_of(told.alloc(), pushed, asked) {
             Ok(()) => tell_sets(pushed, told),
-            Err(_) => told.lose(),
+            Err(fault) => told.words(&fault),
         },
     }
 }

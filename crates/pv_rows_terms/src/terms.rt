@@ -3,12 +3,11 @@ use crate::reading::{type_of, type_word};
 use pv_flow::{BinaryOp as Two, Node, UnaryOp as One};
 use pv_rows_form::{Row, Told};
 use pv_terms::{
-    Given, converted, push_between, push_constant, push_function, push_is_index, push_operator,
-    push_outside, push_variable,
+    Given, TermFault, converted, push_between, push_constant, push_function, push_is_index,
+    push_operator, push_outside, push_variable,
 };
 use pv_tree::{BinaryOp, StdFunction, UnaryOp};
 use pv_word::Ty;
-use std::alloc::AllocError;
 
 const BINARY: [(&str, BinaryOp); 14] = [
     ("*", BinaryOp::Mul),
@@ -129,7 +128,7 @@ pub fn tell_term(nodes: &[Node], n: u32, depth: u32, told: &mut Told) {
 // ---- operands
 
 /// An operand: its type, and the number of its term.
-fn push_operand(nodes: &mut Vec<Node>, text: &str) -> Result<Given, AllocError> {
+fn push_operand(nodes: &mut Vec<Node>, text: &str) -> Result<Given, TermFault> {
     let (word, value) = text.trim().split_once(' ').unwrap_or(("", ""));
     let ty = type_of(word);
     let term = match value.strip_prefix("v") {
@@ -143,7 +142,7 @@ fn push_operands(
     nodes: &mut Vec<Node>,
     given: &mut Vec<Given>,
     text: &str,
-) -> Result<(), AllocError> {
+) -> Result<(), TermFault> {
     for one in text.split(',') {
         let operand = push_operand(nodes, one)?;
         given.push(operand)?;
@@ -152,12 +151,7 @@ fn push_operands(
 }
 
 /// The operand of this number as one of the type.
-fn operand_at(
-    nodes: &mut Vec<Node>,
-    given: &[Given],
-    at: usize,
-    ty: Ty,
-) -> Result<u32, AllocError> {
+fn operand_at(nodes: &mut Vec<Node>, given: &[Given], at: usize, ty: Ty) -> Result<u32, TermFault> {
     match given.get(at) {
         Some(one) => converted(nodes, one.ty, ty, one.term),
         None => push_constant(nodes, ty, 0),
@@ -221,14 +215,14 @@ fn push_two(
     op: BinaryOp,
     ty: Ty,
     given: &[Given],
-) -> Result<u32, AllocError> {
+) -> Result<u32, TermFault> {
     let a = operand_at(nodes, given, 0, ty)?;
     let b = operand_at(nodes, given, 1, ty)?;
     push_between(nodes, op, ty, a, b)
 }
 
 /// What no word of an operator between two operands or of a function asks for.
-fn push_other(nodes: &mut Vec<Node>, asked: Asked<'_>, given: &[Given]) -> Result<u32, AllocError> {
+fn push_other(nodes: &mut Vec<Node>, asked: Asked<'_>, given: &[Given]) -> Result<u32, TermFault> {
     let a = operand_at(nodes, given, 0, asked.ty)?;
     match asked.word {
         "not" => push_operator(nodes, UnaryOp::Not, asked.ty, a),
@@ -239,7 +233,7 @@ fn push_other(nodes: &mut Vec<Node>, asked: Asked<'_>, given: &[Given]) -> Resul
     }
 }
 
-fn push_asked(nodes: &mut Vec<Node>, asked: Asked<'_>, given: &[Given]) -> Result<u32, AllocError> {
+fn push_asked(nodes: &mut Vec<Node>, asked: Asked<'_>, given: &[Given]) -> Result<u32, TermFault> {
     if let Some(op) = binary_of(asked.word) {
         return push_two(nodes, op, asked.ty, given);
     }
@@ -257,7 +251,7 @@ fn push_row(
     given: &mut Vec<Given>,
     asked: Asked<'_>,
     operands: &str,
-) -> Result<u32, AllocError> {
+) -> Result<u32, TermFault> {
     push_operands(nodes, given, operands)?;
     push_asked(nodes, asked, given.as_slice())
 }
@@ -280,6 +274,6 @@ pub fn tell_terms(row: Row<'_>, told: &mut Told) {
         operands.as_str(),
     ) {
         Ok(n) => tell_term(nodes.as_slice(), n, 20, told),
-        Err(_) => told.lose(),
+        Err(fault) => told.words(&fault),
     }
 }

@@ -1,11 +1,12 @@
-//! Walks of the recognizer: one in order, a table that is refused, and laws at concrete types.
-ghost use Rattle.std.specs.Prelude.{◌≡◌, false};
+//! The recognizer: what happens along a walk, a table that is refused, and laws at concrete types.
+ghost use Rattle.std.specs.Prelude.{◌≡◌, false, IsTrue};
 ghost use Rattle.pv_ll.specs.Check.{is_ll1};
 
 use pv_ll::{
-    Alternative, Language, Rule, Step, Symbol, Walk, makings_follow_along_walks,
-    walks_do_what_texts_do,
+    Alternative, Language, Rule, Symbol, Turn, makings_follow_along_walks, recognize,
+    turns_do_what_texts_do, walks_do_what_texts_do,
 };
+use std::alloc::Global;
 use std::test::Fail;
 
 const PAIR_RULES: [Rule; 1] = [Rule {
@@ -33,7 +34,9 @@ const PAIR_ALTERNATIVES: [Alternative; 2] = [
 ];
 
 /// As many `a` as `b`: an `a`, such a text and a `b`, or nothing.
-fn pairs() -> Language {
+fn pairs() -> Language
+    ensures { IsTrue (is_ll1 result) }
+{
     Language {
         rules: &PAIR_RULES,
         alternatives: &PAIR_ALTERNATIVES,
@@ -43,34 +46,38 @@ fn pairs() -> Language {
     }
 }
 
-/// `a a b b`, step by step.
-#[test]
-fn the_walk_is_in_order(rt: HostRuntime) -> Result<(), Fail> {
-    let language = pairs();
-    let mut walk = Walk::new(rt.alloc(), &language, &[0, 0, 1])?;
-    let mut steps = Vec::new(rt.alloc());
-    for _ in 0..20 {
-        if let Some(step) = walk.step()? {
-            steps.push(match step {
-                Step::Enter(k) => (1, k),
-                Step::Pass(kind) => (2, u16::from(kind)),
-                Step::Leave(k) => (3, k),
-            })?;
-        }
+/// What happens along the walk through `a a b b`.
+fn turns_of_pairs(alloc: Global, acts: &[bool]) -> Result<Vec<Turn>, Fail> {
+    match recognize(alloc, &pairs(), acts, &[0, 0, 1, 1])? {
+        Ok(turns) => Ok(turns),
+        Err(_) => Ok(Vec::new(alloc)),
     }
+}
+
+/// Where all alternatives act, and where the empty one doesn't.
+#[test]
+fn turns_are_in_order(rt: HostRuntime) -> Result<(), Fail> {
+    let all = turns_of_pairs(rt.alloc(), &[true, true])?;
     let wanted = [
-        (1, 0),
-        (2, 0),
-        (1, 0),
-        (2, 0),
-        (1, 1),
-        (3, 1),
-        (2, 1),
-        (3, 0),
-        (2, 1),
-        (3, 0),
+        Turn::Pass,
+        Turn::Pass,
+        Turn::Leave(1),
+        Turn::Pass,
+        Turn::Leave(0),
+        Turn::Pass,
+        Turn::Leave(0),
     ];
-    assert_eq!(rt; steps.as_slice(), wanted.as_slice());
+    assert_eq!(rt; all.as_slice(), wanted.as_slice());
+    let some = turns_of_pairs(rt.alloc(), &[true])?;
+    let wanted = [
+        Turn::Pass,
+        Turn::Pass,
+        Turn::Pass,
+        Turn::Leave(0),
+        Turn::Pass,
+        Turn::Leave(0),
+    ];
+    assert_eq!(rt; some.as_slice(), wanted.as_slice());
     Ok(())
 }
 
@@ -116,5 +123,6 @@ fn a_conflict_is_refused_and_laws_stand_at_concrete_types(rt: HostRuntime) {
     let language = conflicting();
     assert_eq!(rt; language.alternatives.len(), 2);
     walks_do_what_texts_do::<u8, bool>();
+    turns_do_what_texts_do::<u8, bool>();
     makings_follow_along_walks::<u8, bool, u16>();
 }

@@ -1,23 +1,28 @@
 -- Where what is called can't be, and where the value of a function that has none is read: in a body and in a project.
-use Rattle.std.proofs.Common.{◌≡◌, refl, sym, ap, subst, ◌∙◌, inl, inr, List, [], ◌∷◌, ◌++◌, Option, Some, None, is_some, true≢false, IsTrue}
+use Rattle.std.proofs.Common.{◌≡◌, refl, sym, ap, subst, ◌∙◌, inl, inr, List, [], ◌∷◌, ◌++◌, Option, Some, None, Bool, true, false, is_some, true≢false, IsTrue}
 use Rattle.std.specs.Prelude.{◌⊎◌, Any, flat_map, filter_map, option_to_list}
 use Rattle.std.proofs.lemmas.List.{append-nil}
 use Rattle.std.proofs.lemmas.List.Elements.{filter_map-append}
 use Rattle.pv_place.specs.declared.place.Place.{Place}
-use Rattle.pv_tree.specs.Tree.{OperandTree, StmtTrees, InstrTree, StartTree, BodyTree, scl, stl, starts, BlockTree}
+use Rattle.pv_tree.specs.Tree.{OperandTree, operand, StmtTrees, InstrTree, StartTree, BodyTree, scl, stl, starts, BlockTree}
 use Rattle.pv_tree.specs.Scopes.{ProjectTree, Scope}
 use Rattle.pv_tree.specs.InstructionGroups.{operand_of_instruction}
 use Rattle.pv_tree.specs.Callees.{Callee, runs, not_declared, not_callable, unknown, CallSite, callee_of}
 use Rattle.pv_tree.specs.Parts.{Part, spots_of_body, spots_of_stmts, instructions_of, starts_of, calls_of, calls_of_stmt, calls_of_instruction, parts_of_stmt, parts_of_instruction, parts_of_operand, reads_of_parts}
-use Rattle.pv_tree.specs.Rules.Callable.{read_operand, CallsWrong, IsNotCallable}
-use Rattle.pv_rules_expr.specs.Members.{HasSome}
-use Rattle.pv_rules_expr.specs.Nearest.{is_before, IsNearest}
+use Rattle.pv_tree.specs.Things.{thing_of, root_place}
+use Rattle.pv_tree.specs.Rules.Callable.{read_operand, is_void_thing, ReadsVoid, CallsWrong, IsNotCallable}
+use Rattle.pv_rules_expr.specs.Members.{Has, HasSome}
+use Rattle.pv_rules_expr.specs.Nearest.{is_before, nearer_of, IsNearest}
 use Rattle.pv_rules_expr.specs.NearestIn.{nearest_in}
-use Rattle.pv_rules_expr.proofs.ForCallers.{any_has, has_any, has_behind, has_either, has_front, itself, nearest_same, in_any, in_all_any}
+use Rattle.pv_rules_expr.specs.Places.{place_where}
+use Rattle.pv_rules_expr.proofs.ForCallers.{any_has, has_any, has_behind, has_either, has_front, itself, nearer_none, nearest_same, in_any, in_all_any}
+use Rattle.pv_rules_code.specs.InCode.{code_parts, VoidsIn}
+use Rattle.pv_rules_code.specs.Sites.{in_block}
 use Rattle.pv_rules.specs.Statements.{all_of}
 use Rattle.pv_tree.specs.Operands.{operands_within}
 use Rattle.pv_rules.specs.Reads.{reads_of_call, reads_of_stmt, reads_of_instruction, reads_of_starts}
-use Rattle.pv_rules.specs.Values.{refused_at, call_at, value_at, both_in, body_place, block_place, project_place}
+use Rattle.pv_rules.specs.Outputs.{is_written}
+use Rattle.pv_rules.specs.Values.{refused_at, call_at, unless, value_at, values_in, both_in, body_place, block_place, project_place, reads_of_statements, AreNoVoids}
 use Rattle.pv_rules.proofs.StatementLaws.{seen_of}
 use Rattle.pv_rules.proofs.ReadLaws.{flat_seen, instrs_read, list_read, starts_read}
 use Rattle.pv_rules.proofs.OutputLaws.{ReadsValue, value_nearest}
@@ -190,3 +195,51 @@ pub callable_nearest : (project : ProjectTree) (o : Option Place) → o ≡ proj
 callable_nearest project o is =
     subst (IsNearest (IsNotCallable project)) (sym is)
     (in_any (λ b at. CallsWrong project at b) (block_place project) (λ b. block_nearest project b) project.blocks)
+
+-- ---- where no name of a function without a value is read
+
+never_void : (out void : Bool) (place : Place) → (IsTrue void → ⊥) → unless out (place_where void place) ≡ None
+never_void true void place never = refl
+never_void false true place never = absurd (never refl)
+never_void false false place never = refl
+
+value_none : (scope : Scope) (calls : List CallSite) (o : OperandTree) → ((at : Place) → ReadsVoid scope at o → ⊥) → value_at scope calls o ≡ None
+value_none scope calls (operand root more place) never =
+    never_void (is_written scope calls (operand root more place)) (is_void_thing (thing_of scope (operand root more place))) (root_place root place)
+    (λ void. never (root_place root place) (refl, void))
+
+-- no value is read that isn't there
+pub no_values : (scope : Scope) (calls : List CallSite) (reads : List OperandTree) (n : Option Place) → AreNoVoids scope reads
+    → n ≡ values_in scope calls reads n
+no_values scope calls [] n never = refl
+no_values scope calls (o ∷ os) n never =
+    no_values scope calls os n (λ at h. never at (inr h))
+    ∙ ap (nearest_in (value_at scope calls) os)
+    (sym (ap (nearer_of n) (value_none scope calls o (λ at v. never at (inl v))) ∙ nearer_none n))
+
+-- the operands that a block's statements read are among those of its expressions
+reads_of_body : (scope : Scope) (Q : OperandTree → Type 0) (body : BodyTree) → HasSome Q (reads_of_statements body)
+    → HasSome Q (reads_of_parts (flat_map (λ s. parts_of_stmt scope s.stmt) (spots_of_body body)
+    ++ flat_map (parts_of_instruction scope) (instructions_of body)))
+reads_of_body scope Q (scl list) h =
+    subst (HasSome Q) (sym (ap reads_of_parts (append-nil (flat_map (λ s. parts_of_stmt scope s.stmt) (spots_of_stmts [] list)))
+    ∙ list_read scope list)) h
+reads_of_body scope Q (stl list) h = absurd h
+reads_of_body scope Q (starts list) h = absurd h
+
+none_at_all : (A : Place → Type 0) (o : Option Place) → IsNearest A o → is_some o ≡ false → (at : Place) → A at → ⊥
+none_at_all A None none e = none
+none_at_all A (Some a) none e = absurd (true≢false e)
+
+pub no_voids : (project : ProjectTree) (o : Option Place) → IsNearest (λ at. Any (VoidsIn project at) project.blocks) o → (b : BlockTree)
+    → Has project.blocks b → is_some o ≡ false → AreNoVoids (in_block project b) (reads_of_statements b.body)
+no_voids project o none b has e = λ at h.
+    none_at_all (λ at. Any (VoidsIn project at) project.blocks) o none e at
+    (has_any (VoidsIn project at) project.blocks (has_such (VoidsIn project at) project.blocks b has
+    (has_any (ReadsVoid (in_block project b) at) (reads_of_parts (code_parts project b))
+    (reads_of_body (in_block project b) (ReadsVoid (in_block project b) at) b.body h))))
+  where
+    has_such : (P : BlockTree → Type 0) (bs : List BlockTree) (b : BlockTree) → Has bs b → P b → HasSome P bs
+    has_such P [] b h p = absurd h
+    has_such P (x ∷ xs) b (inl is) p = inl (subst P (sym is) p)
+    has_such P (x ∷ xs) b (inr h) p = inr (has_such P xs b h p)

@@ -18,8 +18,8 @@ use Rattle.pv_rules_expr.proofs.ForCallers.{nearest_same, nearest_both}
 use Rattle.pv_rules_code.specs.InCode.{code_operands, MissesIn, MisfitsIn, MisusesIn, OutsideIn, BeyondIn, AddressesIn}
 use Rattle.pv_rules_instr.specs.Sites.{IsOutsideBehind}
 use Rattle.pv_rules_decl.specs.StartPieces.{within, parts_of_starts, InBlocks, MisfitsStart, HasOutsideStart, HasValue, BreaksInValues}
-use Rattle.pv_rules_decl.specs.declared.starts.StartLook.{StartLook}
-use Rattle.pv_rules_decl.specs.declared.starts.StartLook.TheVariants as value
+use Rattle.pv_rules_decl.specs.StartLook.{StartLook}
+use Rattle.pv_rules_decl.specs.StartLook as value
 use Rattle.pv_rules.proofs.WholeBlocks.{parts_apart, parts_both, operands_apart, operands_both, paths_apart, paths_both, mapped_any, any_mapped}
 
 -- either, over a list

@@ -5,6 +5,8 @@ use Rattle.pv_tree.specs.Tree.{OperandTree, BodyTree, scl, stl, starts, BlockTre
 use Rattle.pv_tree.specs.Scopes.{ProjectTree, Scope}
 use Rattle.pv_tree.specs.Callees.{Callee, runs, not_declared, not_callable, unknown, CallSite, callee_of}
 use Rattle.pv_tree.specs.Parts.{calls_of_stmt, calls_of_instruction}
+use Rattle.pv_tree.specs.Rules.Callable.{ReadsVoid}
+use Rattle.pv_rules_expr.specs.Members.{HasSome}
 use Rattle.pv_rules_expr.specs.NearestIn.{nearest_in}
 use Rattle.pv_rules_expr.specs.Operands.{void_at}
 use Rattle.pv_rules.specs.Statements.{all_of}
@@ -40,6 +42,16 @@ values_in scope calls = nearest_in (value_at scope calls)
 -- in both
 abbrev pub both_in : Scope → List CallSite → List OperandTree → Option Place → Option Place
 both_in scope calls reads nearest = values_in scope calls reads (calls_in scope calls nearest)
+
+-- the operands that the statements of a body read
+abbrev pub reads_of_statements : BodyTree → List OperandTree
+reads_of_statements (scl list) = flat_map reads_of_stmt (all_of list)
+reads_of_statements (stl list) = []
+reads_of_statements (starts list) = []
+
+-- none of the operands is the name of a function without a value
+abbrev pub AreNoVoids : Scope → List OperandTree → Type 0
+AreNoVoids scope reads = (at : Place) → HasSome (ReadsVoid scope at) reads → ⊥
 
 -- in a body
 abbrev pub body_place : Scope → BodyTree → Option Place → Option Place

@@ -14,7 +14,7 @@ use pv_names::{Entry, Tables, entries};
 use pv_place::Place;
 use pv_rules_call::{call_cycle, call_too_deep};
 use pv_rules_code::{CodeNear, nearest_in_code};
-use pv_rules_decl::{doubled_name, missing_type, wrong_array};
+use pv_rules_decl::{doubled_name, missing_type, nearest_in_values, wrong_array};
 use pv_rules_instr::{refused_operand_or_literal, wrong_label, wrong_nesting, wrong_range};
 use pv_tree::{Block, Operand};
 use pv_types::Name;
@@ -92,19 +92,17 @@ fn whole_near<'p>(
     requires code { AreInCode (project_of tables.now) code }
     ensures { IfOk result (λ w. AreWhole (project_of tables.now) w) }
 {
-    let missing = missing_name(alloc, tables, code)?;
-    let misfit = misfit(alloc, tables, blocks, code)?;
-    let outside = out_of_range(alloc, tables, code)?;
-    let beyond = beyond_bounds(alloc, tables, code)?;
-    let uncallable = not_callable(alloc, tables)?;
-    let address = wrong_address(alloc, tables, code)?;
+    let values = nearest_in_values(alloc, tables)?;
+    let misfit = misfit(alloc, tables, blocks, code, values)?;
+    let outside = out_of_range(alloc, tables, code, values)?;
+    let uncallable = not_callable(alloc, tables, code)?;
     Ok(Whole {
-        missing,
+        missing: missing_name(code, values),
         misfit,
         outside,
-        beyond,
+        beyond: beyond_bounds(code, values),
         uncallable,
-        address,
+        address: wrong_address(code, values),
     })
 }
 

@@ -10,8 +10,9 @@ ghost use Rattle.pv_rules.specs.Codes.{calls_of_code};
 ghost use Rattle.pv_rules.specs.Outputs.{same_place, same_name, same_truth, same_root, ends_here, same_plain, is_that, call_writes, is_written};
 
 use crate::code::Code;
-use pv_names::{Callee, How, Param, Scope, how_of, param_for, section_of_param};
+use pv_names::{Callee, How, Param, Scope, how_of, section_of_param};
 use pv_place::Place;
+use pv_rules_code::param_in;
 use pv_rules_expr::operand_of;
 use pv_tree::{Arg, CallTree, Expr, Instr, Operand, Root, Stmt};
 use pv_types::{Name, Section};
@@ -81,19 +82,6 @@ fn is_that(e: &Expr, operand: &Operand) -> bool
     match operand_of(e) {
         Some(other) => same_plain(other, operand),
         None => false,
-    }
-}
-
-/// The parameter that an argument is for, by what its call comes to.
-pub(crate) fn param_in<'p>(callee: Callee<'p>, how: How, arg: &Arg) -> Option<Param<'p>>
-    ensures { option_map param_tree result
-        ≡ param_in (callee_tree callee.entry) (how_tree how) (arg_tree arg.now) }
-{
-    match callee {
-        Callee::Runs(entry) => param_for(how, entry, arg),
-        Callee::NotDeclared(_) => None,
-        Callee::NotCallable(_) => None,
-        Callee::Unknown => None,
     }
 }
 

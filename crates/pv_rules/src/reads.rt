@@ -23,9 +23,10 @@ ghost use Rattle.pv_rules.specs.Reads.{reads_of_call, reads_of_instruction, read
 ghost use Rattle.pv_rules.specs.Values.{unless, value_at};
 
 use crate::code::Code;
-use crate::outputs::{is_output, is_written, param_in};
+use crate::outputs::{is_output, is_written};
 use pv_names::{Callee, How, Scope, Thing, how_of, is_void, root_place};
 use pv_place::Place;
+use pv_rules_code::param_in;
 use pv_rules_expr::{is_nearer, nearer_of, operand_of};
 use pv_rules_instr::{operand_of_instruction, read_operand};
 use pv_tree::{Arg, CallTree, Expr, ForHead, Instr, Operand, Step, Stmt};

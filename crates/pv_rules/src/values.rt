@@ -1,5 +1,5 @@
 //! Names that can't be called, and the value of a function that has none, read: the least place in a project.
-ghost use Rattle.std.specs.Prelude.{◌≡◌, IfOk, flat_map, map};
+ghost use Rattle.std.specs.Prelude.{◌≡◌, IfOk, false, flat_map, map};
 ghost use Rattle.pv_tree.specs.Parts.{calls_of_instruction, calls_of_stmt, site};
 ghost use Rattle.pv_tree.specs.Rules.Callable.{IsNotCallable};
 ghost use Rattle.pv_tree.specs.View.{body_tree, call_tree, instr_tree, stmt_tree, stmt_trees};
@@ -10,13 +10,15 @@ ghost use Rattle.pv_rules_expr.specs.Nearest.{IsNearest};
 ghost use Rattle.pv_rules_expr.specs.NearestIn.{nearest_in};
 ghost use Rattle.pv_rules.specs.Reads.{reads_of_instruction, reads_of_stmt};
 ghost use Rattle.pv_rules.specs.Statements.{all_of};
-ghost use Rattle.pv_rules.specs.Values.{refused_at, call_at, calls_in, values_in, both_in, body_place};
+ghost use Rattle.pv_rules_code.specs.AreInCode.{AreInCode};
+ghost use Rattle.pv_rules.specs.Values.{refused_at, call_at, calls_in, values_in, both_in, body_place, reads_of_statements, AreNoVoids};
 
 use crate::code::Code;
 use crate::reads::{value_in_instr, value_in_starts, value_in_stmt};
 use crate::statements::statements_of;
 use pv_names::{Callee, How, Scope, Tables, how_of};
 use pv_place::Place;
+use pv_rules_code::CodeNear;
 use pv_rules_expr::nearer_of;
 use pv_tree::{Body, CallTree, Instr, Stmt};
 use std::alloc::{AllocError, Global};
@@ -89,19 +91,40 @@ fn value_in_all(scope: &Scope, statements: &[&Stmt], nearest: Option<Place>) -> 
     best
 }
 
+/// The same, which only looks through what is read where a name of a function without a value may be.
+fn value_where(
+    scope: &Scope,
+    statements: &[&Stmt],
+    reads_void: bool,
+    nearest: Option<Place>,
+) -> Option<Place>
+    requires { reads_void ≡ false → AreNoVoids (scope_of scope.now) (flat_map reads_of_stmt
+        (map (λ s. stmt_tree s.now) statements.now)) }
+    ensures { let list = map (λ s. stmt_tree s.now) statements.now in result ≡ values_in
+        (scope_of scope.now) (flat_map calls_of_stmt list) (flat_map reads_of_stmt list) nearest }
+{
+    if reads_void {
+        value_in_all(scope, statements, nearest)
+    } else {
+        nearest
+    }
+}
+
 /// The nearest of both, with those of a list of statements and all in them.
 fn place_in_list(
     scope: &Scope,
     alloc: Global,
     list: &[Stmt],
+    reads_void: bool,
     nearest: Option<Place>,
 ) -> Result<Option<Place>, AllocError>
+    requires { reads_void ≡ false → AreNoVoids (scope_of scope.now) (flat_map reads_of_stmt (all_of (stmt_trees list.now))) }
     ensures { let list = all_of (stmt_trees list.now) in IfOk result (λ o. o ≡ both_in
         (scope_of scope.now) (flat_map calls_of_stmt list) (flat_map reads_of_stmt list) nearest) }
 {
     let statements = statements_of(alloc, list)?;
     let called = call_in_all(scope, statements.as_slice(), nearest);
-    Ok(value_in_all(scope, statements.as_slice(), called))
+    Ok(value_where(scope, statements.as_slice(), reads_void, called))
 }
 
 /// The nearest name that can't be called, with that of an instruction's call.
@@ -157,12 +180,14 @@ fn place_in_body(
     scope: &Scope,
     alloc: Global,
     body: &Body,
+    reads_void: bool,
     nearest: Option<Place>,
 ) -> Result<Option<Place>, AllocError>
+    requires { reads_void ≡ false → AreNoVoids (scope_of scope.now) (reads_of_statements (body_tree body.now)) }
     ensures { IfOk result (λ o. o ≡ body_place (scope_of scope.now) (body_tree body.now) nearest) }
 {
     match body {
-        Body::Scl(list) => place_in_list(scope, alloc, list.as_slice(), nearest),
+        Body::Scl(list) => place_in_list(scope, alloc, list.as_slice(), reads_void, nearest),
         Body::Stl(list) => Ok(place_in_instrs(scope, list.as_slice(), nearest)),
         Body::Starts(list) => Ok(value_in_starts(scope, list.as_slice(), nearest)),
     }
@@ -172,13 +197,16 @@ fn place_in_body(
 pub(crate) fn not_callable<'p>(
     alloc: Global,
     tables: &'p Tables<'p>,
+    code: CodeNear,
 ) -> Result<Option<Place>, AllocError>
+    requires { AreInCode (project_of tables.now) code }
     ensures { IfOk result (IsNearest (IsNotCallable (project_of tables.now))) }
 {
+    let reads_void = code.void.is_some();
     let mut best = None;
     for entry in tables.entries() {
         let scope = Scope { tables, entry };
-        let found = place_in_body(&scope, alloc, &entry.block.body, None)?;
+        let found = place_in_body(&scope, alloc, &entry.block.body, reads_void, None)?;
         best = nearer_of(best, found);
     }
     Ok(best)

@@ -1,5 +1,5 @@
 -- What is nearest at the arguments of calls is the least place at which the rule on arguments is broken.
-use Rattle.std.proofs.Common.{◌≡◌, ℕ, inl, inr, refl, sym, ap, subst, List, [], ◌∷◌, ◌++◌, Option, Some, None, Bool, true, false, ◌&&◌, ◌||◌, not, true≢false, IsTrue, is_some, is_none, cond}
+use Rattle.std.proofs.Common.{◌≡◌, ℕ, inl, inr, refl, sym, ap, subst, ◌∙◌, List, [], ◌∷◌, ◌++◌, Option, Some, None, Bool, true, false, ◌&&◌, ◌||◌, not, true≢false, IsTrue, is_some, is_none, cond}
 use Rattle.std.specs.Prelude.{◌⊎◌, Any, option_and_then, unwrap_or, bytes_eq, IsSomeAnd}
 use Rattle.std.specs.List.{list_any}
 use Rattle.std.proofs.lemmas.List.Folds.{Any-from_list_any, list_any-from_Any}
@@ -20,8 +20,10 @@ use Rattle.pv_rules_expr.specs.Looks.{nearer_of}
 use Rattle.pv_rules_expr.specs.Places.{place_where}
 use Rattle.pv_rules_expr.specs.Members.{IsLaterBehind}
 use Rattle.pv_names.specs.Params.{param_of}
+use Rattle.pv_names.specs.Needed.{needed_among}
+use Rattle.pv_names.specs.declared.firsts.Firsts.{Firsts}
 use Rattle.pv_rules_code.specs.AtCalls.{unknown_at, arg_place, call_place}
-use Rattle.pv_rules_code.specs.AtGiven.{gives, is_given, must_be, is_lacking, lacks_some, lacking_at, later_from, later_word, later_at}
+use Rattle.pv_rules_code.specs.AtGiven.{is_in, gives, is_given, must_be, is_lacking, is_out, lacks_some, lacking_at, later_from, later_word, later_at}
 use Rattle.pv_rules_code.specs.Sites.{project_place}
 use Rattle.pv_rules_code.specs.Sought.Site as site
 use Rattle.pv_rules_code.specs.Sought.Ask as ask
@@ -256,6 +258,18 @@ module _ (how : How) (b : BlockTree) (args : List ArgTree) where
         | inl l ↦ any_has (Lacks how b args) (params_of_vars b.vars) l
         | inr v ↦ absurd (value_never (any_has (Lacks how b args) (value_param how b) v))
       ])))
+
+-- looked for among those that have to be given
+pub lacks_by_needed : (how : How) (b : BlockTree) (args : List ArgTree) (f : Firsts) → ((key : List ℕ) → is_in f key ≡ is_given how b args key)
+    → (vars : List VarTree) → list_any (is_out f) (needed_among b.kind vars) ≡ list_any (is_lacking how b args) vars
+lacks_by_needed how b args f same [] = refl
+lacks_by_needed how b args f same (v ∷ vs) =
+    elim (must_be b (section_of v)) as (λ m. list_any (is_out f) (cond m (v ∷ needed_among b.kind vs) (needed_among b.kind vs))
+    ≡ ((m && not (is_given how b args (name_of v).key)) || list_any (is_lacking how b args) vs)) [
+      | true ↦ ap (λ k. not k || list_any (is_out f) (needed_among b.kind vs)) (same (name_of v).key)
+          ∙ ap (λ k. not (is_given how b args (name_of v).key) || k) (lacks_by_needed how b args f same vs)
+      | false ↦ lacks_by_needed how b args f same vs
+    ]
 
 abbrev HasLack : Scope → Place → CallSite → Type 0
 HasLack scope at s = Runs (callee_of scope s) (λ b. (s.call.place ≡ at) × Any (Lacks s.how b s.call.args) (params_of s.how b))

@@ -4,11 +4,11 @@ use Rattle.std.specs.Prelude.{◌⊎◌, Any, flat_map, option_to_list, option_a
 use Rattle.pv_place.specs.declared.place.Place.{Place}
 use Rattle.pv_tree.specs.declared.stmt.Choice.{Choice}
 use Rattle.pv_tree.specs.declared.stmt.Choice.TheVariants.{Lit, Const}
-use Rattle.pv_tree.specs.Tree.{PlacedName, ExprTree, OperandTree, StmtTree, assign, assign_call, if_, case_, for_, while_, repeat_, exit_, continue_, return_, call_, empty_, InstrTree, BlockTree}
+use Rattle.pv_tree.specs.Tree.{PlacedName, ExprTree, OperandTree, operand, StmtTree, assign, assign_call, if_, case_, for_, while_, repeat_, exit_, continue_, return_, call_, empty_, InstrTree, BlockTree}
 use Rattle.pv_tree.specs.LiteralTypes.{Want, nothing, this, unsure}
 use Rattle.pv_tree.specs.Sorts.{one, taken, is_whole}
 use Rattle.pv_tree.specs.Scopes.{ProjectTree, Scope}
-use Rattle.pv_tree.specs.Things.{Thing, part, constant, a_block, no_name, no_array, a_date, untold, thing_of, thing_of_word, dated, first_place}
+use Rattle.pv_tree.specs.Things.{Thing, part, constant, a_block, no_name, no_array, a_date, untold, thing_of, thing_of_word, dated, first_place, root_place}
 use Rattle.pv_tree.specs.Types.{sort_of}
 use Rattle.pv_tree.specs.InstructionGroups.{operand_of_instruction}
 use Rattle.pv_tree.specs.Callees.{callee_of, not_declared}
@@ -19,16 +19,17 @@ use Rattle.pv_tree.specs.Rules.OutOfRange.{IsPartOutside, IsLiteralOutside, IsCh
 use Rattle.pv_tree.specs.Rules.Misfits.{MisusesPath, Misapplies, MisfitsCounter, MisfitsStmt, NamesDate, MisfitsArg, MisfitsCall, CallsDate}
 use Rattle.pv_tree.specs.Rules.Arrays.{IsBeyond}
 use Rattle.pv_tree.specs.Rules.Addresses.{HasWrongAddress}
+use Rattle.pv_tree.specs.Rules.Callable.{ReadsVoid, is_void_thing}
 use Rattle.pv_rules_expr.specs.Nearest.{is_before, IsNearest}
 use Rattle.pv_rules_expr.specs.Looks.{nearer_of, part_place}
-use Rattle.pv_rules_expr.specs.Operands.{name_at, address_at}
+use Rattle.pv_rules_expr.specs.Operands.{name_at, address_at, void_at}
 use Rattle.pv_rules_code.specs.AtAssignments.{assigned_misfits, called_misfits, bound_at, misfit_place}
 use Rattle.pv_rules_code.specs.AtLoops.{date_of, word_date, word_missing, count_at, by_at, step_place}
 use Rattle.pv_rules_code.specs.AtCases.{value_at, values_place}
 use Rattle.pv_rules_code.specs.AtTargets.{target_place}
 use Rattle.pv_rules_expr.specs.Indexes.{index_at, misused_at}
 use Rattle.pv_rules_expr.specs.declared.indexes.IndexFault.TheVariants as index
-use Rattle.pv_rules_code.specs.InCode.{code_parts, code_operands, MissesIn, MisfitsIn, OutsideIn}
+use Rattle.pv_rules_code.specs.InCode.{code_parts, code_operands, MissesIn, MisfitsIn, OutsideIn, VoidsIn}
 use Rattle.pv_rules_code.specs.Sites.{site_place, instr_place, in_block, project_place}
 use Rattle.pv_rules_expr.specs.declared.search.Look.{Look}
 use Rattle.pv_rules_expr.specs.declared.search.Look.TheVariants as look
@@ -472,3 +473,15 @@ outside_in_code project x y z is_x is_y is_z =
     (nearest_is (λ at. Any (λ b. Any (IsPartOutside at) (code_parts project b)) project.blocks) x
     (project_place (site.Parts look.Outside) project) is_x (outside_parts project))
     (outside_statement project y z is_y is_z)
+
+-- ---- names of functions without a value
+
+void_nearest : (scope : Scope) (o : OperandTree) → IsNearest (λ at. ReadsVoid scope at o) (void_at scope o)
+void_nearest scope (operand root more place) =
+    nearest_where (is_void_thing (thing_of scope (operand root more place))) (root_place root place)
+
+pub void_operand : (project : ProjectTree) (o : Option Place) → o ≡ project_place (site.Parts look.Void) project
+    → IsNearest (OnBlocks VoidsIn project) o
+void_operand project o is =
+    nearest_is (OnBlocks VoidsIn project) o (project_place (site.Parts look.Void) project) is
+    (on_reads look.Void (λ scope at o. ReadsVoid scope at o) void_at (λ scope p. refl) void_nearest project)

@@ -24,7 +24,7 @@ use Rattle.pv_rules_code.proofs.CallLaws.{fixed_output}
 use Rattle.pv_rules_code.proofs.LoopLaws.{wrong_counter, wrong_step}
 use Rattle.pv_rules_code.proofs.CaseLaws.{wrong_case}
 use Rattle.pv_rules_code.proofs.GivenLaws.{wrong_argument}
-use Rattle.pv_rules_code.proofs.PartLaws.{OnBlocks, wrong_address, misses_in_code, misfits_in_code, outside_in_code, misused_operand, beyond_operand}
+use Rattle.pv_rules_code.proofs.PartLaws.{OnBlocks, wrong_address, misses_in_code, misfits_in_code, outside_in_code, misused_operand, beyond_operand, void_operand}
 
 -- the places of each rule, of those of what is looked for
 pub record IsByRules (n : SiteNear) (r : CodeNear) : Type 0 where
@@ -42,6 +42,7 @@ pub record IsByRules (n : SiteNear) (r : CodeNear) : Type 0 where
   pub outside : r.outside ≡ nearer_of n.parts.outside (nearer_of n.strides.outside n.picks.outside)
   pub misused : r.misused ≡ nearer_of n.parts.misused n.aims.misused
   pub beyond : r.beyond ≡ nearer_of n.parts.beyond n.aims.beyond
+  pub void : r.void ≡ n.parts.void
 
 pub are_in_code : (project : ProjectTree) (n : SiteNear) (r : CodeNear) → IsByRules n r → HasProject project n → AreInCode project r
 are_in_code project n r is h = record {
@@ -74,4 +75,5 @@ are_in_code project n r is h = record {
       (misused_operand project n.parts.misused n.aims.misused (h (site.Parts look.Misused)) (h (site.Target aim.Misused)));
   beyond = nearest_is (OnBlocks BeyondIn project) r.beyond _ is.beyond
       (beyond_operand project n.parts.beyond n.aims.beyond (h (site.Parts look.Beyond)) (h (site.Target aim.Beyond)));
+  void = void_operand project r.void (is.void ∙ h (site.Parts look.Void));
 }

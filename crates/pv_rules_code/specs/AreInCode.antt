@@ -7,7 +7,7 @@ use Rattle.pv_tree.specs.Rules.Loops.{IsOutsideLoop, IsWrongCounter, IsWrongStep
 use Rattle.pv_tree.specs.Rules.Arguments.{IsWrongArgument}
 use Rattle.pv_tree.specs.Rules.Targets.{IsFixedTarget, IsFixedOutput}
 use Rattle.pv_rules_expr.specs.Nearest.{IsNearest}
-use Rattle.pv_rules_code.specs.InCode.{AddressesIn, MissesIn, MisfitsIn, MisusesIn, OutsideIn, BeyondIn}
+use Rattle.pv_rules_code.specs.InCode.{AddressesIn, MissesIn, MisfitsIn, MisusesIn, OutsideIn, BeyondIn, VoidsIn}
 use Rattle.pv_rules_code.specs.declared.near.CodeNear.{CodeNear}
 
 pub record AreInCode (project : ProjectTree) (n : CodeNear) : Type 0 where
@@ -25,3 +25,4 @@ pub record AreInCode (project : ProjectTree) (n : CodeNear) : Type 0 where
   pub outside : IsNearest (λ at. Any (OutsideIn project at) project.blocks) n.outside
   pub misused : IsNearest (λ at. Any (MisusesIn project at) project.blocks) n.misused
   pub beyond : IsNearest (λ at. Any (BeyondIn project at) project.blocks) n.beyond
+  pub void : IsNearest (λ at. Any (VoidsIn project at) project.blocks) n.void

@@ -1,15 +1,15 @@
 -- Which parameters the arguments of a call give, and which words stand twice.
-use Rattle.std.specs.Prelude.{◌≡◌, ℕ, List, [], ◌∷◌, ◌++◌, map, Option, Some, None, bytes_eq, is_some, Bool as Truth, false, ◌&&◌, ◌||◌, not}
+use Rattle.std.specs.Prelude.{◌≡◌, ℕ, List, [], ◌∷◌, ◌++◌, map, Option, Some, None, bytes_eq, is_some, Bool as Truth, false, ◌&&◌, not}
 use Rattle.std.specs.List.{list_any}
 use Rattle.pv_place.specs.declared.place.Place.{Place}
 use Rattle.pv_types.specs.Tree.{VarTree}
 use Rattle.pv_types.specs.View.{name_of, section_of}
 use Rattle.pv_types.specs.declared.declaration.Section.{Section}
 use Rattle.pv_tree.specs.Tree.{PlacedName, ArgTree, BlockTree}
-use Rattle.pv_tree.specs.Scopes.{is_fc}
-use Rattle.pv_tree.specs.Callees.{How, CallSite, Param, param_for, is_input, is_in_out}
+use Rattle.pv_tree.specs.Callees.{How, CallSite, Param, param_for}
 use Rattle.pv_tree.specs.Rules.Arguments.{words_of_args}
 use Rattle.pv_names.specs.Firsts.{number_in}
+use Rattle.pv_names.specs.Needed.{is_needed_of}
 use Rattle.pv_rules_expr.specs.Places.{place_where}
 use Rattle.pv_rules_expr.specs.Looks.{nearer_of}
 use Rattle.pv_names.specs.declared.firsts.Firsts.{Firsts}
@@ -28,10 +28,14 @@ is_given how block args key = list_any (λ a. gives key (param_for how block a))
 
 -- what a variable's section says: it has to be given
 abbrev pub must_be : BlockTree → Section → Truth
-must_be block section = (is_fc block.kind && is_input section) || is_in_out section
+must_be block section = is_needed_of block.kind section
 
 abbrev pub is_lacking : How → BlockTree → List ArgTree → VarTree → Truth
 is_lacking how block args v = must_be block (section_of v) && not (is_given how block args (name_of v).key)
+
+-- a variable of this name wasn't put into the table
+abbrev pub is_out : Firsts → VarTree → Truth
+is_out f v = not (is_in f (name_of v).key)
 
 abbrev pub lacks_some : How → BlockTree → List ArgTree → Truth
 lacks_some how block args = list_any (is_lacking how block args) block.vars

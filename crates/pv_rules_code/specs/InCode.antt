@@ -12,6 +12,7 @@ use Rattle.pv_tree.specs.Rules.Misfits.{MisusesPath, Misapplies, MisfitsStmt, Na
 use Rattle.pv_tree.specs.Rules.Addresses.{HasWrongAddress}
 use Rattle.pv_tree.specs.Rules.Arrays.{IsBeyond}
 use Rattle.pv_tree.specs.Rules.OutOfRange.{IsPartOutside, IsStmtOutside}
+use Rattle.pv_tree.specs.Rules.Callable.{ReadsVoid}
 use Rattle.pv_rules_code.specs.Sites.{in_block}
 
 -- the expressions of statements and instructions, and the operands that they read, assign or name
@@ -54,3 +55,7 @@ BeyondIn project at b =
 -- an address that there isn't
 abbrev pub AddressesIn : ProjectTree → Place → BlockTree → Type 0
 AddressesIn project at b = HasWrongAddress at (code_operands project b)
+
+-- the name of a function without a value, read in an expression, whether or not a call writes it
+abbrev pub VoidsIn : ProjectTree → Place → BlockTree → Type 0
+VoidsIn project at b = Any (ReadsVoid (in_block project b) at) (reads_of_parts (code_parts project b))

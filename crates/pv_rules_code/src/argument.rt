@@ -28,7 +28,7 @@ use pv_types::{Name, Section};
 use std::alloc::{AllocError, Global};
 
 /// The parameter that an argument is for, by what its call comes to.
-pub(crate) fn param_in<'p>(callee: Callee<'p>, how: How, arg: &Arg) -> Option<Param<'p>>
+pub fn param_in<'p>(callee: Callee<'p>, how: How, arg: &Arg) -> Option<Param<'p>>
     ensures { option_map param_tree result
         ≡ param_in (callee_tree callee.entry) (how_tree how) (arg_tree arg.now) }
 {

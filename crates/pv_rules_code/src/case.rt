@@ -26,7 +26,7 @@ use pv_names::{
 };
 use pv_place::Place;
 use pv_rules_expr::{is_whole, look_for_all, name_of_missing, nearer_of, where_is};
-use pv_tree::{Choice, Expr, Stmt};
+use pv_tree::{Choice, ChoiceRange, Expr, Stmt};
 use pv_types::{Literal, Name};
 use pv_word::Ty;
 use std::alloc::{AllocError, Global};
@@ -121,24 +121,19 @@ fn add_value(scope: &Scope, want: Want, choice: &Choice, picks: &mut PickNear)
 }
 
 /// The nearest places, with those of a value or of both ends of a range.
-fn add_range(scope: &Scope, want: Want, range: &(Choice, Option<Choice>), picks: &mut PickNear)
+fn add_range(scope: &Scope, want: Want, range: &ChoiceRange, picks: &mut PickNear)
     ensures { HasPicksIn (λ what. value_at what (scope_of scope.now) (want_tree want))
         (range.now.0 ∷ option_to_list range.now.1) picks.old picks.new }
 {
-    add_value(scope, want, &range.0, picks);
-    match &range.1 {
+    add_value(scope, want, range.lower(), picks);
+    match range.upper() {
         Some(high) => add_value(scope, want, high, picks),
         None => {}
     }
 }
 
 /// The nearest places, with those of the values of a branch.
-fn add_choices(
-    scope: &Scope,
-    want: Want,
-    choices: &[(Choice, Option<Choice>)],
-    picks: &mut PickNear,
-)
+fn add_choices(scope: &Scope, want: Want, choices: &[ChoiceRange], picks: &mut PickNear)
     ensures { HasPicksIn (λ what. value_at what (scope_of scope.now) (want_tree want))
         (values_of_choices choices.now) picks.old picks.new }
 {
@@ -151,7 +146,7 @@ fn add_choices(
 fn add_branches(
     scope: &Scope,
     want: Want,
-    branches: &Vec<(Vec<(Choice, Option<Choice>)>, Vec<Stmt>)>,
+    branches: &Vec<(Vec<ChoiceRange>, Vec<Stmt>)>,
     picks: &mut PickNear,
 )
     ensures { HasPicksIn (λ what. value_at what (scope_of scope.now) (want_tree want))
@@ -185,7 +180,7 @@ pub(crate) fn add_case(
     scope: &Scope,
     alloc: Global,
     selector: &Expr,
-    branches: &Vec<(Vec<(Choice, Option<Choice>)>, Vec<Stmt>)>,
+    branches: &Vec<(Vec<ChoiceRange>, Vec<Stmt>)>,
     near: &mut SiteNear,
 ) -> Result<(), AllocError>
     ensures { (loops : List Loop) (other : ElseTree) (place : Place) → OnOk result (HasSites

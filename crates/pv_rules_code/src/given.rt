@@ -1,19 +1,20 @@
 //! Which parameters the arguments of a call give, and which words stand twice. Names are met in a table.
-ghost use Rattle.std.specs.Prelude.{◌≡◌, ◌&&◌, ◌||◌, not, ◌++◌, ℕ, List, IfOk, OnOk, bytes_eq, map, option_and_then, option_to_list};
-ghost use Rattle.pv_types.specs.View.{name_of, section_of, var_tree};
+ghost use Rattle.std.specs.Prelude.{◌≡◌, ◌||◌, ◌++◌, ℕ, List, IfOk, OnOk, bytes_eq, map, option_and_then, option_to_list};
+ghost use Rattle.std.specs.List.{list_any};
+ghost use Rattle.pv_types.specs.View.{var_tree};
 ghost use Rattle.pv_tree.specs.Callees as callees;
 ghost use Rattle.pv_tree.specs.Parts.{site};
 ghost use Rattle.pv_tree.specs.Tree.{PlacedName};
-ghost use Rattle.pv_tree.specs.View.{arg_tree, block_tree, call_tree};
+ghost use Rattle.pv_tree.specs.View.{arg_tree, call_tree};
 ghost use Rattle.pv_names.specs.Entries.{block_of};
 ghost use Rattle.pv_names.specs.Callees.{how_tree, callee_tree};
-ghost use Rattle.pv_rules_code.specs.AtGiven.{is_in, HasMet, keys_of, later_from, gives, is_given, must_be, lacks_some, lacking_at, later_word, later_at};
+ghost use Rattle.pv_rules_code.specs.AtGiven.{is_in, HasMet, keys_of, later_from, gives, is_given, is_out, lacks_some, lacking_at, later_word, later_at};
 
-use pv_names::{Callee, Entry, Firsts, How, is_fc, named_param, only_var};
+use pv_names::{Callee, Entry, Firsts, How, named_param, only_var};
 use pv_place::Place;
 use pv_rules_expr::{nearer_of, where_is};
-use pv_tree::{Arg, Block, CallTree};
-use pv_types::{Name, Section, Var};
+use pv_tree::{Arg, CallTree};
+use pv_types::{Name, Var};
 use std::alloc::{AllocError, Global};
 
 /// Whether a name was put into the table.
@@ -94,26 +95,16 @@ fn given<'p>(
     Ok(names)
 }
 
-/// Whether a variable of this section has to be given.
-fn must_be(block: &Block, section: Section) -> bool
-    ensures { result ≡ must_be (block_tree block.now) section }
+/// Whether the name of one of these variables wasn't put into the table.
+fn some_out(table: &Firsts, vars: &[Var]) -> bool
+    ensures { result ≡ list_any (is_out table.now) (map var_tree vars.now) }
 {
-    match section {
-        Section::Input => is_fc(&block.kind),
-        Section::InOut => true,
-        Section::Output => false,
-        Section::Static => false,
-        Section::Temp => false,
-        Section::Const => false,
+    for var in vars {
+        if !has(table, var.name) {
+            return true;
+        }
     }
-}
-
-/// Whether a variable has to be given and isn't among these names.
-fn is_lacking(block: &Block, var: Var, names: &Firsts) -> bool
-    ensures { let v = var_tree var.entry in result ≡ (must_be (block_tree block.now) (section_of v)
-        && not (is_in names.now (name_of v).key)) }
-{
-    must_be(block, var.of.section) && !has(names, var.name)
+    false
 }
 
 /// Whether a parameter that has to be given isn't.
@@ -127,12 +118,7 @@ fn lacks_some<'p>(
         ≡ lacks_some (how_tree how) (block_of entry.now) (map arg_tree args.now)) }
 {
     let names = given(alloc, how, entry, args)?;
-    for var in entry.vars() {
-        if is_lacking(entry.block, *var, &names) {
-            return Ok(true);
-        }
-    }
-    Ok(false)
+    Ok(some_out(&names, entry.needed()))
 }
 
 /// The first token of a call that doesn't give all that it has to.

@@ -19,5 +19,6 @@ mod sites;
 mod target;
 mod walk;
 
+pub use argument::param_in;
 pub use near::CodeNear;
 pub use on_statements::nearest_in_code;

@@ -164,4 +164,6 @@ pub struct CodeNear {
     pub misused: Option<Place>,
     /// A literal index beyond the bounds.
     pub beyond: Option<Place>,
+    /// The name of a function without a value, read in an expression. No rule says this alone: a call may write it.
+    pub void: Option<Place>,
 }

@@ -81,6 +81,7 @@ fn by_rules(n: SiteNear) -> CodeNear
         outside,
         misused,
         beyond,
+        void: n.parts.void,
     }
 }
 

@@ -11,10 +11,10 @@ ghost use Rattle.pv_rules_code.specs.Spots.{loop_tree};
 use crate::argument::is_counted_operand;
 use crate::around::Loop;
 use crate::near::AimNear;
-use pv_names::{Scope, Thing};
+use pv_names::{Scope, Thing, root_place};
 use pv_place::Place;
 use pv_rules_expr::{
-    IndexFault, index_in_operand, misused_in_operand, name_of_missing, nearer_of, where_is,
+    IndexFault, index_behind, misused_behind, name_of_missing, nearer_of, thing_behind, where_is,
     wrong_address,
 };
 use pv_tree::Operand;
@@ -53,9 +53,12 @@ pub(crate) fn add_aims(
     ensures { OnOk result (HasAims (λ what. named_place written what (scope_of scope.now)
         (operand_tree operand.now)) aims.old aims.new) }
 {
-    let misused = misused_in_operand(scope, alloc, operand)?;
-    let beyond = index_in_operand(scope, alloc, IndexFault::Beyond, operand)?;
-    let thing = scope.thing_of(operand);
+    let from = scope.root(&operand.root, operand.place);
+    let name = root_place(&operand.root, operand.place);
+    let steps = operand.steps.as_slice();
+    let misused = misused_behind(scope, alloc, from, name, steps)?;
+    let beyond = index_behind(scope, alloc, IndexFault::Beyond, from, name, steps)?;
+    let thing = thing_behind(scope, from, name, steps);
     let fixed = where_is(written && is_fixed(thing), operand.place);
     aims.fixed = nearer_of(aims.fixed, fixed);
     aims.missing = nearer_of(aims.missing, name_of_missing(thing));

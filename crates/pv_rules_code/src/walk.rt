@@ -14,7 +14,7 @@ use crate::around::Loop;
 use crate::near::SiteNear;
 use crate::sites::add_sites;
 use pv_names::Scope;
-use pv_tree::{Choice, Expr, ForHead, Stmt};
+use pv_tree::{ChoiceRange, Expr, ForHead, Stmt};
 use std::alloc::{AllocError, Global};
 
 /// The loops around the statements of a loop.
@@ -63,7 +63,7 @@ fn walk_branches<'w>(
     scope: &Scope,
     alloc: Global,
     loops: &[Loop<'w>],
-    branches: &'w Vec<(Vec<(Choice, Option<Choice>)>, Vec<Stmt>)>,
+    branches: &'w Vec<(Vec<ChoiceRange>, Vec<Stmt>)>,
     near: &mut SiteNear,
 ) -> Result<(), AllocError>
     ensures { OnOk result (HasSitesIn (λ what. site_place what (scope_of scope.now))

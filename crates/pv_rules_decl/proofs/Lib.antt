@@ -12,5 +12,4 @@ pub mod PartsAppended
 pub mod PatternBreaches
 pub mod ProjectFirst
 pub mod Projecting
-pub mod StartWalks
 pub mod TypeCycles

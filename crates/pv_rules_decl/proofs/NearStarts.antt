@@ -13,7 +13,7 @@ use Rattle.pv_tree.specs.Rules.Arrays.{IsBeyond}
 use Rattle.pv_rules_expr.specs.Nearest.{IsNearest}
 use Rattle.pv_rules_expr.specs.Places.{place_where}
 use Rattle.pv_rules_decl.specs.Starts.{start_at, near_vars, misfit_at, is_thing_outside, start_place, near_starts}
-use Rattle.pv_rules_decl.specs.declared.starts.StartLook.TheVariants as look
+use Rattle.pv_rules_decl.specs.StartLook as look
 use Rattle.pv_rules_expr.proofs.ForCallers.{nearest_where}
 use Rattle.pv_rules_expr.proofs.ForCallers.{name_nearest}
 use Rattle.pv_rules_expr.proofs.ForCallers.{in_any}

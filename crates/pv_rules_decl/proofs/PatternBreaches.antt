@@ -16,6 +16,9 @@ use Rattle.pv_tree.specs.Rules.PatternRule.{DividesAt, IsMovingIndex, IsNoPatter
 use Rattle.pv_rules_expr.specs.Nearest.{IsNearest, nearer_of}
 use Rattle.pv_rules_expr.specs.Places.{place_where}
 use Rattle.pv_rules_expr.specs.Looks.{near_parts}
+use Rattle.pv_rules_expr.specs.Near.{near_at}
+use Rattle.pv_rules_expr.specs.declared.near.Near.{Near}
+use Rattle.pv_rules_expr.specs.declared.search.Look.{Look}
 use Rattle.pv_rules_expr.specs.declared.search.Look.TheVariants as look
 use Rattle.pv_rules_decl.specs.Least.{IsFirst, least, breach_found, HasRule}
 use Rattle.pv_rules_decl.specs.declared.least.Found.{Found}
@@ -23,35 +26,9 @@ use Rattle.pv_rules_decl.specs.declared.fault.Breach.{Breach}
 use Rattle.pv_rules_decl.specs.declared.fault.Rule.{Rule}
 use Rattle.pv_rules_decl.specs.declared.fault.Rule.TheVariants.{MissingName, Misfit, OutOfRange, BeyondBounds, NotCallable, WrongAddress, NoPattern}
 use Rattle.pv_rules_decl.proofs.FirstLaws.{first_of_all}
-use Rattle.pv_rules_expr.proofs.ForCallers.{nearest_both, nearest_where, misapplied_any}
-use Rattle.pv_rules_expr.proofs.ForCallers.{misused_parts, moving_parts, divides_parts}
-
--- ---- two looks at one expression
-
-pub misfit_both : (scope : Scope) (ps : List Part) (a b o : Option Place) → a ≡ near_parts look.Misapplied scope ps None
-    → b ≡ near_parts look.Misused scope ps None → o ≡ nearer_of a b → IsNearest (BreaksInParts tree.misfit scope ps) o
-misfit_both scope ps a b o first second is =
-    subst (IsNearest (BreaksInParts tree.misfit scope ps)) (sym is)
-    (nearest_both (λ at. Any (λ p. Misapplies scope at p.expr) ps) (λ at. Any (MisusesPath scope at) (map (path_of scope) (reads_of_parts ps))) a b
-    (misapplied_any scope ps a first) (misused_parts scope ps b second))
-
-pub pattern_misfit : (scope : Scope) (e : ExprTree) (a b o : Option Place) → IsNearest (BreaksInParts tree.misfit scope (parts_of scope nothing e)) a
-    → b ≡ place_where (is_whole (sort_of scope e)) (first_place e) → o ≡ nearer_of a b → IsNearest (BreaksInPattern tree.misfit scope e) o
-pattern_misfit scope e a b o first second is =
-    subst (IsNearest (BreaksInPattern tree.misfit scope e)) (sym is)
-    (nearest_both (BreaksInParts tree.misfit scope (parts_of scope nothing e)) (λ at. (first_place e ≡ at) × IsTrue (is_whole (sort_of scope e))) a b
-    first
-    (subst (IsNearest (λ at. (first_place e ≡ at) × IsTrue (is_whole (sort_of scope e)))) (sym second)
-    (nearest_where (is_whole (sort_of scope e)) (first_place e))))
-
-pub no_pattern_both : (scope : Scope) (e : ExprTree) (a b o : Option Place) → a ≡ near_parts look.Divides scope (parts_of scope nothing e) None
-    → b ≡ near_parts look.Moving scope (parts_of scope nothing e) None → o ≡ nearer_of a b → IsNearest (IsNoPattern scope e) o
-no_pattern_both scope e a b o first second is =
-    let ps = parts_of scope nothing e in
-    subst (IsNearest (IsNoPattern scope e)) (sym is)
-    (nearest_both (λ at. Any (λ p. DividesAt at p.expr) ps)
-    (λ at. Any (λ o. Any (IsMovingIndex at) (indexes_of scope (path_of scope o))) (reads_of_parts ps)) a b
-    (divides_parts scope ps a first) (moving_parts scope ps b second))
+use Rattle.pv_rules_expr.proofs.ForCallers.{nearest_both, nearest_where, misapplied_any, outside_any}
+use Rattle.pv_rules_expr.proofs.ForCallers.{beyond_parts, misused_parts, moving_parts, divides_parts}
+use Rattle.pv_rules_expr.proofs.ForCallers.{missing_name_parts, not_callable_parts, wrong_address_parts}
 
 -- ---- all rules
 
@@ -79,12 +56,49 @@ module _ (scope : Scope) (e : ExprTree) where
   has_rule n2 n4 n6 n8 n16 n23 n24 tree.no_pattern at b = inr (inr (inr (inr (inr (inr (inl refl))))))
   has_rule n2 n4 n6 n8 n16 n23 n24 r at b = absurd b
 
-  pub pattern_first : (missing misfit outside beyond void address pattern : Option Place) (o : Option Breach)
-      → IsNearest (In tree.missing_name) missing → IsNearest (In tree.misfit) misfit → IsNearest (In tree.out_of_range) outside
-      → IsNearest (In tree.beyond_bounds) beyond → IsNearest (In tree.not_callable) void → IsNearest (In tree.wrong_address) address
-      → IsNearest (In tree.no_pattern) pattern
-      → o ≡ least (map breach_found (pattern_rules missing misfit outside beyond void address pattern)) → IsFirst In o
-  pattern_first missing misfit outside beyond void address pattern o n2 n4 n6 n8 n16 n23 n24 is =
-      first_of_all In (pattern_rules missing misfit outside beyond void address pattern) o
-      (n2, (n4, (n6, (n8, (n16, (n23, (n24, tt)))))))
-      (has_rule missing misfit outside beyond void address pattern) is
+  abbrev parts : List Part
+  parts = parts_of scope nothing e
+
+  misfit_nearest : (a b whole : Option Place) → a ≡ near_parts look.Misapplied scope parts None → b ≡ near_parts look.Misused scope parts None
+      → whole ≡ place_where (is_whole (sort_of scope e)) (first_place e) → IsNearest (In tree.misfit) (nearer_of (nearer_of a b) whole)
+  misfit_nearest a b whole first second third =
+      nearest_both (BreaksInParts tree.misfit scope parts) (λ at. (first_place e ≡ at) × IsTrue (is_whole (sort_of scope e))) (nearer_of a b) whole
+      (nearest_both (λ at. Any (λ p. Misapplies scope at p.expr) parts)
+      (λ at. Any (MisusesPath scope at) (map (path_of scope) (reads_of_parts parts))) a b
+      (misapplied_any scope parts a first) (misused_parts scope parts b second))
+      (subst (IsNearest (λ at. (first_place e ≡ at) × IsTrue (is_whole (sort_of scope e)))) (sym third)
+      (nearest_where (is_whole (sort_of scope e)) (first_place e)))
+
+  no_pattern_nearest : (a b : Option Place) → a ≡ near_parts look.Divides scope parts None → b ≡ near_parts look.Moving scope parts None
+      → IsNearest (IsNoPattern scope e) (nearer_of a b)
+  no_pattern_nearest a b first second =
+      nearest_both (λ at. Any (λ p. DividesAt at p.expr) parts)
+      (λ at. Any (λ o. Any (IsMovingIndex at) (indexes_of scope (path_of scope o))) (reads_of_parts parts)) a b
+      (divides_parts scope parts a first) (moving_parts scope parts b second)
+
+  -- by the nearest places of all that is looked for in the expression
+  pub pattern_near : (n : Near) (whole misfit pattern : Option Place) (o : Option Breach) → ((what : Look) → near_at what n ≡ near_parts what scope parts None)
+      → whole ≡ place_where (is_whole (sort_of scope e)) (first_place e) → misfit ≡ nearer_of (nearer_of n.misapplied n.misused) whole
+      → pattern ≡ nearer_of n.divides n.moving
+      → o ≡ least (map breach_found (pattern_rules n.missing misfit n.outside n.beyond n.void n.address pattern)) → IsFirst In o
+  pattern_near n whole misfit pattern o near is_it fits moves is =
+      first_of_all In (pattern_rules n.missing misfit n.outside n.beyond n.void n.address pattern) o (
+        missing_name_parts scope parts n.missing (near look.Missing),
+        (
+          subst (IsNearest (In tree.misfit)) (sym fits) (misfit_nearest n.misapplied n.misused whole (near look.Misapplied) (near look.Misused) is_it),
+          (
+            outside_any scope parts n.outside (near look.Outside),
+            (
+              beyond_parts scope parts n.beyond (near look.Beyond),
+              (
+                not_callable_parts scope parts n.void (near look.Void),
+                (
+                  wrong_address_parts scope parts n.address (near look.Address),
+                  (subst (IsNearest (In tree.no_pattern)) (sym moves) (no_pattern_nearest n.divides n.moving (near look.Divides) (near look.Moving)), tt),
+                ),
+              ),
+            ),
+          ),
+        ),
+      )
+      (has_rule n.missing misfit n.outside n.beyond n.void n.address pattern) is

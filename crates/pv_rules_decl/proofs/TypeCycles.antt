@@ -1,6 +1,7 @@
 -- Types by number: a type leads to another by steps exactly where the definition says that it contains it.
-use Rattle.std.proofs.Common.{◌≡◌, ℕ, zero, suc, ◌<◌, ◌≤◌, Bool, true, false, List, [], ◌∷◌, map, length, get_or, take, refl, ap, sym, subst, ◌∙◌, arith, inl, inr}
+use Rattle.std.proofs.Common.{◌≡◌, ℕ, zero, suc, ◌+◌, ◌<◌, ◌≤◌, Bool, true, false, List, [], ◌∷◌, map, length, get_or, take, refl, ap, sym, subst, ◌∙◌, arith, inl, inr, true≢false}
 use Rattle.std.specs.Prelude.{◌⊎◌, Option, Some, None, option_map, option_to_list, option_and_then, find, flat_map, bytes_eq, cond, if◌then◌else◌, Any, Contains}
+use Rattle.std.proofs.Math.Nat.{eq-or-lt_of_le}
 use Rattle.std.proofs.lemmas.Bool.{cases_Bool}
 use Rattle.std.proofs.lemmas.Slice.Eq.{bytes_eq-Decides}
 use Rattle.pv_place.specs.declared.place.Place.{Place}
@@ -23,7 +24,7 @@ use Rattle.pv_tree.specs.declared.block.Block.{Block}
 use Rattle.pv_rules_expr.specs.Nearest.{Nears, IsNearest}
 use Rattle.pv_names.specs.Firsts.{number_in, first_number, FindsFirsts}
 use Rattle.pv_rules_decl.specs.Declarations.{HaveTheSame}
-use Rattle.pv_rules_decl.specs.TypeNames.{NumbersTypes, LeadToTheSame}
+use Rattle.pv_rules_decl.specs.TypeNames.{NumbersTypes, LeadToTheSame, IsEndlessFrom}
 use Rattle.pv_rules_decl.proofs.Sharing.{some_same, same_back, same_count}
 use Rattle.pv_rules_decl.specs.declared.types.TypeNames.{TypeNames}
 use Rattle.pv_rules_expr.proofs.ForCallers.{any_has, has_any, near_same, nearest_by, near_then, all_taken}
@@ -419,3 +420,14 @@ near_types bs b types old mid new are first second =
     (near_same (λ at. HasSome (NamesWrongType bs at) types) (λ at. HasSome (NamesWrongType bs at) (all_types b.vars)) old mid
     (λ at. some_same (NamesWrongType bs at) types (all_types b.vars) are)
     (λ at. some_same (NamesWrongType bs at) (all_types b.vars) types (same_back types (all_types b.vars) are)) first) second
+
+-- ---- nodes that don't lead to themselves, one more of them
+
+pub endless_next : (g : List (List ℕ)) (k j : ℕ) (b : Bool) → b ≡ false → j ≡ k + 1 → (b ≡ true) ↔ LeadFrom g (next_of g k) k
+    → IsEndlessFrom g k → IsEndlessFrom g j
+endless_next g k j b isnt next told below n less lead =
+    let le : n ≤ k = omega (arith, less, next) in
+    elim (eq-or-lt_of_le le) [
+      | inl same ↦ true≢false (sym (told.1 (subst (λ m. LeadFrom g (next_of g m) m) same lead)) ∙ isnt)
+      | inr under ↦ below n under lead
+    ]

@@ -3,7 +3,9 @@ pub mod Names
 pub mod Least
 pub mod Patterns
 pub mod Answers
+pub mod StartLook
 pub mod StartPieces
+pub mod ValueNears
 -- what only private clauses cite
 pub mod BlockLists
 pub mod Declarations

@@ -14,10 +14,11 @@ use Rattle.pv_tree.specs.Rules.Arrays.{IsBeyond}
 use Rattle.pv_rules_expr.specs.NearestIn.{nearest_in}
 use Rattle.pv_rules_expr.specs.Looks.{near_parts}
 use Rattle.pv_rules_decl.specs.Starts.{near_vars, near_starts}
-use Rattle.pv_rules_decl.specs.declared.starts.StartLook.{StartLook}
-use Rattle.pv_rules_decl.specs.declared.starts.StartLook.TheVariants as value
+use Rattle.pv_rules_expr.specs.declared.search.Look.{Look}
+use Rattle.pv_rules_decl.specs.StartLook.{StartLook}
+use Rattle.pv_rules_decl.specs.StartLook as value
 use Rattle.pv_rules_decl.specs.declared.on_starts.Piece.{Piece}
-use Rattle.pv_rules_decl.specs.declared.on_starts.Piece.TheVariants.{MisfitStart, OutsideStart, Value, Index}
+use Rattle.pv_rules_decl.specs.declared.on_starts.Piece.TheVariants.{MisfitStart, OutsideStart}
 
 -- the expressions in the indexes of the parts that are given values
 abbrev pub parts_of_starts : Scope → List StartTree → List Part
@@ -26,15 +27,23 @@ parts_of_starts scope starts = flat_map (λ v. parts_of_operand scope v.0) start
 abbrev pub piece_in : Piece → Scope → Option Place
 piece_in MisfitStart scope = near_vars (start_misfits_type scope) (all_vars scope.block.vars) None
 piece_in OutsideStart scope = near_vars start_is_outside (all_vars scope.block.vars) None
-piece_in (Value what) scope = near_starts what scope (starts_of scope.block.body) None
-piece_in (Index what) scope = near_parts what scope (parts_of_starts scope
-    (starts_of scope.block.body)) None
+
+-- the values that a data block gives to its parts, and the expressions in their indexes
+abbrev pub value_in : StartLook → Scope → Option Place
+value_in what scope = near_starts what scope (starts_of scope.block.body) None
+
+abbrev pub index_in : Look → Scope → Option Place
+index_in what scope = near_parts what scope (parts_of_starts scope (starts_of scope.block.body)) None
 
 abbrev pub within : ProjectTree → BlockTree → Scope
 within project block = record { project = project; block = block }
 
+-- the nearest of all blocks, by that of each
+abbrev pub place_among : (Scope → Option Place) → ProjectTree → Option Place
+place_among place project = nearest_in (λ b. place (within project b)) project.blocks None
+
 abbrev pub piece_place : Piece → ProjectTree → Option Place
-piece_place what project = nearest_in (λ b. piece_in what (within project b)) project.blocks None
+piece_place what project = place_among (piece_in what) project
 
 -- what a value of a data block's part breaks
 abbrev pub BreaksAt : StartLook → Scope → StartTree → Place → Type 0

@@ -15,8 +15,7 @@ use Rattle.pv_rules_expr.specs.Places.{place_where}
 use Rattle.pv_rules_expr.specs.Operands.{name_at}
 use Rattle.pv_rules_expr.specs.Indexes.{index_at, misused_at}
 use Rattle.pv_rules_expr.specs.declared.indexes.IndexFault.TheVariants as index
-use Rattle.pv_rules_decl.specs.declared.starts.StartLook.{StartLook}
-use Rattle.pv_rules_decl.specs.declared.starts.StartLook.TheVariants.{Missing, Misused, Misfit, Outside, Beyond}
+use Rattle.pv_rules_decl.specs.StartLook.{StartLook, Missing, Misused, Misfit, Outside, Beyond}
 
 -- the start value of a declaration, where the test passes
 abbrev pub start_at : (TypeTree → Literal → Truth) → VarTree → Option Place

@@ -16,17 +16,13 @@ mod on_starts;
 mod pattern_expression;
 mod starts;
 mod types;
+mod values;
 
 pub use fault::{Breach, Rule, RuleFault};
 pub use joining::answered;
 pub use least::{Found, make_found};
 pub use on_declarations::{doubled_name, misplaced_date, wrong_array};
-pub use on_starts::{
-    address_in_values, beyond_in_values, misfit_in_values, misfit_start, missing_in_values,
-    outside_in_values, outside_start, wrong_value,
-};
-pub use pattern_expression::{
-    beyond_in, check_expression, misfit_in, no_pattern_in, pattern_breach,
-};
-pub use starts::StartLook;
+pub use on_starts::{misfit_start, outside_start};
+pub use pattern_expression::{check_expression, pattern_breach};
 pub use types::missing_type;
+pub use values::{StartNear, ValueNear, nearest_in_values};

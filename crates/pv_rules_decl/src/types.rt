@@ -1,7 +1,8 @@
 //! Types that aren't declared, or contain themselves.
 //!
 //! The types are numbered as the blocks are, and each leads to those that it names (`pv_graph`): one that leads to itself contains itself, through however many
-//! others. A name is asked for only where it stands before the least place so far.
+//! others. The types are asked once, as far as the first one that contains itself; those behind it are asked by each name that stands
+//! before the least place so far.
 ghost use Rattle.std.specs.Prelude.{◌≡◌, ◌↔◌, ◌++◌, List, map, flat_map, IfOk, OnOk, IsTrue, slice_index_or, false};
 ghost use Rattle.pv_types.specs.View.{type_tree};
 ghost use Rattle.pv_tree.specs.Tree.{BlockTree};
@@ -11,9 +12,10 @@ ghost use Rattle.pv_tree.specs.Rules.MissingTypes.{name_of_kind, IsMissingType};
 ghost use Rattle.pv_rules_expr.specs.Members.{HasSome};
 ghost use Rattle.pv_rules_expr.specs.Nearest.{Nears, IsNearest};
 ghost use Rattle.pv_graph.specs.Graphs.{lists_of};
+ghost use Rattle.pv_graph.specs.Steps.{steps_of};
 ghost use Rattle.pv_rules_decl.specs.TypeNumbers.{type_number, numbers_of_type, targets_in, types_graph, IsWrongNumber, IsWrongName, NamesWrongType, HasWrongType};
 ghost use Rattle.pv_rules_decl.specs.Declarations.{HaveTheSame};
-ghost use Rattle.pv_rules_decl.specs.TypeNames.{NumbersTypes, LeadToTheSame, IsGraphOf};
+ghost use Rattle.pv_rules_decl.specs.TypeNames.{NumbersTypes, LeadToTheSame, IsEndlessFrom, IsGraphOf};
 
 use crate::gathered::Gathered;
 use pv_graph::{Graph, Targets};
@@ -133,11 +135,24 @@ impl TypeNames {
     }
 }
 
-/// The types of a project by name, and which lead to which.
+/// The number of the first node that leads to itself, or how many nodes there are.
+fn first_endless(alloc: Global, graph: &Graph) -> Result<usize, AllocError>
+    ensures { IfOk result (IsEndlessFrom (steps_of graph.now)) }
+{
+    for node in 0..graph.len() {
+        if graph.is_on_cycle(alloc, node)? {
+            return Ok(node);
+        }
+    }
+    Ok(graph.len())
+}
+
+/// The types of a project by name, which lead to which, and how many of the first don't lead to themselves.
 #[derive(Drop)]
 struct TypeGraph {
     names: TypeNames,
     graph: Graph,
+    endless: usize,
 }
 
 impl TypeGraph {
@@ -148,7 +163,12 @@ impl TypeGraph {
         let names = TypeNames::of(alloc, blocks)?;
         let next = names.all_targets(alloc, blocks)?;
         let graph = Graph::new(alloc, next)?;
-        Ok(TypeGraph { names, graph })
+        let endless = first_endless(alloc, &graph)?;
+        Ok(TypeGraph {
+            names,
+            graph,
+            endless,
+        })
     }
 
     /// Whether there is no type of this name, or it contains itself.
@@ -159,6 +179,9 @@ impl TypeGraph {
         match self.names.find(name) {
             None => Ok(true),
             Some(number) => {
+                if number < self.endless {
+                    return Ok(false);
+                }
                 if number >= self.graph.len() {
                     return Ok(true);
                 }

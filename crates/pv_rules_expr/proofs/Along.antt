@@ -13,7 +13,7 @@ use Rattle.pv_tree.specs.Sorts.{Sort, broken, wants_of}
 use Rattle.pv_tree.specs.Scopes.{Scope}
 use Rattle.pv_tree.specs.Things.{Thing, thing_at, last_behind, dated, thing_behind, thing_of, thing_of_root, root_place}
 use Rattle.pv_tree.specs.Types.{literal_of, sort_of, sorts_of, sort_of_operand, sort_of_thing, is_indexed}
-use Rattle.pv_tree.specs.Parts.{Part, parts_of, parts_of_args, parts_of_operand, parts_of_steps, parts_of_step, IndexAt, path_of, indexes_of, indexes_of_step, indexes_behind}
+use Rattle.pv_tree.specs.Parts.{parts_of, parts_of_args, parts_of_operand, parts_of_steps, parts_of_step, IndexAt, path_of, indexes_of, indexes_of_step, indexes_behind}
 use Rattle.pv_names.specs.Literals.{written_of}
 use Rattle.pv_names.specs.Sorts.{sort_tree}
 use Rattle.pv_names.specs.declared.sort.Sort as code
@@ -294,9 +294,3 @@ pub indexes_found : (scope : Scope) (o : OperandTree) (what : Look) (a b : Optio
     → b ≡ near_parts what scope (parts_of_operand scope o) a
 indexes_found scope o what a b added =
     added ∙ ap (nearer_of a) (nearer_none (near_parts what scope (parts_of_operand scope o) None)) ∙ sym (parts_from what scope (parts_of_operand scope o) a)
-
--- one thing alone, from nothing on
-pub alone : (what : Look) (scope : Scope) (ps : List Part) (nearest begun found all : Option Place) → begun ≡ None → found ≡ near_parts what scope ps begun
-    → all ≡ nearer_of nearest found → all ≡ near_parts what scope ps nearest
-alone what scope ps nearest begun found all is looked nearer =
-    nearer ∙ ap (nearer_of nearest) (looked ∙ ap (near_parts what scope ps) is) ∙ sym (parts_from what scope ps nearest)

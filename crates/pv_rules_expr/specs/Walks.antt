@@ -58,11 +58,12 @@ outside_place want e Beyond = None
 outside_place want e Moving = None
 outside_place want e Divides = None
 
--- an expression with all in it, but whether it is outside its type itself
+-- all but the first
 abbrev pub others : List Part → List Part
 others [] = []
 others (p ∷ more) = more
 
+-- an expression with all in it, but whether it is outside its type itself
 abbrev pub within_place : Scope → ExprTree → Look → Option Place
 within_place scope e what =
     nearer_of (own_place scope e what) (near_parts what scope (others (parts_of scope nothing e)) None)

@@ -9,7 +9,7 @@ ghost use Rattle.pv_tree.specs.Fits.{is_of_other_type};
 ghost use Rattle.pv_tree.specs.Things as things;
 ghost use Rattle.pv_tree.specs.Parts as parts;
 ghost use Rattle.pv_tree.specs.Rules.PatternRule as pattern;
-ghost use Rattle.pv_tree.specs.View.{expr_tree, step_tree, steps_of, operand_tree};
+ghost use Rattle.pv_tree.specs.View.{expr_tree, step_tree, steps_of};
 ghost use Rattle.pv_names.specs.InScope.{scope_of};
 ghost use Rattle.pv_names.specs.Sorts.{sort_tree};
 ghost use Rattle.pv_names.specs.Views.{thing_tree};
@@ -20,10 +20,10 @@ use crate::misfit::{is_whole, where_is};
 use crate::search::nearer_of;
 use pv_names::{
     Scope, Sort, Thing, Want, dated, first_place, is_index_type, is_literal, is_whole_number,
-    last_behind, lies_in, own_type, root_place, taken,
+    last_behind, lies_in, own_type, taken,
 };
 use pv_place::Place;
-use pv_tree::{BinaryOp, Expr, Operand, Step};
+use pv_tree::{BinaryOp, Expr, Step};
 use std::alloc::{AllocError, Global};
 
 /// What is looked for in an index.
@@ -196,33 +196,4 @@ pub fn misused_behind<'p>(
     let misuse = misuse_of(thing_behind(scope, from, name, steps));
     let index = index_behind(scope, alloc, IndexFault::OtherType, from, name, steps)?;
     Ok(nearer_of(misuse, index))
-}
-
-/// The same of an operand.
-pub fn misused_in_operand(
-    scope: &Scope,
-    alloc: Global,
-    operand: &Operand,
-) -> Result<Option<Place>, AllocError>
-    ensures { let scope = scope_of scope.now in IfOk result (λ o. o
-        ≡ misused_at scope (parts.path_of scope (operand_tree operand.now))) }
-{
-    let from = scope.root(&operand.root, operand.place);
-    let name = root_place(&operand.root, operand.place);
-    misused_behind(scope, alloc, from, name, operand.steps.as_slice())
-}
-
-/// The nearest of the indexes of an operand that have the fault.
-pub fn index_in_operand(
-    scope: &Scope,
-    alloc: Global,
-    what: IndexFault,
-    operand: &Operand,
-) -> Result<Option<Place>, AllocError>
-    ensures { let scope = scope_of scope.now in IfOk result (λ o. o
-        ≡ index_at what scope (parts.path_of scope (operand_tree operand.now))) }
-{
-    let from = scope.root(&operand.root, operand.place);
-    let name = root_place(&operand.root, operand.place);
-    index_behind(scope, alloc, what, from, name, operand.steps.as_slice())
 }

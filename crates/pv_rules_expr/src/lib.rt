@@ -13,15 +13,10 @@ mod operand;
 mod search;
 mod walk;
 
-pub use indexes::{
-    IndexFault, index_behind, index_in_operand, misused_behind, misused_in_operand, thing_behind,
-};
+pub use indexes::{IndexFault, index_behind, misused_behind, thing_behind};
 pub use misfit::{is_whole, where_is};
 pub use near::{Near, nothing_near};
 pub use nearest::{is_nearer, nearer};
-pub use operand::{missing_name, name_of_missing, operand_of, wrong_address};
-pub use search::{
-    Look, look_in, look_in_operand, misapplied_in, missing_in, nearer_of, outside_in, void_in,
-    wrong_address_in,
-};
+pub use operand::{name_of_missing, operand_of, wrong_address};
+pub use search::{Look, misapplied_in, nearer_of};
 pub use walk::{look_for_all, look_in_operand_for_all};

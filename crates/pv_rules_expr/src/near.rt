@@ -5,7 +5,7 @@ ghost use Rattle.pv_rules_expr.specs.Near.{near_at};
 ghost use Rattle.pv_rules_expr.specs.Places.{place_where};
 ghost use Rattle.pv_rules_expr.specs.declared.search.Look.{Look};
 
-use crate::search::{Look, nearer_of};
+use crate::search::nearer_of;
 use pv_place::Place;
 
 /// Of each thing that is looked for in expressions the nearest place so far.
@@ -45,25 +45,6 @@ pub fn nothing_near() -> Near
         beyond: None,
         moving: None,
         divides: None,
-    }
-}
-
-impl Near {
-    /// The nearest place so far of what is looked for.
-    pub fn at(self, what: Look) -> Option<Place>
-        ensures { result ≡ near_at what self }
-    {
-        match what {
-            Look::Misapplied => self.misapplied,
-            Look::Outside => self.outside,
-            Look::Missing => self.missing,
-            Look::Void => self.void,
-            Look::Address => self.address,
-            Look::Misused => self.misused,
-            Look::Beyond => self.beyond,
-            Look::Moving => self.moving,
-            Look::Divides => self.divides,
-        }
     }
 }
 

@@ -1,13 +1,11 @@
 //! Operands that break a rule: a name that isn't declared, the value of a function without one, an address that there isn't.
 ghost use Rattle.std.specs.Prelude.{◌≡◌, option_map};
-ghost use Rattle.pv_tree.specs.Things as things;
 ghost use Rattle.pv_tree.specs.Parts as parts;
 ghost use Rattle.pv_tree.specs.View.{expr_tree, operand_tree};
-ghost use Rattle.pv_names.specs.InScope.{scope_of};
 ghost use Rattle.pv_names.specs.Views.{thing_tree};
 ghost use Rattle.pv_rules_expr.specs.Operands.{name_at, void_where, address_at};
 
-use pv_names::{Scope, Thing, is_address, is_void, root_place};
+use pv_names::{Thing, is_address, is_void, root_place};
 use pv_place::Place;
 use pv_tree::{Expr, Operand, Root};
 
@@ -60,13 +58,6 @@ pub fn name_of_missing(thing: Thing) -> Option<Place>
         Thing::ADate(_) => None,
         Thing::Untold => None,
     }
-}
-
-/// The name in an operand that isn't declared.
-pub fn missing_name(scope: &Scope, operand: &Operand) -> Option<Place>
-    ensures { result ≡ name_at (things.thing_of (scope_of scope.now) (operand_tree operand.now)) }
-{
-    name_of_missing(scope.thing_of(operand))
 }
 
 /// The name of a function without a value that an operand is which means this thing.

@@ -1,23 +1,21 @@
-//! What is looked for in expressions, and the nearest place of one thing alone.
+//! What is looked for in expressions, and what functions want of their arguments.
 ghost use Rattle.std.specs.Prelude.{◌≡◌, Any, IfOk, map};
 ghost use Rattle.pv_tree.specs.Sorts as sorts;
 ghost use Rattle.pv_tree.specs.declared.expr.StdFunction.TheVariants.{Sel};
-ghost use Rattle.pv_tree.specs.Parts.{parts_of, parts_of_operand};
-ghost use Rattle.pv_tree.specs.View.{expr_tree, operand_tree};
+ghost use Rattle.pv_tree.specs.Parts.{parts_of};
+ghost use Rattle.pv_tree.specs.View.{expr_tree};
 ghost use Rattle.pv_tree.specs.Rules.Misfits.{Misapplies};
-ghost use Rattle.pv_tree.specs.Rules.{BreaksInParts, missing_name, not_callable, wrong_address};
-ghost use Rattle.pv_tree.specs.Rules.OutOfRange.{IsPartOutside};
 ghost use Rattle.pv_rules_expr.specs.Nearest.{IsNearest};
 ghost use Rattle.pv_names.specs.Sorts.{sort_tree, want_tree};
 ghost use Rattle.pv_names.specs.InScope.{scope_of};
-ghost use Rattle.pv_rules_expr.specs.Looks.{nearer_of, near_parts, first_then};
+ghost use Rattle.pv_rules_expr.specs.Looks.{nearer_of, first_then};
 
 use crate::near::nothing_near;
 use crate::nearest::is_before;
-use crate::walk::{look_for_all, look_in_operand_for_all};
+use crate::walk::look_for_all;
 use pv_names::{Scope, Sort, Want, wanted_beside};
 use pv_place::Place;
-use pv_tree::{Expr, Operand, StdFunction};
+use pv_tree::{Expr, StdFunction};
 use std::alloc::{AllocError, Global};
 
 /// What is looked for in an expression.
@@ -109,39 +107,6 @@ fn choice_wants(parts: &[Sort]) -> Wants
     }
 }
 
-/// The nearest place, with those of an expression and all in it.
-pub fn look_in(
-    scope: &Scope,
-    alloc: Global,
-    what: Look,
-    want: Want,
-    e: &Expr,
-    nearest: Option<Place>,
-) -> Result<Option<Place>, AllocError>
-    ensures { let scope = scope_of scope.now in IfOk result (λ new. new
-        ≡ near_parts what scope (parts_of scope (want_tree want) (expr_tree e.now)) nearest) }
-{
-    let mut near = nothing_near();
-    look_for_all(scope, alloc, want, e, &mut near)?;
-    Ok(nearer_of(nearest, near.at(what)))
-}
-
-/// The nearest place, with those of an operand's indexes.
-pub fn look_in_operand(
-    scope: &Scope,
-    alloc: Global,
-    what: Look,
-    operand: &Operand,
-    nearest: Option<Place>,
-) -> Result<Option<Place>, AllocError>
-    ensures { let scope = scope_of scope.now in IfOk result (λ new. new
-        ≡ near_parts what scope (parts_of_operand scope (operand_tree operand.now)) nearest) }
-{
-    let mut near = nothing_near();
-    look_in_operand_for_all(scope, alloc, operand, &mut near)?;
-    Ok(nearer_of(nearest, near.at(what)))
-}
-
 /// The nearest operator or function in an expression, its indexes included, whose operands don't fit it.
 pub fn misapplied_in(
     scope: &Scope,
@@ -153,57 +118,7 @@ pub fn misapplied_in(
         (λ at. Any (λ p. Misapplies scope at p.expr)
         (parts_of scope (want_tree want) (expr_tree e.now)))) }
 {
-    look_in(scope, alloc, Look::Misapplied, want, e, None)
-}
-
-/// The nearest literal in an expression, its indexes included, that is outside its type.
-pub fn outside_in(
-    scope: &Scope,
-    alloc: Global,
-    want: Want,
-    e: &Expr,
-) -> Result<Option<Place>, AllocError>
-    ensures { let scope = scope_of scope.now in IfOk result (IsNearest
-        (λ at. Any (IsPartOutside at) (parts_of scope (want_tree want) (expr_tree e.now)))) }
-{
-    look_in(scope, alloc, Look::Outside, want, e, None)
-}
-
-/// The nearest name in an expression, its indexes included, that isn't declared, or field that is missing.
-pub fn missing_in(
-    scope: &Scope,
-    alloc: Global,
-    want: Want,
-    e: &Expr,
-) -> Result<Option<Place>, AllocError>
-    ensures { let scope = scope_of scope.now in IfOk result (IsNearest
-        (BreaksInParts missing_name scope (parts_of scope (want_tree want) (expr_tree e.now)))) }
-{
-    look_in(scope, alloc, Look::Missing, want, e, None)
-}
-
-/// The nearest name in an expression, its indexes included, of a function without a value.
-pub fn void_in(
-    scope: &Scope,
-    alloc: Global,
-    want: Want,
-    e: &Expr,
-) -> Result<Option<Place>, AllocError>
-    ensures { let scope = scope_of scope.now in IfOk result (IsNearest
-        (BreaksInParts not_callable scope (parts_of scope (want_tree want) (expr_tree e.now)))) }
-{
-    look_in(scope, alloc, Look::Void, want, e, None)
-}
-
-/// The nearest address in an expression, its indexes included, that there isn't.
-pub fn wrong_address_in(
-    scope: &Scope,
-    alloc: Global,
-    want: Want,
-    e: &Expr,
-) -> Result<Option<Place>, AllocError>
-    ensures { let scope = scope_of scope.now in IfOk result (IsNearest
-        (BreaksInParts wrong_address scope (parts_of scope (want_tree want) (expr_tree e.now)))) }
-{
-    look_in(scope, alloc, Look::Address, want, e, None)
+    let mut near = nothing_near();
+    look_for_all(scope, alloc, want, e, &mut near)?;
+    Ok(near.misapplied)
 }

@@ -22,7 +22,6 @@ use Rattle.pv_eval.specs.Writes.{TypesOf}
 use Rattle.pv_stl_run.specs.declared.instr.Instr.{Instr}
 use Rattle.pv_stl_run.specs.declared.instr.Action.TheVariants as action
 use Rattle.pv_stl_run.specs.Going.{AreInstrs, ranges_in}
-use Rattle.pv_run.specs.declared.program.TheConstants.{MOST_STATEMENTS}
 use Rattle.pv_run.specs.declared.program.Span.{Span}
 use Rattle.pv_run.specs.declared.program.List as code
 use Rattle.pv_run.specs.declared.program.Stmt.{Stmt}
@@ -288,7 +287,7 @@ RunsBody source block p (body.Instructions s) (starts values) = ⊥
 pub record IsCode (source : Source) (p : Program) (block : BlockTree) (c : Code) : Type 0 where
   pub brief : c.brief ≡ brief_count source block
   pub widest : c.brief ≤ p.widest
-  pub short : statements_end c.body < MOST_STATEMENTS
+  pub within : statements_end c.body ≤ length p.stmts.items
   pub value : c.value ≡ value_number source block
   pub body : RunsBody source block p c.body block.body
 

@@ -3,7 +3,7 @@ ghost use Rattle.std.specs.Prelude.{◌≡◌, ◌+◌, ◌*◌, ◌<◌, ◌^�
 ghost use Rattle.pv_run.specs.Code.{first_of, statements_end};
 ghost use Rattle.pv_run.specs.Runs.{Starts};
 
-use crate::program::{At, Called, Code, First, MOST_STATEMENTS, Program};
+use crate::program::{At, Called, Code, First, Program};
 
 /// A called block at its start.
 #[derive(Clone, Copy)]
@@ -27,17 +27,17 @@ fn first_of(from: First, first: u32) -> u32
 
 impl Program {
     /// The block that the call of this number begins, where it runs one and so many calls may still stand behind one another.
-    pub(crate) fn started(&self, c: u32, at: At) -> Option<Started>
+    pub(crate) fn started(&self, c: usize, at: At) -> Option<Started>
         requires { at.first + at.calls * 2 ^ 16 < 2 ^ 32 }
         ensures starts { Starts self.now c at result }
         ensures calls { IfSome result (λ s. at.calls ≡ s.at.calls + 1) }
-        ensures short { IfSome result (λ s. statements_end s.code.body < MOST_STATEMENTS) }
+        ensures short { IfSome result (λ s. statements_end s.code.body < 2 ^ 63) }
         ensures first { IfSome result (λ s. s.at.first + s.at.calls * 2 ^ 16 < 2 ^ 32) }
     {
         if at.calls == 0 {
             return None;
         }
-        let Some(call) = self.calls.get(c as usize) else {
+        let Some(call) = self.calls.get(c) else {
             return None;
         };
         let Some(n) = call.block else {
@@ -46,7 +46,7 @@ impl Program {
         let Some(code) = self.code(n) else {
             return None;
         };
-        if code.body.statements_end() >= MOST_STATEMENTS {
+        if code.body.statements_end() > self.stmts.len() {
             return None;
         }
         Some(Started {

@@ -35,7 +35,7 @@ impl Program {
             (arm_chosen source (activation block first) (frame_in visible.now brief.now) trees) }
     {
         for i in arms.first..arms.end {
-            let Some(arm) = self.arms.get(i as usize) else {
+            let Some(arm) = self.arms.get(i) else {
                 return Ok(None);
             };
             match self.holds(arm.condition, first, visible, brief, scratch) {
@@ -54,7 +54,7 @@ impl Program {
             → result ≡ is_chosen (activation block first) v trees }
     {
         for i in choices.first..choices.end {
-            let Some(choice) = self.choices.get(i as usize) else {
+            let Some(choice) = self.choices.get(i) else {
                 return false;
             };
             if lies_in(choice, v) {
@@ -71,7 +71,7 @@ impl Program {
             → ChoosesBranch source block self.now k result (branch_chosen (activation block first) v trees) }
     {
         for i in branches.first..branches.end {
-            let Some(branch) = self.branches.get(i as usize) else {
+            let Some(branch) = self.branches.get(i) else {
                 return None;
             };
             if self.is_chosen(branch.choices, v) {

@@ -16,8 +16,8 @@ mod stop;
 mod values;
 
 pub use program::{
-    Arm, At, Body, Branch, Called, Choice, Code, Counting, First, Inward, List, MOST_STATEMENTS,
-    Outward, Program, Slot, Span, Stmt,
+    Arm, At, Body, Branch, Called, Choice, Code, Counting, First, Inward, List, Outward, Program,
+    Slot, Span, Stmt,
 };
 pub use run::MOST_CALLS;
 pub use stop::{Flow, Stop};

@@ -67,7 +67,7 @@ impl Program {
             (linked_in visible.new outer.now inner.new) }
     {
         for i in span.first..span.end {
-            let Some(inward) = self.inward.get(i as usize) else {
+            let Some(inward) = self.inward.get(i) else {
                 return Ok(());
             };
             match self.value(inward.value, caller_first, visible, outer, scratch) {
@@ -84,7 +84,7 @@ impl Program {
     /// A value goes to the caller's target of this number, if there is one.
     fn hand_over(
         &self,
-        to: Option<u32>,
+        to: Option<usize>,
         v: i64,
         caller_first: u32,
         visible: &mut [i64],
@@ -124,7 +124,7 @@ impl Program {
             (linked_in visible.new outer.new inner.now) }
     {
         for i in span.first..span.end {
-            let Some(outward) = self.outward.get(i as usize) else {
+            let Some(outward) = self.outward.get(i) else {
                 return Ok(());
             };
             match read_slot(outward.from, first, visible, inner, place) {

@@ -7,29 +7,26 @@ use pv_place::Place;
 use pv_stl_run::Instr;
 use pv_word::Ty;
 
-/// Each body ends before the statement of this number.
-pub const MOST_STATEMENTS: u32 = 2_147_483_648;
-
 /// A part of an array: from the number `first` up to before `end`.
 #[derive(Clone, Copy)]
 pub struct Span {
-    pub first: u32,
-    pub end: u32,
+    pub first: usize,
+    pub end: usize,
 }
 
 /// Statements, one behind the other, as a part of the program's statements.
 #[derive(Clone, Copy)]
 pub struct List {
-    pub first: u32,
-    pub end: u32,
+    pub first: usize,
+    pub end: usize,
 }
 
 /// A loop that counts: the numbers of its first and last value and of its variable, and the place of the variable.
 #[derive(Clone, Copy)]
 pub struct Counting {
-    pub first: u32,
-    pub last: u32,
-    pub variable: u32,
+    pub first: usize,
+    pub last: usize,
+    pub variable: usize,
     pub variable_place: Place,
     pub by: i64,
 }
@@ -38,13 +35,13 @@ pub struct Counting {
 #[derive(Clone, Copy)]
 pub enum Stmt {
     Assign {
-        value: u32,
-        to: u32,
+        value: usize,
+        to: usize,
     },
     /// The value of a call goes to a target; the place is the call's.
     AssignCall {
-        call: u32,
-        to: u32,
+        call: usize,
+        to: usize,
         place: Place,
     },
     If {
@@ -52,7 +49,7 @@ pub enum Stmt {
         other: List,
     },
     Case {
-        selector: u32,
+        selector: usize,
         branches: Span,
         other: List,
     },
@@ -62,26 +59,26 @@ pub enum Stmt {
         place: Place,
     },
     While {
-        test: u32,
+        test: usize,
         body: List,
         place: Place,
     },
     Repeat {
         body: List,
-        test: u32,
+        test: usize,
         place: Place,
     },
     Exit,
     Continue,
     Return,
-    Call(u32),
+    Call(usize),
     Empty,
 }
 
 /// A condition, and the statements behind it.
 #[derive(Clone, Copy)]
 pub struct Arm {
-    pub condition: u32,
+    pub condition: usize,
     pub body: List,
 }
 
@@ -120,7 +117,7 @@ pub enum Slot {
 /// A value of the caller that goes to a parameter.
 #[derive(Clone, Copy)]
 pub struct Inward {
-    pub value: u32,
+    pub value: usize,
     pub to: Slot,
 }
 
@@ -128,13 +125,13 @@ pub struct Inward {
 #[derive(Clone, Copy)]
 pub struct Outward {
     pub from: Slot,
-    pub to: Option<u32>,
+    pub to: Option<usize>,
 }
 
 /// A call: the number of the block, if one is run, the instance, what is handed in and out in its order, and the place of the call.
 #[derive(Clone, Copy)]
 pub struct Called {
-    pub block: Option<u32>,
+    pub block: Option<usize>,
     pub first: First,
     pub inward: Span,
     pub outward: Span,
@@ -170,7 +167,7 @@ pub struct Program {
     /// By the numbers of the project's blocks: at least of the one that is entered, and of those that calls lead to from there.
     pub blocks: Vec<Option<Code>>,
     /// The number of the block that is entered.
-    pub entry: u32,
+    pub entry: usize,
     pub values: Vec<Expression>,
     pub targets: Vec<Target>,
     /// The types of the visible cells.
@@ -194,7 +191,7 @@ pub struct At {
 
 impl Body {
     /// Where its statements end, if it has any.
-    pub fn statements_end(self) -> u32
+    pub fn statements_end(self) -> usize
         ensures { result ≡ statements_end self }
     {
         match self {
@@ -206,7 +203,7 @@ impl Body {
 
 impl List {
     /// What of the list stands before a statement of this number.
-    pub(crate) fn before(self, statement: u32) -> List
+    pub(crate) fn before(self, statement: usize) -> List
         ensures same { self.end ≤ statement → result ≡ self }
         ensures before { result.end ≤ statement }
     {
@@ -223,18 +220,18 @@ impl Program {
         ensures { span.first ≤ span.end → span.end ≤ length self.now.instrs.items
             → result.now ≡ instrs_in self.now span }
     {
-        if span.first <= span.end && (span.end as usize) <= self.instrs.len() {
-            &self.instrs[span.first as usize..span.end as usize]
+        if span.first <= span.end && span.end <= self.instrs.len() {
+            &self.instrs[span.first..span.end]
         } else {
             &[]
         }
     }
 
     /// The code of the block of this number, if there is one.
-    pub(crate) fn code(&self, n: u32) -> Option<Code>
+    pub(crate) fn code(&self, n: usize) -> Option<Code>
         ensures { result ≡ code_at self.now n }
     {
-        match self.blocks.get(n as usize) {
+        match self.blocks.get(n) {
             Some(code) => *code,
             None => None,
         }

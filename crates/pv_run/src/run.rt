@@ -5,7 +5,6 @@ ghost use Rattle.pv_mean.specs.Cells.{most_calls};
 ghost use Rattle.pv_mean.specs.Scans.{scan_from};
 ghost use Rattle.pv_eval.specs.Operands.{IsSpot};
 ghost use Rattle.pv_run.specs.declared.program.Stmt.TheVariants.{AssignCall, If, Case, For, Call};
-ghost use Rattle.pv_run.specs.declared.program.TheConstants.{MOST_STATEMENTS};
 ghost use Rattle.pv_run.specs.Code.{IsProgram, statements_end};
 ghost use Rattle.pv_run.specs.Ends.{end_in};
 ghost use Rattle.pv_run.specs.Runs.{frame_in, HasRoom, RunsList, RunsStmt, RunsCall, RunsWhile, RunsRepeat, RunsFor, RunsBegun, RunsCode, RunsInstrs};
@@ -73,7 +72,7 @@ impl Program {
         ensures { RunsList self.now list at (frame_in visible.old own.old) result (frame_in visible.new own.new) }
     {
         for k in list.first..list.end {
-            let Some(stmt) = self.stmts.get(k as usize) else {
+            let Some(stmt) = self.stmts.get(k) else {
                 return Ok(Flow::Normal);
             };
             match self.run_stmt(k, stmt, at, visible, own, below, turns, scratch) {
@@ -92,7 +91,7 @@ impl Program {
     #[cycle(run)]
     fn run_stmt(
         &self,
-        k: u32,
+        k: usize,
         stmt: &Stmt,
         at: At,
         visible: &mut [i64],
@@ -114,7 +113,7 @@ impl Program {
     #[cycle(run)]
     fn run_other(
         &self,
-        k: u32,
+        k: usize,
         stmt: &Stmt,
         at: At,
         visible: &mut [i64],
@@ -164,7 +163,7 @@ impl Program {
     #[cycle(run)]
     fn run_called(
         &self,
-        call: u32,
+        call: usize,
         at: At,
         visible: &mut [i64],
         own: &mut [Option<i64>],
@@ -186,8 +185,8 @@ impl Program {
     #[cycle(run)]
     fn run_assigned(
         &self,
-        call: u32,
-        target: u32,
+        call: usize,
+        target: usize,
         place: Place,
         at: At,
         visible: &mut [i64],
@@ -214,7 +213,7 @@ impl Program {
     #[cycle(run)]
     fn run_if(
         &self,
-        k: u32,
+        k: usize,
         arms: Span,
         other: List,
         at: At,
@@ -245,8 +244,8 @@ impl Program {
     #[cycle(run)]
     fn run_case(
         &self,
-        k: u32,
-        selector: u32,
+        k: usize,
+        selector: usize,
         branches: Span,
         other: List,
         at: At,
@@ -279,7 +278,7 @@ impl Program {
     #[cycle(run)]
     fn run_counted(
         &self,
-        k: u32,
+        k: usize,
         counting: &Counting,
         body: List,
         place: Place,
@@ -310,7 +309,7 @@ impl Program {
     fn run_while(
         &self,
         body: List,
-        condition: u32,
+        condition: usize,
         place: Place,
         at: At,
         visible: &mut [i64],
@@ -350,7 +349,7 @@ impl Program {
     fn run_repeat(
         &self,
         body: List,
-        condition: u32,
+        condition: usize,
         place: Place,
         at: At,
         visible: &mut [i64],
@@ -430,7 +429,7 @@ impl Program {
     #[cycle(run)]
     fn run_call(
         &self,
-        c: u32,
+        c: usize,
         at: At,
         visible: &mut [i64],
         own: &mut [Option<i64>],
@@ -461,7 +460,7 @@ impl Program {
     ) -> Result<Option<i64>, Stop>
         requires room { HasRoom self.now at (length below.old) (length turns.old) (length scratch.old) }
         requires calls { at.calls ≡ started.now.at.calls + 1 }
-        requires short { statements_end started.now.code.body < MOST_STATEMENTS }
+        requires short { statements_end started.now.code.body < 2 ^ 63 }
         requires first { started.now.at.first + started.now.at.calls * 2 ^ 16 < 2 ^ 32 }
         ensures { RunsBegun self.now started.now at (frame_in visible.old own.old) result (frame_in visible.new own.new) }
     {

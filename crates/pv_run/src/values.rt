@@ -23,7 +23,7 @@ impl Program {
     /// The value of this number.
     pub(crate) fn value(
         &self,
-        n: u32,
+        n: usize,
         first: u32,
         visible: &[i64],
         brief: &[Option<i64>],
@@ -33,7 +33,7 @@ impl Program {
         ensures { (source : Source) (block : BlockTree) (e : ExprTree) → IsValue source block self.now n e
             → value_of result ≡ end_of (value source (activation block first) (frame_in visible.now brief.now) e) }
     {
-        let Some(expression) = self.values.get(n as usize) else {
+        let Some(expression) = self.values.get(n) else {
             return Ok(0);
         };
         if expression.len() > scratch.len() {
@@ -53,7 +53,7 @@ impl Program {
     /// The spot of the target of this number.
     pub(crate) fn locate(
         &self,
-        n: u32,
+        n: usize,
         first: u32,
         visible: &[i64],
         brief: &[Option<i64>],
@@ -64,7 +64,7 @@ impl Program {
             → spot_end result ≡ end_of (locate source (activation block first) (frame_in visible.now brief.now) o) }
         ensures spot { IfOk result IsSpot }
     {
-        let Some(target) = self.targets.get(n as usize) else {
+        let Some(target) = self.targets.get(n) else {
             return Ok(Spot::Nowhere);
         };
         if target.len() > scratch.len() {
@@ -84,7 +84,7 @@ impl Program {
     /// Whether the condition of this number is true.
     pub(crate) fn holds(
         &self,
-        n: u32,
+        n: usize,
         first: u32,
         visible: &[i64],
         brief: &[Option<i64>],
@@ -100,12 +100,12 @@ impl Program {
     }
 
     /// The visible cell that the target of this number is, if it is one whatever the cells hold.
-    fn cell(&self, n: u32, first: u32) -> Option<usize>
+    fn cell(&self, n: usize, first: u32) -> Option<usize>
         ensures { (source : Source) (block : BlockTree) (o : OperandTree) → IsTarget source block self.now n o
             → IfSome result (λ cell. (frame : Frame)
             → locate source (activation block first) frame o ≡ got (m.visible cell)) }
     {
-        match self.targets.get(n as usize) {
+        match self.targets.get(n) {
             Some(target) => target.cell(first),
             None => None,
         }
@@ -114,7 +114,7 @@ impl Program {
     /// A value goes to the target of this number.
     pub(crate) fn store(
         &self,
-        n: u32,
+        n: usize,
         v: i64,
         first: u32,
         visible: &mut [i64],
@@ -149,8 +149,8 @@ impl Program {
     /// An assignment: the value of one number goes to the target of another.
     pub(crate) fn assign(
         &self,
-        value: u32,
-        target: u32,
+        value: usize,
+        target: usize,
         at: At,
         visible: &mut [i64],
         own: &mut [Option<i64>],

@@ -14,7 +14,7 @@ use crate::checks::{expr_size, target_size};
 use crate::count::sum;
 use crate::instructions::instrs_size;
 use pv_names::{How, Scope};
-use pv_tree::{Body, Choice, Expr, ForHead, Stmt};
+use pv_tree::{Body, ChoiceRange, Expr, ForHead, Stmt};
 
 /// The size of the arms of an IF.
 #[cycle(sizing)]
@@ -31,7 +31,7 @@ fn arms_size(scope: &Scope, arms: &Vec<(Expr, Vec<Stmt>)>) -> u64
 
 /// The size of the branches of a CASE.
 #[cycle(sizing)]
-fn branches_size(scope: &Scope, branches: &Vec<(Vec<(Choice, Option<Choice>)>, Vec<Stmt>)>) -> u64
+fn branches_size(scope: &Scope, branches: &Vec<(Vec<ChoiceRange>, Vec<Stmt>)>) -> u64
     ensures { result
         ≡ capped (sizes.size_of_branches (scope_of scope.now) (branch_trees branches.now.items)) }
 {

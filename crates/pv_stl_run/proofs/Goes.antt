@@ -159,7 +159,6 @@ fell_more (Ok true) a b c h le = omega arith
 fell_more (Ok false) a b c h le = tt
 fell_more (Err s) a b c h le = tt
 
--- past the last position that has a number
-pub at_last : (code : List Instr) (all : List InstrTree) (k : ℕ) → HasRanges code all → length code < 4294967296 → 4294967296 ≤ suc k
-    → drop (suc k) all ≡ []
-at_last code all k h short last = drop_past all (suc k) (slice_get_past all (suc k) (omega (arith, h.same)))
+-- behind the last position
+pub at_last : (code : List Instr) (all : List InstrTree) (k : ℕ) → HasRanges code all → length code ≤ k → drop (suc k) all ≡ []
+at_last code all k h last = drop_past all (suc k) (slice_get_past all (suc k) (omega (arith, h.same, last)))

@@ -17,7 +17,7 @@ use Rattle.pv_stl_run.specs.declared.instr.Instr.{Instr}
 use Rattle.pv_stl_run.specs.declared.turns.Turn.{Turn}
 use Rattle.pv_stl_run.specs.Going.{turn_at, entered_of, rest_of, behind_turn, resumed, range_at, range_of, HasRanges, IsBack, left_to, Entered, Nested, ranges_in, most_from, most_in, most_behind}
 use Rattle.pv_stl_run.proofs.RunLaws.{arrives_plainly, arrives_over, arrives_range, behind_other, behind_own, behind_over, resumed_over}
-use Rattle.pv_stl_run.proofs.TurnLaws.{drop_at, drop_past, get_dropped, get_below, get_own, entered_one, range_entered, ranges_next, ranges_all, ranges_more, ranges_length}
+use Rattle.pv_stl_run.proofs.TurnLaws.{drop_at, drop_past, get_dropped, get_below, get_own, entered_one, range_entered, ranges_next, ranges_all, ranges_more}
 
 -- the instruction of the tree at a position of the code
 pub tree_beside : (code : List Instr) (all : List InstrTree) (k : ℕ) (c : Instr) → length code ≡ length all → slice_get code k ≡ Some c
@@ -325,12 +325,6 @@ most_in_returned bound left code old new entered at m n t e l lt is at_is left_i
 
 pub nested_on : (code : List Instr) (old : List Turn) (entered j k : ℕ) → Nested code old entered j → j ≤ k → Nested code old entered k
 nested_on code old entered j k nested le = record { few = omega (arith, nested.few, ranges_more code j k le); each = nested.each }
-
--- there is room for one more, and a number
-pub has_number : (code : List Instr) (old : List Turn) (entered at : ℕ) (c : Instr) (place : Place) → slice_get code at ≡ Some c
-    → c.range ≡ Some place → Nested code old entered at → length code < 4294967296 → entered < 4294967295
-has_number code old entered at c place e r nested short =
-    omega (arith, ranges_next code at c place e r, ranges_all code (suc at), ranges_length code, nested.few)
 
 pub arrived_none : (source : Source) (calls : Calls) (act : Activation) (all : List InstrTree) (w : Working) (code : List Instr) (at : ℕ)
     (ts : List Turn) → HasRanges code all → None ≡ range_at code at

@@ -149,14 +149,6 @@ ranges_all (x ∷ xs) (suc k) = by_range x.range (ranges_all xs k) where
   by_range None m = m
   by_range (Some p) m = omega arith
 
-pub ranges_length : (code : List Instr) → ranges_in code ≤ length code
-ranges_length [] = omega arith
-ranges_length (x ∷ xs) = by_range x.range (ranges_length xs) where
-  by_range : (o : Option Place) → ranges_in xs ≤ length xs
-      → elim o [ None ↦ ranges_in xs | Some p ↦ suc (ranges_in xs) ] ≤ suc (length xs)
-  by_range None m = omega arith
-  by_range (Some p) m = omega arith
-
 -- ---- what is read
 
 -- a turn that is read by its number

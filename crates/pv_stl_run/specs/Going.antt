@@ -136,7 +136,6 @@ pub record IsInstr (source : Source) (block : BlockTree) (targets : List Target)
 pub record AreInstrs (source : Source) (block : BlockTree) (targets : List Target) (room : ℕ)
     (code : List Instr) (all : List InstrTree) : Type 0 where
   pub same : length code ≡ length all
-  pub short : length code < 2 ^ 32
   pub each : (k : ℕ) (c : Instr) (i : InstrTree) → slice_get code k ≡ Some c
       → slice_get all k ≡ Some i
       → IsInstr source block targets room all code k c i

@@ -11,7 +11,7 @@ use pv_eval::Target;
 use pv_word::Ty;
 
 /// The number of the call that an instruction makes, if it is one.
-fn call_of(action: Action) -> Option<u32>
+fn call_of(action: Action) -> Option<usize>
     ensures { result ≡ call_of action }
 {
     match action {
@@ -21,22 +21,22 @@ fn call_of(action: Action) -> Option<u32>
 }
 
 /// The instruction at a position, if there is one.
-fn instr_at(code: &[Instr], at: u32) -> Option<&Instr>
+fn instr_at(code: &[Instr], at: usize) -> Option<&Instr>
     ensures { option_copied result ≡ slice_get code.now at }
 {
-    code.get(at as usize)
+    code.get(at)
 }
 
 /// A body at work: the registers, the position of the next instruction, and how many of the turns are of ranges that were entered.
 #[derive(Drop)]
 pub struct Going {
     pub registers: Registers,
-    pub at: u32,
-    pub entered: u32,
+    pub at: usize,
+    pub entered: usize,
 }
 
 impl Going {
-    ghost use Rattle.std.specs.Prelude.{◌≡◌, ◌+◌, ◌≤◌, ◌<◌, ◌^◌, ℕ, List, suc, drop, length, false, IfOk};
+    ghost use Rattle.std.specs.Prelude.{◌≡◌, ◌+◌, ◌≤◌, ◌<◌, ℕ, List, suc, drop, length, false, IfOk};
     ghost use Rattle.pv_tree.specs.Tree.{InstrTree, BlockTree};
     ghost use Rattle.pv_mean.specs.Sources.{Source};
     ghost use Rattle.pv_mean.specs.Activations.{Activation};
@@ -55,7 +55,7 @@ impl Going {
     pub fn begin(code: &[Instr], bound: u32, turns: &mut [Turn]) -> Result<Going, Stop>
         ensures same { (source : Source) (calls : Calls) (act : Activation) (all : List InstrTree)
             (w : Working)
-            → source.bound ≡ bound → HasRanges code.now all → length code.now < 2 ^ 32
+            → source.bound ≡ bound → HasRanges code.now all
             → ranges_in code.now ≤ length turns.old
             → begun source calls act all w result turns.new
             ≡ run_instructions source calls act all here w }
@@ -78,13 +78,13 @@ impl Going {
         &mut self,
         code: &[Instr],
         bound: u32,
-        at: u32,
+        at: usize,
         turns: &mut [Turn],
     ) -> Result<bool, Stop>
         requires { self.old.entered ≤ length turns.old }
         ensures same { (source : Source) (calls : Calls) (act : Activation) (all : List InstrTree)
             (w : Working)
-            → source.bound ≡ bound → HasRanges code.now all → length code.now < 2 ^ 32
+            → source.bound ≡ bound → HasRanges code.now all
             → Nested code.now turns.old self.old.entered at
             → ranges_in code.now ≤ length turns.old
             → Went result
@@ -115,7 +115,7 @@ impl Going {
         requires { self.old.entered ≤ length turns.old }
         ensures same { (source : Source) (calls : Calls) (act : Activation) (all : List InstrTree)
             (w : Working)
-            → source.bound ≡ bound → HasRanges code.now all → length code.now < 2 ^ 32
+            → source.bound ≡ bound → HasRanges code.now all
             → Nested code.now turns.old self.old.entered (suc self.old.at)
             → ranges_in code.now ≤ length turns.old
             → Went result
@@ -131,14 +131,15 @@ impl Going {
             → WhereOn result (Nested code.now turns.new self.new.entered (suc self.new.at)) }
         ensures at { WhereOn result (self.new.at ≡ suc self.old.at) }
     {
-        match self.at.checked_add(1) {
-            Some(at) => self.goes_to(code, bound, at, turns),
-            None => Ok(false),
+        if self.at < code.len() {
+            self.goes_to(code, bound, self.at + 1, turns)
+        } else {
+            Ok(false)
         }
     }
 
     /// Back at a position.
-    fn goes_back(&mut self, code: &[Instr], at: u32, turns: &mut [Turn]) -> Result<bool, Stop>
+    fn goes_back(&mut self, code: &[Instr], at: usize, turns: &mut [Turn]) -> Result<bool, Stop>
         requires { self.old.entered ≤ length turns.old }
         ensures same { (source : Source) (calls : Calls) (act : Activation) (all : List InstrTree)
             (k limit : ℕ) (key : List ℕ) (w : Working)
@@ -177,7 +178,7 @@ impl Going {
         requires { self.old.entered ≤ length turns.old }
         ensures same { (source : Source) (calls : Calls) (act : Activation) (all : List InstrTree)
             (w : Working)
-            → source.bound ≡ bound → HasRanges code.now all → length code.now < 2 ^ 32
+            → source.bound ≡ bound → HasRanges code.now all
             → Nested code.now turns.old self.old.entered (suc self.old.at)
             → ranges_in code.now ≤ length turns.old
             → Went result
@@ -207,7 +208,7 @@ impl Going {
         requires { self.old.entered ≤ length turns.old }
         ensures same { (source : Source) (calls : Calls) (act : Activation) (all : List InstrTree)
             (i : InstrTree) (w : Working)
-            → source.bound ≡ bound → HasRanges code.now all → length code.now < 2 ^ 32
+            → source.bound ≡ bound → HasRanges code.now all
             → Nested code.now turns.old self.old.entered (suc self.old.at)
             → ranges_in code.now ≤ length turns.old
             → GoesTo all self.old.at i next
@@ -251,7 +252,7 @@ impl Going {
         visible: &mut [i64],
         own: &mut [Option<i64>],
         scratch: &mut [i64],
-    ) -> Result<Option<u32>, Stop>
+    ) -> Result<Option<usize>, Stop>
         requires { self.old.entered ≤ length turns.old }
         ensures same { (source : Source) (calls : Calls) (block : BlockTree) (room : ℕ)
             (all : List InstrTree) → source.bound ≡ bound → TypesOf source types.now

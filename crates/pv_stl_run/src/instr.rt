@@ -8,8 +8,8 @@ use pv_word::Ty;
 /// Where a jump goes: to an instruction behind it, or back to the label of a range.
 #[derive(Clone, Copy)]
 pub enum Goal {
-    Ahead(u32),
-    Back(u32),
+    Ahead(usize),
+    Back(usize),
 }
 
 /// What integer math makes of ACCU2 and ACCU1.
@@ -121,20 +121,20 @@ pub enum When {
 pub enum Action {
     Change(Change),
     /// A, AN, O, ON, X and XN with an operand.
-    Join(Junction, u32),
-    Write(Written, u32),
+    Join(Junction, usize),
+    Write(Written, usize),
     /// FP, which is `rising`, and FN.
-    Edge(bool, u32),
+    Edge(bool, usize),
     /// L of an operand, of its type.
-    Load(Ty, u32),
+    Load(Ty, usize),
     /// T, as a value of the operand's type.
-    Transfer(Ty, u32),
+    Transfer(Ty, usize),
     Jump(When, Goal),
     /// BE, BEU.
     End,
     /// BEC.
     EndWhere,
-    Call(u32),
+    Call(usize),
 }
 
 /// An instruction, with the place of its word. Where its label begins a range, to which a jump from there or from behind it goes

@@ -29,7 +29,7 @@ use pv_word::Ty;
 /// The spot that the operand of this number names.
 fn spot_of(
     targets: &[Target],
-    n: u32,
+    n: usize,
     first: u32,
     visible: &[i64],
     own: &[Option<i64>],
@@ -42,7 +42,7 @@ fn spot_of(
         ≡ values.locate source (activation block first) (frame_in visible.now own.now) o }
     ensures spot { IfOk result IsSpot }
 {
-    let Some(target) = targets.get(n as usize) else {
+    let Some(target) = targets.get(n) else {
         return Ok(Spot::Nowhere);
     };
     if let Some(cell) = target.cell(first) {
@@ -114,7 +114,7 @@ pub(crate) fn joins(
     r: &mut Registers,
     junction: Junction,
     targets: &[Target],
-    n: u32,
+    n: usize,
     first: u32,
     visible: &[i64],
     own: &[Option<i64>],
@@ -181,7 +181,7 @@ pub(crate) fn writes(
     written: Written,
     targets: &[Target],
     types: &[Ty],
-    n: u32,
+    n: usize,
     first: u32,
     visible: &mut [i64],
     own: &mut [Option<i64>],
@@ -216,7 +216,7 @@ pub(crate) fn finds_edge(
     rising: bool,
     targets: &[Target],
     types: &[Ty],
-    n: u32,
+    n: usize,
     first: u32,
     visible: &mut [i64],
     own: &mut [Option<i64>],
@@ -261,7 +261,7 @@ pub(crate) fn loads(
     r: &mut Registers,
     ty: Ty,
     targets: &[Target],
-    n: u32,
+    n: usize,
     first: u32,
     visible: &[i64],
     own: &[Option<i64>],
@@ -295,7 +295,7 @@ pub(crate) fn transfers(
     ty: Ty,
     targets: &[Target],
     types: &[Ty],
-    n: u32,
+    n: usize,
     first: u32,
     visible: &mut [i64],
     own: &mut [Option<i64>],

@@ -1,6 +1,6 @@
 //! Turns of ranges: how many are left of each range that was entered at its label.
 
-ghost use Rattle.std.specs.Prelude.{◌≡◌, ◌<◌, ◌≤◌, ◌^◌, ℕ, suc, ℤ, List, length, drop, IfOk, IfSome};
+ghost use Rattle.std.specs.Prelude.{◌≡◌, ◌≤◌, ℕ, suc, ℤ, List, length, drop, IfOk, IfSome};
 ghost use Rattle.pv_tree.specs.Tree.{InstrTree};
 ghost use Rattle.pv_mean.specs.Sources.{Source};
 ghost use Rattle.pv_mean.specs.Endings.{ended};
@@ -18,15 +18,15 @@ use pv_place::Place;
 /// A range that was entered: the position of the instruction with its label, and how many turns are left.
 #[derive(Clone, Copy)]
 pub struct Turn {
-    pub at: u32,
+    pub at: usize,
     pub left: u32,
 }
 
 /// The place of the label at a position, if that begins a range.
-fn range_at(code: &[Instr], at: u32) -> Option<Place>
+fn range_at(code: &[Instr], at: usize) -> Option<Place>
     ensures { result ≡ range_at code.now at }
 {
-    match code.get(at as usize) {
+    match code.get(at) {
         Some(instr) => instr.range,
         None => None,
     }
@@ -37,14 +37,14 @@ fn range_at(code: &[Instr], at: u32) -> Option<Place>
 pub(crate) fn arrives(
     code: &[Instr],
     bound: u32,
-    at: u32,
-    entered: u32,
+    at: usize,
+    entered: usize,
     turns: &mut [Turn],
-) -> Result<u32, Stop>
+) -> Result<usize, Stop>
     requires { entered ≤ length turns.old }
     ensures same { (source : Source) (calls : Calls) (act : Activation) (all : List InstrTree)
         (w : Working)
-        → source.bound ≡ bound → HasRanges code.now all → length code.now < 2 ^ 32
+        → source.bound ≡ bound → HasRanges code.now all
         → Nested code.now turns.old entered at → ranges_in code.now ≤ length turns.old
         → arrived source calls act all at w result turns.new
         ≡ resumed source calls act all (entered_of turns.old entered)
@@ -61,9 +61,8 @@ pub(crate) fn arrives(
     if bound == 0 {
         return Err(Stop::Over(label));
     }
-    let room = turns.len().min(u32::MAX as usize);
-    if (entered as usize) < room {
-        turns[entered as usize] = Turn {
+    if entered < turns.len() {
+        turns[entered] = Turn {
             at,
             left: bound - 1,
         };
@@ -73,13 +72,13 @@ pub(crate) fn arrives(
 }
 
 /// How many of the ranges are entered where those within the one of this position are left; none, if that one isn't entered.
-fn left_within(at: u32, entered: u32, turns: &[Turn]) -> u32
+fn left_within(at: usize, entered: usize, turns: &[Turn]) -> usize
     requires { entered ≤ length turns.now }
     ensures { result ≡ left_to at turns.now entered }
 {
     let mut n = entered;
     while n > 0 {
-        match turns.get(n as usize - 1) {
+        match turns.get(n - 1) {
             Some(turn) => {
                 if turn.at == at {
                     return n;
@@ -96,10 +95,10 @@ fn left_within(at: u32, entered: u32, turns: &[Turn]) -> u32
 /// is.
 pub(crate) fn returns(
     code: &[Instr],
-    at: u32,
-    entered: u32,
+    at: usize,
+    entered: usize,
     turns: &mut [Turn],
-) -> Result<Option<u32>, Stop>
+) -> Result<Option<usize>, Stop>
     requires { entered ≤ length turns.old }
     ensures same { (source : Source) (calls : Calls) (act : Activation) (all : List InstrTree)
         (k limit : ℕ) (key : List ℕ) (w : Working)
@@ -115,9 +114,9 @@ pub(crate) fn returns(
     if n == 0 {
         return Ok(None);
     }
-    let turn = turns[n as usize - 1];
+    let turn = turns[n - 1];
     if turn.left > 0 {
-        turns[n as usize - 1] = Turn {
+        turns[n - 1] = Turn {
             at,
             left: turn.left - 1,
         };

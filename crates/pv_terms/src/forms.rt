@@ -6,12 +6,12 @@ ghost use Rattle.pv_flow.specs.View.{term_of};
 ghost use Rattle.pv_terms.specs.Forms as forms;
 ghost use Rattle.pv_terms.specs.Pushed.{IsTable, IsAt, Puts, IsLike};
 
+use crate::fault::TermFault;
 use crate::table::{push_binary, push_constant, push_not, push_unary};
 use pv_flow::{BinaryOp as Two, Node, UnaryOp as One};
 use pv_names::widens;
 use pv_tree::{BinaryOp, UnaryOp};
 use pv_word::{Ty, wrap};
-use std::alloc::AllocError;
 
 /// Whether two types are one.
 fn is_same(a: Ty, b: Ty) -> bool
@@ -21,7 +21,7 @@ fn is_same(a: Ty, b: Ty) -> bool
 }
 
 /// What is no constant, as one of another type.
-fn push_converted(nodes: &mut Vec<Node>, from: Ty, to: Ty, a: u32) -> Result<u32, AllocError>
+fn push_converted(nodes: &mut Vec<Node>, from: Ty, to: Ty, a: u32) -> Result<u32, TermFault>
     ensures { (t : terms.Term) → IsTable nodes.old.items → IsAt nodes.old.items a t
         → IfOk result (λ n. Puts nodes.old.items nodes.new.items n (forms.made_of from to t)) }
 {
@@ -52,7 +52,7 @@ fn constant_at(nodes: &[Node], n: u32) -> Option<i128>
 }
 
 /// A term as one of another type: a constant becomes another constant.
-pub fn converted(nodes: &mut Vec<Node>, from: Ty, to: Ty, a: u32) -> Result<u32, AllocError>
+pub fn converted(nodes: &mut Vec<Node>, from: Ty, to: Ty, a: u32) -> Result<u32, TermFault>
     ensures { (t : terms.Term) → IsTable nodes.old.items → IsAt nodes.old.items a t
         → IfOk result (λ n. Puts nodes.old.items nodes.new.items n (forms.converted from to t)) }
 {
@@ -63,7 +63,7 @@ pub fn converted(nodes: &mut Vec<Node>, from: Ty, to: Ty, a: u32) -> Result<u32,
 }
 
 /// The term of an operator before its operand, by the operand's type.
-pub fn push_operator(nodes: &mut Vec<Node>, op: UnaryOp, ty: Ty, a: u32) -> Result<u32, AllocError>
+pub fn push_operator(nodes: &mut Vec<Node>, op: UnaryOp, ty: Ty, a: u32) -> Result<u32, TermFault>
     ensures { (t : terms.Term) → IsTable nodes.old.items → IsAt nodes.old.items a t
         → IfOk result (λ n. Puts nodes.old.items nodes.new.items n (forms.unary_term op ty t)) }
 {
@@ -75,7 +75,7 @@ pub fn push_operator(nodes: &mut Vec<Node>, op: UnaryOp, ty: Ty, a: u32) -> Resu
 }
 
 /// Whether the first is less than the second.
-pub fn push_less(nodes: &mut Vec<Node>, a: u32, b: u32) -> Result<u32, AllocError>
+pub fn push_less(nodes: &mut Vec<Node>, a: u32, b: u32) -> Result<u32, TermFault>
     ensures { (s t : terms.Term) → IsTable nodes.old.items → IsAt nodes.old.items a s → IsAt nodes.old.items b t
         → IfOk result (λ n. Puts nodes.old.items nodes.new.items n (forms.less_term s t)) }
 {
@@ -83,7 +83,7 @@ pub fn push_less(nodes: &mut Vec<Node>, a: u32, b: u32) -> Result<u32, AllocErro
 }
 
 /// That the first isn't less than the second.
-fn push_not_less(nodes: &mut Vec<Node>, a: u32, b: u32) -> Result<u32, AllocError>
+fn push_not_less(nodes: &mut Vec<Node>, a: u32, b: u32) -> Result<u32, TermFault>
     ensures { (s t : terms.Term) → IsTable nodes.old.items → IsAt nodes.old.items a s → IsAt nodes.old.items b t
         → IfOk result (λ n. Puts nodes.old.items nodes.new.items n (forms.not_term (forms.less_term s t))) }
 {
@@ -92,7 +92,7 @@ fn push_not_less(nodes: &mut Vec<Node>, a: u32, b: u32) -> Result<u32, AllocErro
 }
 
 /// That they aren't equal.
-fn push_not_equal(nodes: &mut Vec<Node>, a: u32, b: u32) -> Result<u32, AllocError>
+fn push_not_equal(nodes: &mut Vec<Node>, a: u32, b: u32) -> Result<u32, TermFault>
     ensures { (s t : terms.Term) → IsTable nodes.old.items → IsAt nodes.old.items a s → IsAt nodes.old.items b t
         → IfOk result (λ n. Puts nodes.old.items nodes.new.items n (forms.not_term (forms.equal_term s t))) }
 {
@@ -107,7 +107,7 @@ pub fn push_between(
     ty: Ty,
     a: u32,
     b: u32,
-) -> Result<u32, AllocError>
+) -> Result<u32, TermFault>
     ensures { (s t : terms.Term) → IsTable nodes.old.items → IsAt nodes.old.items a s → IsAt nodes.old.items b t
         → IfOk result (λ n. Puts nodes.old.items nodes.new.items n (forms.binary_term op ty s t)) }
 {
@@ -130,7 +130,7 @@ pub fn push_between(
 }
 
 /// Whether an index, a DINT, is this one.
-pub fn push_is_index(nodes: &mut Vec<Node>, a: u32, v: i128) -> Result<u32, AllocError>
+pub fn push_is_index(nodes: &mut Vec<Node>, a: u32, v: i128) -> Result<u32, TermFault>
     ensures { (t : terms.Term) → IsTable nodes.old.items → IsAt nodes.old.items a t
         → IfOk result (λ n. Puts nodes.old.items nodes.new.items n (forms.is_index_term t v)) }
 {
@@ -139,7 +139,7 @@ pub fn push_is_index(nodes: &mut Vec<Node>, a: u32, v: i128) -> Result<u32, Allo
 }
 
 /// Whether an index, a DINT, lies below a bound.
-fn push_below(nodes: &mut Vec<Node>, a: u32, low: i128) -> Result<u32, AllocError>
+fn push_below(nodes: &mut Vec<Node>, a: u32, low: i128) -> Result<u32, TermFault>
     ensures { (t : terms.Term) → IsTable nodes.old.items → IsAt nodes.old.items a t
         → IfOk result (λ n. Puts nodes.old.items nodes.new.items n (forms.less_term t (terms.constant Dint low))) }
 {
@@ -148,7 +148,7 @@ fn push_below(nodes: &mut Vec<Node>, a: u32, low: i128) -> Result<u32, AllocErro
 }
 
 /// Whether an index, a DINT, lies above a bound.
-fn push_above(nodes: &mut Vec<Node>, a: u32, high: i128) -> Result<u32, AllocError>
+fn push_above(nodes: &mut Vec<Node>, a: u32, high: i128) -> Result<u32, TermFault>
     ensures { (t : terms.Term) → IsTable nodes.old.items → IsAt nodes.old.items a t
         → IfOk result (λ n. Puts nodes.old.items nodes.new.items n (forms.less_term (terms.constant Dint high) t)) }
 {
@@ -157,7 +157,7 @@ fn push_above(nodes: &mut Vec<Node>, a: u32, high: i128) -> Result<u32, AllocErr
 }
 
 /// Whether an index, a DINT, is outside the bounds.
-pub fn push_outside(nodes: &mut Vec<Node>, a: u32, low: i128, high: i128) -> Result<u32, AllocError>
+pub fn push_outside(nodes: &mut Vec<Node>, a: u32, low: i128, high: i128) -> Result<u32, TermFault>
     ensures { (t : terms.Term) → IsTable nodes.old.items → IsAt nodes.old.items a t
         → IfOk result (λ n. Puts nodes.old.items nodes.new.items n (forms.outside_term t low high)) }
 {

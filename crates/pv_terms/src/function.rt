@@ -6,12 +6,12 @@ ghost use Rattle.pv_terms.specs.Forms as forms;
 ghost use Rattle.pv_terms.specs.Given.{AreGiven};
 ghost use Rattle.pv_terms.specs.Pushed.{IsTable, IsAt, Puts};
 
+use crate::fault::TermFault;
 use crate::forms::{converted, push_less};
 use crate::table::{push_constant, push_select, push_unary};
 use pv_flow::{Node, UnaryOp as One};
 use pv_tree::StdFunction;
 use pv_word::Ty;
-use std::alloc::AllocError;
 
 /// An argument: its type, and the number of its term.
 #[derive(Clone, Copy)]
@@ -21,7 +21,7 @@ pub struct Given {
 }
 
 /// The argument of this number as one of a type; a missing one is 0.
-fn argument_at(nodes: &mut Vec<Node>, args: &[Given], k: usize, ty: Ty) -> Result<u32, AllocError>
+fn argument_at(nodes: &mut Vec<Node>, args: &[Given], k: usize, ty: Ty) -> Result<u32, TermFault>
     ensures { (ts : List forms.Typed) → IsTable nodes.old.items → AreGiven nodes.old.items args.now ts
         → IfOk result (λ n. Puts nodes.old.items nodes.new.items n (forms.argument_term k ty ts)) }
 {
@@ -32,7 +32,7 @@ fn argument_at(nodes: &mut Vec<Node>, args: &[Given], k: usize, ty: Ty) -> Resul
 }
 
 /// The lesser of two terms.
-fn push_lesser(nodes: &mut Vec<Node>, ty: Ty, a: u32, b: u32) -> Result<u32, AllocError>
+fn push_lesser(nodes: &mut Vec<Node>, ty: Ty, a: u32, b: u32) -> Result<u32, TermFault>
     ensures { (s t : terms.Term) → IsTable nodes.old.items → IsAt nodes.old.items a s → IsAt nodes.old.items b t
         → IfOk result (λ n. Puts nodes.old.items nodes.new.items n (forms.lesser_term ty s t)) }
 {
@@ -41,7 +41,7 @@ fn push_lesser(nodes: &mut Vec<Node>, ty: Ty, a: u32, b: u32) -> Result<u32, All
 }
 
 /// The greater of two terms.
-fn push_greater(nodes: &mut Vec<Node>, ty: Ty, a: u32, b: u32) -> Result<u32, AllocError>
+fn push_greater(nodes: &mut Vec<Node>, ty: Ty, a: u32, b: u32) -> Result<u32, TermFault>
     ensures { (s t : terms.Term) → IsTable nodes.old.items → IsAt nodes.old.items a s → IsAt nodes.old.items b t
         → IfOk result (λ n. Puts nodes.old.items nodes.new.items n (forms.greater_term ty s t)) }
 {
@@ -50,7 +50,7 @@ fn push_greater(nodes: &mut Vec<Node>, ty: Ty, a: u32, b: u32) -> Result<u32, Al
 }
 
 /// Whether a term is negative.
-fn push_negative(nodes: &mut Vec<Node>, ty: Ty, a: u32) -> Result<u32, AllocError>
+fn push_negative(nodes: &mut Vec<Node>, ty: Ty, a: u32) -> Result<u32, TermFault>
     ensures { (t : terms.Term) → IsTable nodes.old.items → IsAt nodes.old.items a t
         → IfOk result (λ n. Puts nodes.old.items nodes.new.items n (forms.less_term t (terms.constant ty (pos 0)))) }
 {
@@ -59,7 +59,7 @@ fn push_negative(nodes: &mut Vec<Node>, ty: Ty, a: u32) -> Result<u32, AllocErro
 }
 
 /// The term without its sign.
-fn push_magnitude(nodes: &mut Vec<Node>, ty: Ty, a: u32) -> Result<u32, AllocError>
+fn push_magnitude(nodes: &mut Vec<Node>, ty: Ty, a: u32) -> Result<u32, TermFault>
     ensures { (t : terms.Term) → IsTable nodes.old.items → IsAt nodes.old.items a t
         → IfOk result (λ n. Puts nodes.old.items nodes.new.items n (forms.magnitude_term ty t)) }
 {
@@ -74,7 +74,7 @@ fn push_conversion(
     args: &[Given],
     from: Ty,
     to: Ty,
-) -> Result<u32, AllocError>
+) -> Result<u32, TermFault>
     ensures { (ts : List forms.Typed) → IsTable nodes.old.items → AreGiven nodes.old.items args.now ts
         → IfOk result (λ n. Puts nodes.old.items nodes.new.items n (forms.converted from to (forms.argument_term 0 from ts))) }
 {
@@ -83,7 +83,7 @@ fn push_conversion(
 }
 
 /// ABS.
-fn push_abs(nodes: &mut Vec<Node>, args: &[Given], ty: Ty) -> Result<u32, AllocError>
+fn push_abs(nodes: &mut Vec<Node>, args: &[Given], ty: Ty) -> Result<u32, TermFault>
     ensures { (ts : List forms.Typed) → IsTable nodes.old.items → AreGiven nodes.old.items args.now ts
         → IfOk result (λ n. Puts nodes.old.items nodes.new.items n (forms.magnitude_term ty (forms.argument_term 0 ty ts))) }
 {
@@ -92,7 +92,7 @@ fn push_abs(nodes: &mut Vec<Node>, args: &[Given], ty: Ty) -> Result<u32, AllocE
 }
 
 /// MIN.
-fn push_min(nodes: &mut Vec<Node>, args: &[Given], ty: Ty) -> Result<u32, AllocError>
+fn push_min(nodes: &mut Vec<Node>, args: &[Given], ty: Ty) -> Result<u32, TermFault>
     ensures { (ts : List forms.Typed) → IsTable nodes.old.items → AreGiven nodes.old.items args.now ts
         → IfOk result (λ n. Puts nodes.old.items nodes.new.items n (forms.lesser_term ty (forms.argument_term 0 ty ts) (forms.argument_term 1 ty ts))) }
 {
@@ -102,7 +102,7 @@ fn push_min(nodes: &mut Vec<Node>, args: &[Given], ty: Ty) -> Result<u32, AllocE
 }
 
 /// MAX.
-fn push_max(nodes: &mut Vec<Node>, args: &[Given], ty: Ty) -> Result<u32, AllocError>
+fn push_max(nodes: &mut Vec<Node>, args: &[Given], ty: Ty) -> Result<u32, TermFault>
     ensures { (ts : List forms.Typed) → IsTable nodes.old.items → AreGiven nodes.old.items args.now ts
         → IfOk result (λ n. Puts nodes.old.items nodes.new.items n (forms.greater_term ty (forms.argument_term 0 ty ts) (forms.argument_term 1 ty ts))) }
 {
@@ -112,7 +112,7 @@ fn push_max(nodes: &mut Vec<Node>, args: &[Given], ty: Ty) -> Result<u32, AllocE
 }
 
 /// LIMIT: the lesser of its third argument and of the greater of the others.
-fn push_limit(nodes: &mut Vec<Node>, args: &[Given], ty: Ty) -> Result<u32, AllocError>
+fn push_limit(nodes: &mut Vec<Node>, args: &[Given], ty: Ty) -> Result<u32, TermFault>
     ensures { (ts : List forms.Typed) → IsTable nodes.old.items → AreGiven nodes.old.items args.now ts
         → IfOk result (λ n. Puts nodes.old.items nodes.new.items n (forms.lesser_term ty (forms.argument_term 2 ty ts)
         (forms.greater_term ty (forms.argument_term 0 ty ts) (forms.argument_term 1 ty ts)))) }
@@ -123,7 +123,7 @@ fn push_limit(nodes: &mut Vec<Node>, args: &[Given], ty: Ty) -> Result<u32, Allo
 }
 
 /// SEL: the third argument where the first is true, else the second.
-fn push_sel(nodes: &mut Vec<Node>, args: &[Given], ty: Ty) -> Result<u32, AllocError>
+fn push_sel(nodes: &mut Vec<Node>, args: &[Given], ty: Ty) -> Result<u32, TermFault>
     ensures { (ts : List forms.Typed) → IsTable nodes.old.items → AreGiven nodes.old.items args.now ts
         → IfOk result (λ n. Puts nodes.old.items nodes.new.items n (terms.select ty (forms.argument_term 0 Bool ts) (forms.argument_term 2 ty ts) (forms.argument_term 1 ty ts))) }
 {
@@ -134,7 +134,7 @@ fn push_sel(nodes: &mut Vec<Node>, args: &[Given], ty: Ty) -> Result<u32, AllocE
 }
 
 /// A shift.
-fn push_shift(nodes: &mut Vec<Node>, args: &[Given], op: One, ty: Ty) -> Result<u32, AllocError>
+fn push_shift(nodes: &mut Vec<Node>, args: &[Given], op: One, ty: Ty) -> Result<u32, TermFault>
     ensures { (ts : List forms.Typed) → IsTable nodes.old.items → AreGiven nodes.old.items args.now ts
         → IfOk result (λ n. Puts nodes.old.items nodes.new.items n (terms.unary op ty (forms.argument_term 0 ty ts))) }
 {
@@ -149,7 +149,7 @@ pub fn push_function(
     ty: Ty,
     count: u32,
     args: &[Given],
-) -> Result<u32, AllocError>
+) -> Result<u32, TermFault>
     ensures { (ts : List forms.Typed) → IsTable nodes.old.items → AreGiven nodes.old.items args.now ts
         → IfOk result (λ n. Puts nodes.old.items nodes.new.items n (forms.function_term function ty count ts)) }
 {

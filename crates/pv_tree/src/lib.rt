@@ -14,6 +14,7 @@ mod kept;
 mod laws;
 mod making;
 mod named_operand;
+mod range;
 mod rule_laws;
 mod stmt;
 
@@ -27,6 +28,7 @@ pub use laws::{
 };
 pub use making::project;
 pub use named_operand::operand_of_instruction;
+pub use range::ChoiceRange;
 pub use rule_laws::{
     calls_run_blocks, chains_of_calls_end, expressions_have_types, least_fault_is_one,
     literal_indexes_lie_in_bounds, named_types_are_grounded, parts_of_typed_expressions_have_types,

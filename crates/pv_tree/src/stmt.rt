@@ -1,6 +1,7 @@
 //! Statements and calls.
 
 use crate::expr::{Expr, Operand};
+use crate::range::ChoiceRange;
 use pv_place::Place;
 use pv_types::{Literal, Name};
 
@@ -26,11 +27,11 @@ pub enum Stmt {
         other: Option<Box<Vec<Stmt>>>,
         place: Place,
     },
-    /// CASE: its branches with their values, each alone or as the lower end of a range, the
-    /// statements behind ELSE where it stands, and the place of CASE.
+    /// CASE: its branches with their values, the statements behind ELSE where it stands, and the
+    /// place of CASE.
     Case {
         selector: Box<Expr>,
-        branches: Vec<(Vec<(Choice, Option<Choice>)>, Vec<Stmt>)>,
+        branches: Vec<(Vec<ChoiceRange>, Vec<Stmt>)>,
         other: Option<Box<Vec<Stmt>>>,
         place: Place,
     },

@@ -62,10 +62,13 @@ pub enum Section {
 /// A literal: its type where it has one of its own, its value, and its first token's place.
 #[derive(Clone, Copy, PartialEq, Eq, Debug)]
 pub struct Literal {
-    pub ty: Option<Ty>,
     pub value: i128,
+    pub ty: Option<Ty>,
     pub place: Place,
 }
+
+// A literal's bytes.
+const _: () = prove!(size_of::<Literal>() <= 32);
 
 /// The variables of a block in the order of their declarations, and the type of the value that a
 /// function has.

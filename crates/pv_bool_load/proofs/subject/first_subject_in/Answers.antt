@@ -6,7 +6,7 @@ use Rattle.pv_command_load.specs.declared.subject.SubjectStop.TheVariants as sto
 use Rattle.pv_command_load.proofs.ForCallers.{passed, are_read, none_unread, code_count, code_short, is_case, held_texts, given_by, are_given, reads_kept, reads_project, reads_table, has_source}
 use Rattle.pv_bool_load.specs.declared.stop.FirstStop.TheVariants.{Subject as At_subject}
 use Rattle.pv_bool_load.specs.Stops.{first_stop_status, first_stop_unread, StopsFirst}
-use Rattle.pv_bool_load.proofs.Working.{no_symbols, few_sources, stays, first_other, passed_counts, stops_source, are_first}
+use Rattle.pv_bool_load.proofs.Working.{no_symbols, few_sources, few_alone, stays, first_other, passed_counts, stops_source, are_first}
 use Rattle.pv_bool_load.proofs.Stages.{stops_table, stops_fit, table_unread, fit_unread}
 use Rattle.pv_bool_load.proofs.Joining.{joined_found, joined_stopped, joined_counted, joined_named, reads_all, data_by, is_subject}
 use Rattle.pv_bool_load.proofs.subject.first_subject_in.Goals as goal
@@ -53,9 +53,18 @@ returns-in_err-project-clause-counted g c =
     passed_counts c.from_residual-in_err-project.result stop _ _ _ c.from_residual-in_err-project.ensures.1
     (stays (first_stop_status stop) _ _ c.in_err-project.ensures.unread (c.in_ok-sources.ensures.counted ∙ c.in_ok-case.ensures.counted))
 
-pub table_of-requires : goal.table_of-requires
-table_of-requires g c =
+pub table_of-requires-clause-short : goal.table_of-requires-clause-short
+table_of-requires-clause-short g c =
     let said = data_of c.in_ok-case.case in code_short said _ (held_texts _ _ said c.in_ok-case.ensures.found.0) refl
+
+pub table_of-requires-clause-few : goal.table_of-requires-clause-few
+table_of-requires-clause-few g c =
+    let case = c.in_ok-case.case in
+    let found = c.in_ok-case.ensures.found in
+    let has = c.in_ok-sources.ensures.found in
+    let given = given_by (data_of case) has.read in
+    let are = are_given _ case c.in_ok-sources.sources c.as_slice.result.now [] c.as_slice.ensures.value (no_symbols case found.1) has in
+    few_alone given c.in_ok-project.project (c.in_ok-project.ensures.found given refl found.1 are)
 
 pub returns-in_err-entry-clause-stopped : goal.returns-in_err-entry-clause-stopped
 returns-in_err-entry-clause-stopped g c =

@@ -10,5 +10,5 @@ returns-in_default-clause-none c = λ same n.
 pub returns-clause-none : goal.returns-clause-none
 returns-clause-none c = λ same n.
     no_block (map block_tree c.args.blocks.now.list.items) (map block_tree c.as_slice.result.now) c.args.text.now c.in_ok-name.field-0
-    c.in-Some.name c.in_ok-n.field-0 n (ap (map block_tree) c.as_slice.ensures.value) c.in-Some.is c.in_ok-name.ensures.found
-    c.in_ok-n.ensures c.in-None.is
+    c.in-Some.name c.number_of.result n (ap (map block_tree) c.as_slice.ensures.value) c.in-Some.is c.in_ok-name.ensures.found
+    c.number_of.ensures c.in-None.is

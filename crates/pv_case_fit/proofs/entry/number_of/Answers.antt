@@ -1,4 +1,4 @@
-use Rattle.std.proofs.Common.{◌≡◌, ◌+◌, ◌<◌, suc, length, map, drop, sym, ap, ◌∙◌, arith, add-one}
+use Rattle.std.proofs.Common.{◌≡◌, ◌+◌, suc, map, drop, sym, ap, ◌∙◌, add-one, arith}
 use Rattle.std.specs.List.{position_from}
 use Rattle.pv_tree.specs.View.{block_tree}
 use Rattle.pv_case_fit.specs.Entries.{may_enter}
@@ -7,19 +7,16 @@ use Rattle.pv_case_fit.proofs.entry.number_of.Goals as goal
 
 pub returns-then-may_enter : goal.returns-then-may_enter
 returns-then-may_enter c =
-    let h : c.loop-block.block-index < length c.args.blocks.now = omega arith in
-    sym (c.loop-block.invariant ∙ place_here (may_enter c.args.name.now.key) block_tree c.args.blocks.now c.loop-block.block-index
-    c.loop-block.n c.block-item.result h c.block-item.is (sym c.may_enter.ensures ∙ c.if-may_enter.true))
+    sym (c.loop-n.invariant ∙ place_here (may_enter c.args.name.now.key) block_tree c.args.blocks.now c.loop-n.n
+    c.loop-n.n c.index-blocks-n.result c.loop-n-test.true c.index-blocks-n.is (sym c.may_enter.ensures ∙ c.if-may_enter.true))
 
-pub loop-block-preserved : goal.loop-block-preserved
-loop-block-preserved c =
-    let h : c.loop-block.block-index < length c.args.blocks.now = omega arith in
-    let more : c.loop-block.n + 1 ≡ c.in-Some.next = omega (arith, c.in-Some.ensures.1) in
-    rw add-one (c.loop-block.invariant ∙ place_later (may_enter c.args.name.now.key) block_tree c.args.blocks.now c.loop-block.block-index
-    c.loop-block.n c.block-item.result h c.block-item.is (sym c.may_enter.ensures ∙ c.if-may_enter.false)
-    ∙ ap (λ m. position_from (may_enter c.args.name.now.key) m (map block_tree (drop (suc c.loop-block.block-index) c.args.blocks.now))) more)
+pub loop-n-preserved : goal.loop-n-preserved
+loop-n-preserved c =
+    let more : c.loop-n.n + 1 ≡ suc c.loop-n.n = omega arith in
+    rw add-one (c.loop-n.invariant ∙ place_later (may_enter c.args.name.now.key) block_tree c.args.blocks.now c.loop-n.n
+    c.loop-n.n c.index-blocks-n.result c.loop-n-test.true c.index-blocks-n.is (sym c.may_enter.ensures ∙ c.if-may_enter.false)
+    ∙ ap (λ m. position_from (may_enter c.args.name.now.key) m (map block_tree (drop (suc c.loop-n.n) c.args.blocks.now))) more)
 
 pub returns : goal.returns
 returns c =
-    sym (c.loop-block.invariant ∙ place_none (may_enter c.args.name.now.key) block_tree c.args.blocks.now c.loop-block.block-index
-    c.loop-block.n (omega arith))
+    sym (c.loop-n.invariant ∙ place_none (may_enter c.args.name.now.key) block_tree c.args.blocks.now c.loop-n.n c.loop-n.n (omega arith))

@@ -7,6 +7,7 @@ use Rattle.pv_command_load.specs.Stops.{StopsSubject, subject_unread}
 use Rattle.pv_command_load.proofs.Exits.{passed}
 use Rattle.pv_command_load.proofs.CaseTexts.{code_count, code_short}
 use Rattle.pv_command_load.proofs.SubjectLaws.{is_case, held_texts, given_by, are_given, reads_kept, reads_project, reads_table, reads_all, data_by, is_subject}
+use Rattle.pv_command_load.proofs.FewBlocks.{few_blocks}
 use Rattle.pv_command_load.proofs.Sourced.{has_source}
 use Rattle.pv_command_load.proofs.Unread.{none_unread}
 use Rattle.pv_command_load.proofs.Located.{are_read}
@@ -26,11 +27,20 @@ returns-in_err-project-clause-stopped g c =
     passed (StopsSubject told file) c.from_residual-in_err-project.result (stop_at.Project c.in_err-project.field-0.0)
     c.from_residual-in_err-project.ensures.1 (given, reads, c.in_err-project.ensures.stopped given are)
 
-pub table_of-requires : goal.table_of-requires
-table_of-requires g c =
+pub table_of-requires-clause-short : goal.table_of-requires-clause-short
+table_of-requires-clause-short g c =
     let case = c.in_ok-case.case in
     code_short (data_of case) _ (held_texts _ _ (data_of case) c.in_ok-case.ensures.found)
     (c.take_symbols-symbols.ensures.rest (data_of case) (is_case case)).expressions
+
+pub table_of-requires-clause-few : goal.table_of-requires-clause-few
+table_of-requires-clause-few g c =
+    let case = c.in_ok-case.case in
+    let has = c.in_ok-sources.ensures.found in
+    let given = given_by (data_of case) has.read in
+    let are = are_given _ case c.in_ok-sources.sources c.as_slice.result.now c.take_symbols-symbols.result.items c.as_slice.ensures.value
+    c.take_symbols-symbols.ensures.symbols has in
+    few_blocks _ case has.read c.in_ok-project.project c.in_ok-case.ensures.few has.held (c.in_ok-project.ensures.found given are)
 
 pub returns-in_err-entry-clause-stopped : goal.returns-in_err-entry-clause-stopped
 returns-in_err-entry-clause-stopped g c =

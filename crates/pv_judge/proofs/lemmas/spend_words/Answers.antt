@@ -57,3 +57,6 @@ returns c =
     let same = ap (λ (o : Option ℕ). is_same o c.args.need) (sym sum) ∙ (sym c.is_same.ensures ∙ c.if-not-is_same.false) in
     finds-as (need_fault c.args.limit c.args.need next f c.args.at log) (placed (c.args.at + 1) w) c.placed-2.result
     (spend-next f log c.args.at c.args.limit c.args.need next w out told same) c.placed-2.ensures
+
+pub returns-in_default : goal.returns-in_default
+returns-in_default c = c.spend_full.ensures c.args.limit c.args.need c.args.next.now

@@ -1,12 +1,12 @@
 use Rattle.std.proofs.Common.{ℕ, List}
-use Rattle.pv_ll.specs.Table.{front}
-use Rattle.pv_ll.specs.Reading.{stack_of, Stands}
+use Rattle.pv_ll.specs.Reading.{places_of, Stands}
+use Rattle.pv_ll.proofs.Stack.{load}
 use Rattle.pv_ll.proofs.machine.expand.Given as goal
 
-abbrev pub decreases-loop-symbol : goal.decreases-loop-symbol
-decreases-loop-symbol l = front l.language (stack_of l.stack)
+abbrev pub decreases-loop-place : goal.decreases-loop-place
+decreases-loop-place l = load l.language (places_of l.places)
 
-abbrev pub invariant-loop-symbol : goal.invariant-loop-symbol
-invariant-loop-symbol l =
-    (read : List ℕ) → Stands l.language l.initial.trace.items read l.token (stack_of l.initial.stack)
-    → Stands l.language l.trace.items read l.token (stack_of l.stack)
+abbrev pub invariant-loop-place : goal.invariant-loop-place
+invariant-loop-place l =
+    (read : List ℕ) → Stands l.language l.acts l.initial.turns.items read l.token (places_of l.initial.places)
+    → Stands l.language l.acts l.turns.items read l.token (places_of l.places)

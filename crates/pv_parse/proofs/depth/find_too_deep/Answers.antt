@@ -1,38 +1,23 @@
-use Rattle.std.proofs.Common.{false, Err, ap, ◌∙◌, List}
-use Rattle.pv_parse.specs.declared.stack.Stop.{Stop}
+use Rattle.std.proofs.Common.{◌≡◌, ◌≤◌, ℕ, Err, map, ap, ◌∙◌, sym, subst}
 use Rattle.std.proofs.lemmas.Result.{err_from_is_err_and}
 use Rattle.pv_tree.specs.Lexemes.{lexemes_of}
 use Rattle.pv_tree.specs.Nesting.{most_levels}
-use Rattle.pv_parse.specs.Kinds.{kinds_of}
-use Rattle.pv_parse.specs.Shades.{Shade, shade_of_token, shades_of, place_at}
-use Rattle.pv_parse.specs.ItemShades.{shade_making, shade_by}
-use Rattle.pv_parse.proofs.Taking.{answered, goes_on, begins, ends}
+use Rattle.pv_parse.specs.declared.stack.Stop.{Stop}
+use Rattle.pv_parse.specs.Shades.{place_at}
+use Rattle.pv_parse.specs.Levels.{levels_of, level_at}
+use Rattle.pv_parse.proofs.LevelLaws.{makes_levels, shallow}
+use Rattle.pv_parse.proofs.Taking.{stopped}
 use Rattle.pv_parse.proofs.depth.find_too_deep.Goals as goal
 
-pub returns-in_err-rest : goal.returns-in_err-rest
-returns-in_err-rest c = λ behind leftmost runs.
-    let start = begins c.args.language.now shade_of_token (shade_by c.args.actions.now) c.in_ok-walk.walk c.args.trace.now
-    (lexemes_of c.args.text.now c.args.tokens.now) behind c.requires
-    (c.in_ok-walk.ensures (kinds_of false (lexemes_of c.args.text.now c.args.tokens.now)) leftmost) runs in
-    let here = c.steps.invariant behind start in
-    let p = err_from_is_err_and c.from_residual-in_err-rest.result c.from_residual-in_err-rest.ensures.1 in
-    answered _ (place_at most_levels behind) (shade_making c.args.actions.now) c.steps.walk c.step.new.self c.in_ok-step.field-0 c.in-Some.step
-    (lexemes_of c.args.text.now c.steps.rest.now) (shades_of c.steps.stack) behind here.0 c.in_err-rest.field-0.0 c.from_residual-in_err-rest.result
-    c.in-Some.is (p.1 ∙ ap (λ (z : Stop). Err z) p.2) c.in_ok-step.ensures.next here.1 (c.in_err-rest.ensures c.args.text.now)
+pub returns-in_err-levels : goal.returns-in_err-levels
+returns-in_err-levels c = λ text behind h.
+    let p = err_from_is_err_and c.from_residual.result c.from_residual.ensures.1 in
+    stopped _ (place_at most_levels behind) c.in_err-levels.field-0.0 c.from_residual.result (p.1 ∙ ap (λ (z : Stop). Err z) p.2)
+    (c.in_err-levels.ensures (map levels_of behind)
+    (makes_levels c.args.actions.now c.args.turns.now (lexemes_of text c.args.tokens.now) behind h))
 
-pub steps-preserved : goal.steps-preserved
-steps-preserved c = λ behind start.
-    let here = c.steps.invariant behind start in
-    goes_on (shade_making c.args.actions.now) c.steps.walk c.step.new.self c.in_ok-step.field-0 c.in-Some.step
-    (lexemes_of c.args.text.now c.steps.rest.now) (lexemes_of c.args.text.now c.in_ok-rest.rest.now) (shades_of c.steps.stack)
-    (shades_of c.take.new.stack) behind here.0 c.in-Some.is c.in_ok-step.ensures.next here.1 (c.in_ok-rest.ensures c.args.text.now)
-
-pub returns : goal.returns
-returns c = λ behind leftmost runs.
-    let start = begins c.args.language.now shade_of_token (shade_by c.args.actions.now) c.in_ok-walk.walk c.args.trace.now
-    (lexemes_of c.args.text.now c.args.tokens.now) behind c.requires
-    (c.in_ok-walk.ensures (kinds_of false (lexemes_of c.args.text.now c.args.tokens.now)) leftmost) runs in
-    let here = c.steps.invariant behind start in
-    c.too_deep.ensures ∙ ap (λ (s : List Shade). place_at most_levels s)
-    (ends (shade_making c.args.actions.now) c.steps.walk c.step.new.self c.in_ok-step.field-0 (lexemes_of c.args.text.now c.steps.rest.now)
-    (shades_of c.steps.stack) behind here.0 c.in_default.is c.in_ok-step.ensures.next here.1)
+pub returns-then-levels-le-MOST_LEVELS : goal.returns-then-levels-le-MOST_LEVELS
+returns-then-levels-le-MOST_LEVELS c = λ text behind h.
+    let same : c.in_ok-levels.levels ≡ level_at (map levels_of behind) =
+    c.in_ok-levels.ensures (map levels_of behind) (makes_levels c.args.actions.now c.args.turns.now (lexemes_of text c.args.tokens.now) behind h) in
+    sym (shallow behind (subst (λ (z : ℕ). z ≤ most_levels) same c.if-levels-le-MOST_LEVELS.true))

@@ -1,16 +1,12 @@
-use Rattle.std.proofs.Common.{Bool, false, []}
+use Rattle.std.proofs.Common.{[], drop}
 use Rattle.pv_tree.specs.Lexemes.{lexemes_of}
-use Rattle.pv_ll.specs.Making.{IsLeft}
-use Rattle.pv_ll.specs.Walk.{work_left}
 use Rattle.pv_parse.specs.Items.{Stack, stack_of}
-use Rattle.pv_parse.specs.Deeds.{making, kinded}
+use Rattle.pv_parse.specs.Deeds.{making}
+use Rattle.pv_parse.specs.Building.{Plays}
 use Rattle.pv_parse_source.proofs.builder.build.Given as goal
 
--- what is left of the walk makes of what is left what the whole walk makes of the whole
-abbrev pub invariant-steps : goal.invariant-steps
-invariant-steps l =
-    (behind : Stack) → IsLeft (making l.actions) l.initial.walk (kinded false (lexemes_of l.text l.tokens)) [] behind
-    → (marked : Bool) × IsLeft (making l.actions) l.walk (kinded marked (lexemes_of l.text l.rest)) (stack_of l.stack) behind
-
-abbrev pub decreases-steps : goal.decreases-steps
-decreases-steps l = work_left l.walk
+-- the turns that are left make of what is left what all of them make of the whole
+abbrev pub invariant-loop-turn : goal.invariant-loop-turn
+invariant-loop-turn l =
+    (behind : Stack) → Plays (making l.actions) l.turns (lexemes_of l.text l.fn.tokens) [] behind
+    → Plays (making l.actions) (drop l.turn-index l.turns) (lexemes_of l.text l.rest) (stack_of l.stack) behind

@@ -1,4 +1,4 @@
-use Rattle.std.proofs.Common.{arith, sym, subst}
+use Rattle.std.proofs.Common.{sym, subst}
 use Rattle.std.proofs.lemmas.Bool.{false≢true}
 use Rattle.pv_resolve.specs.Contexts.{block_in}
 use Rattle.pv_tree.specs.Tree.{BlockTree}
@@ -15,7 +15,7 @@ returns c = record {
   grows = extends-then _ _ _ c.in_ok-body.ensures.grows c.widen.ensures.grows;
   is = λ source is.
       code-made (block_in c.args.context.now) (block_tree c.block-block.result.now) _ c.widen.ensures.grows c.block-block.ensures
-      (c.in_ok-value.ensures.is source is) (c.brief_count-brief.ensures source) c.widen.ensures.room (omega arith)
+      (c.in_ok-value.ensures.is source is) (c.brief_count-brief.ensures source) c.widen.ensures.room (c.in_ok-body.ensures.within source is)
       (c.in_ok-body.ensures.runs source is);
   room = λ source is h fits. tt;
   led = λ source is fits before. led_same c.widen.ensures.calls (c.in_ok-body.ensures.led source is

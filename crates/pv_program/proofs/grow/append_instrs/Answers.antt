@@ -1,6 +1,5 @@
 use Rattle.std.proofs.Common.{refl, arith, length-append, ap, length}
 use Rattle.pv_program.proofs.Growing.{part-behind, with-instrs}
-use Rattle.pv_resolve.proofs.ForCallers.{failed}
 use Rattle.pv_program.proofs.grow.append_instrs.Goals as goal
 
 pub returns : goal.returns
@@ -19,6 +18,3 @@ returns c = record {
   memory = tt;
   calls = refl;
 }
-
-pub returns-in_err-span-clause-memory : goal.returns-in_err-span-clause-memory
-returns-in_err-span-clause-memory c = failed _ _ c.from_residual.ensures.1 c.in_err-span.ensures.memory

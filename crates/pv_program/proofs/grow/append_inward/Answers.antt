@@ -1,6 +1,5 @@
 use Rattle.std.proofs.Common.{refl}
 use Rattle.pv_program.proofs.Growing.{keeps-more, with-inward}
-use Rattle.pv_resolve.proofs.ForCallers.{failed}
 use Rattle.pv_program.proofs.grow.append_inward.Goals as goal
 
 pub returns : goal.returns
@@ -11,6 +10,3 @@ returns c = record {
   memory = tt;
   calls = refl;
 }
-
-pub returns-in_err-span-clause-memory : goal.returns-in_err-span-clause-memory
-returns-in_err-span-clause-memory c = failed _ _ c.from_residual.ensures.1 c.in_err-span.ensures.memory

@@ -1,6 +1,5 @@
 use Rattle.std.proofs.Common.{◌≡◌, [], ◌∷◌, ◌++◌, arith}
 use Rattle.pv_program.proofs.Growing.{keeps-more, last-stands, with-calls}
-use Rattle.pv_resolve.proofs.ForCallers.{failed}
 use Rattle.pv_program.proofs.grow.push_call.Goals as goal
 
 pub returns : goal.returns
@@ -9,10 +8,7 @@ returns c =
     record {
       grows = with-calls c.args.program.now c.push.new.self
           (keeps-more c.args.program.now.calls.items c.push.new.self.items (c.args.call ∷ []) grown);
-      at = last-stands c.args.program.now.calls.items c.push.new.self.items c.args.call c.in_ok-n.n (omega (arith, c.in_ok-n.ensures.value)) grown;
+      at = last-stands c.args.program.now.calls.items c.push.new.self.items c.args.call c.len-n.result (omega arith) grown;
       pushed = grown;
       memory = tt;
     }
-
-pub returns-in_err-n-clause-memory : goal.returns-in_err-n-clause-memory
-returns-in_err-n-clause-memory c = failed _ _ c.from_residual.ensures.1 c.in_err-n.ensures.memory

@@ -1,6 +1,5 @@
 use Rattle.std.proofs.Common.{◌≡◌, [], ◌∷◌, ◌++◌, arith}
 use Rattle.pv_program.proofs.Growing.{extends-then, keeps-more, last-stands, with-targets}
-use Rattle.pv_resolve.proofs.ForCallers.{failed}
 use Rattle.pv_program.proofs.grow.push_target.Goals as goal
 
 pub returns : goal.returns
@@ -10,11 +9,8 @@ returns c =
     record {
       grows = extends-then c.args.program.now wide _ c.make_room.ensures.grows
           (with-targets wide c.push.new.self (keeps-more wide.targets.items c.push.new.self.items (c.args.target ∷ []) grown));
-      at = last-stands wide.targets.items c.push.new.self.items c.args.target c.in_ok-n.n (omega (arith, c.in_ok-n.ensures.value)) grown;
+      at = last-stands wide.targets.items c.push.new.self.items c.args.target c.len-n.result (omega arith) grown;
       fits = omega arith;
       memory = tt;
       calls = c.make_room.ensures.calls;
     }
-
-pub returns-in_err-n-clause-memory : goal.returns-in_err-n-clause-memory
-returns-in_err-n-clause-memory c = failed _ _ c.from_residual.ensures.1 c.in_err-n.ensures.memory

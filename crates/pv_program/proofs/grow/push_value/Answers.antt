@@ -1,6 +1,5 @@
 use Rattle.std.proofs.Common.{◌≡◌, [], ◌∷◌, ◌++◌, arith}
 use Rattle.pv_program.proofs.Growing.{extends-then, keeps-more, last-stands, with-values}
-use Rattle.pv_resolve.proofs.ForCallers.{failed}
 use Rattle.pv_program.proofs.grow.push_value.Goals as goal
 
 pub returns : goal.returns
@@ -10,11 +9,8 @@ returns c =
     record {
       grows = extends-then c.args.program.now wide _ c.make_room.ensures.grows
           (with-values wide c.push.new.self (keeps-more wide.values.items c.push.new.self.items (c.args.value ∷ []) grown));
-      at = last-stands wide.values.items c.push.new.self.items c.args.value c.in_ok-n.n (omega (arith, c.in_ok-n.ensures.value)) grown;
+      at = last-stands wide.values.items c.push.new.self.items c.args.value c.len-n.result (omega arith) grown;
       fits = omega arith;
       memory = tt;
       calls = c.make_room.ensures.calls;
     }
-
-pub returns-in_err-n-clause-memory : goal.returns-in_err-n-clause-memory
-returns-in_err-n-clause-memory c = failed _ _ c.from_residual.ensures.1 c.in_err-n.ensures.memory

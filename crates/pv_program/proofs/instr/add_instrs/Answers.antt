@@ -26,7 +26,7 @@ loop-k-preserved c = record {
   nested = c.in_ok-depth.ensures.nested c.loop-k.invariant.nested;
   are = λ source is.
       c.in_ok-depth.ensures.are source (map instr_tree c.args.instrs.now) is c.in_ok-labels.ensures.at c.in_ok-labels.ensures.last
-      (omega (arith, c.in_ok-see_count.ensures.few, length-map c.args.instrs.now instr_tree))
+      (omega (arith, length-map c.args.instrs.now instr_tree))
       (tree-at instr_tree c.args.instrs.now c.loop-k.k c.index-instrs-k.result c.loop-k-test.true c.index-instrs-k.is)
       (sym c.loop-k.invariant.long) c.loop-k.invariant.nested (c.loop-k.invariant.are source is);
   depth = λ source ready.
@@ -48,7 +48,6 @@ returns c =
           body-made (map instr_tree c.args.instrs.now) c.loop-k.made.items c.as_slice-list.result.now c.in_ok-span.span behind
           c.as_slice-list.ensures.value c.in_ok-span.ensures.are c.in_ok-span.ensures.ordered c.in_ok-span.ensures.within
           (omega (arith, c.loop-k.invariant.long, length-map c.args.instrs.now instr_tree))
-          (omega (arith, c.in_ok-see_count.ensures.few, length-map c.args.instrs.now instr_tree))
           (omega (
             arith,
             c.count_ranges.ensures,
@@ -62,12 +61,9 @@ returns c =
           led_same (c.in_ok-span.ensures.calls ∙ c.make_ranges.ensures.calls) (c.loop-k.invariant.led source is ready before);
     }
 
-pub returns-in_err-see_count-clause-room : goal.returns-in_err-see_count-clause-room
-returns-in_err-see_count-clause-room c = λ source is h ready. failed _ _ c.from_residual.ensures.1 c.in_err-see_count.ensures.memory
-
 pub returns-in_err-labels-clause-room : goal.returns-in_err-labels-clause-room
 returns-in_err-labels-clause-room c = λ source is h ready.
-    failed _ _ c.from_residual-in_err-labels.ensures.1 (c.in_err-labels.ensures.room ready.labels)
+    failed _ _ c.from_residual.ensures.1 (c.in_err-labels.ensures.room ready.labels)
 
 pub returns-in_err-depth-clause-room : goal.returns-in_err-depth-clause-room
 returns-in_err-depth-clause-room c = λ source is h ready.

@@ -1,7 +1,7 @@
-use Rattle.std.proofs.Common.{refl, ap, sym, ◌∙◌, subst, arith, map}
+use Rattle.std.proofs.Common.{refl, ap, sym, ◌∙◌, ◌+◌, ◌*◌, ◌<◌, subst, arith, map}
 use Rattle.std.specs.Prelude.{option_map, Vec}
 use Rattle.std.specs.declared.alloc.Global.{Global}
-use Rattle.pv_tree.specs.declared.stmt.Stmt.{Stmt}
+use Rattle.pv_tree.specs.declared.stmt.Stmt.{Stmt, size-Stmt}
 use Rattle.pv_tree.specs.Tree.{assign, assign_call, case_, for_, while_, repeat_, call_}
 use Rattle.pv_tree.specs.View.{expr_tree, operand_tree, call_tree, stmt_tree, stmt_trees, branches_of, else_of}
 use Rattle.pv_tree.proofs.ForCallers.{stmt-for, stmt-if, stmt-case}
@@ -15,6 +15,7 @@ use Rattle.pv_resolve.proofs.ForCallers.{failed}
 use Rattle.pv_laws_room.specs.Bodies.{FitsChoices, FitsStmt, FitsStmts, FitsArms, FitsBranches, FitsElse}
 use Rattle.pv_program.specs.Led.{CallsLed, AllLed, ArmsLed, BranchesLed, ElseLed}
 use Rattle.pv_program.proofs.Leading.{led_same, stmt_fits, stmt_led, arm_fits, arm_led, branch_fits, branch_led, other-part}
+use Rattle.pv_program.proofs.Measuring.{of_branches, of_other, branches_deeper, other_deeper, max_less}
 use Rattle.pv_program.proofs.Growing.{extends-same, extends-then}
 use Rattle.pv_program.proofs.Keeping.{value-kept, choices-kept, counts-kept, stmt-kept, body-kept, arms-kept, branches-kept, arm-kept, branch-kept}
 use Rattle.pv_program.proofs.Pairing.{pairs-none, pairs-map, pairs-grown, gathered}
@@ -229,6 +230,15 @@ make_stmt-returns-in-If t c = record {
   room = λ source is h fits led. let f = (subst FitsStmt (ap stmt_tree c.in-If.is ∙ stmt-if c.in-If.arms c.in-If.other c.in-If.place) fits) in let l = (subst (CallsLed source (block_in c.args.context.now)) (ap stmt_tree c.in-If.is ∙ stmt-if c.in-If.arms c.in-If.other c.in-If.place) led) in c.make_if.ensures.room source is h f.0 f.1 l.0 l.1;
   led = λ source is led before. let l = (subst (CallsLed source (block_in c.args.context.now)) (ap stmt_tree c.in-If.is ∙ stmt-if c.in-If.arms c.in-If.other c.in-If.place) led) in c.make_if.ensures.led source is l.0 l.1 before;
 }
+
+pub make_stmt-make_case-requires : goal.make_stmt-make_case-requires
+make_stmt-make_case-requires t c =
+    let size = ap size-Stmt c.in-Case.is in
+    let above = branches_deeper c.in-Case.selector c.in-Case.branches c.in-Case.other c.in-Case.place in
+    let behind = other_deeper c.in-Case.selector c.in-Case.branches c.in-Case.other c.in-Case.place in
+    let branches : 4 * of_branches c.in-Case.branches.items + 3 < t = omega (arith, above, size, c.decreases) in
+    let other : 4 * of_other c.in-Case.other + 3 < t = omega (arith, behind, size, c.decreases) in
+    (max_less _ _ _ branches other, tt)
 
 pub make_stmt-returns-in-Case : goal.make_stmt-returns-in-Case
 make_stmt-returns-in-Case t c = record {

@@ -24,4 +24,5 @@ returns c =
       outside = c.nearest_of-outside.ensures;
       misused = c.nearer_of-misused.ensures;
       beyond = c.nearer_of-beyond.ensures;
+      void = refl;
     }) h

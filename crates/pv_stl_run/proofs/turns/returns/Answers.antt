@@ -12,6 +12,9 @@ returns-then-n-eq0-clause-same c = λ source calls act all k limit key w h neste
     returned_none source calls act all k c.args.at key w c.args.turns.now c.args.entered c.left_within-n.result back c.left_within-n.ensures
     c.if-n-eq0.true
 
+pub offset_bounds-turns-n : goal.offset_bounds-turns-n
+offset_bounds-turns-n c = omega (arith, c.left_within-n.ensures, left_few c.args.at c.args.turns.now c.args.entered)
+
 pub slice_copy_out-turn : goal.slice_copy_out-turn
 slice_copy_out-turn c = omega (arith, c.left_within-n.ensures, left_few c.args.at c.args.turns.now c.args.entered)
 

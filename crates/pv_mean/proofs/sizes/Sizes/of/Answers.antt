@@ -6,6 +6,7 @@ use Rattle.pv_types.specs.Sizes.{size_of_named}
 use Rattle.pv_mean.specs.Layout.{data_first, data_size}
 use Rattle.pv_mean.specs.Counts.{capped, known_in}
 use Rattle.pv_mean.specs.Visits.{visits_of, seeds_of, AllNest, IsOpen}
+use Rattle.pv_mean.specs.BlockNames.{number_named}
 use Rattle.pv_mean.specs.ProjectSizes.{project_tree, with_blocks, AreSizesOf}
 use Rattle.pv_mean.proofs.TypeTables.{search_begins, types_all_nest, table_has_all}
 use Rattle.pv_mean.proofs.sizes.Sizes.of.Goals as goal
@@ -39,6 +40,7 @@ invariant_of-result c =
     let are : AreSizesOf c.in_ok-known.known project =
     λ key. c.in_ok-known.ensures key ∙ ap (λ ts. capped (size_of_named ts (length ts) key)) types in
     record {
+      by_name = λ key. c.in_ok-names.ensures key ∙ ap (λ bs. number_named (map block_tree bs) key) blocks;
       of_types = are;
       begins = λ key. c.in_ok-data_blocks.ensures.begins project are key
           ∙ ap (λ bs. capped (data_first project (map block_tree bs) key 0)) blocks;

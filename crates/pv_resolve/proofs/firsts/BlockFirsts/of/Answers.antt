@@ -8,7 +8,12 @@ use Rattle.pv_resolve.proofs.firsts.BlockFirsts.of.Goals as goal
 pub returns : goal.returns
 returns c =
     record {
-      main = c.in_ok-main.ensures
-          ∙ ap (λ vs. fronts (sized_project c.args.sizes.now) (test_of c.in_ok-main.main.part) (var_trees vs) 0) c.as_slice-vars.ensures.value;
-      temporary = c.in_ok-temporary.ensures;
+      firsts = record {
+        main = c.in_ok-main.ensures.fronts
+            ∙ ap (λ vs. fronts (sized_project c.args.sizes.now) (test_of c.in_ok-main.main.part) (var_trees vs) 0) c.as_slice-vars.ensures.value;
+        temporary = c.in_ok-temporary.ensures.fronts;
+      };
+      part = c.in_ok-main.ensures.part ∙ c.main_part.ensures;
+      two = c.in_ok-temporary.ensures.two;
+      second = c.in_ok-temporary.ensures.second;
     }

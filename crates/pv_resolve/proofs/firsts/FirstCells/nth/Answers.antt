@@ -2,7 +2,6 @@ use Rattle.std.proofs.Common.{◌≡◌, length, sym, ap, ◌∙◌, subst, Some
 use Rattle.std.specs.Prelude.{IfSome}
 use Rattle.std.proofs.lemmas.Bool.{ltb-true}
 use Rattle.std.proofs.lemmas.Option.{slice_get-get_or}
-use Rattle.pv_tree.specs.Tree.{BlockTree}
 use Rattle.pv_mean.specs.LaidOut.{test_of, laid_tree}
 use Rattle.pv_resolve.specs.Firsts.{laid_nth, HasFirsts}
 use Rattle.pv_resolve.proofs.Tabling.{table_at}
@@ -15,5 +14,5 @@ returns-in-Some c = λ project b are at same.
     ∙ ap Some (sym c.in-Some.ensures.lookup.1) in
     subst (λ vs. IfSome c.nth.result (λ laid. laid_nth project (test_of c.args.part) vs c.args.number 0 ≡ Some (laid_tree laid))) same
     (c.nth.ensures project (subst (λ vs. HasFirsts project vs c.in-Some.firsts.now) (sym same)
-    (table_at project c.args.self.now.blocks.items project.blocks c.args.block _ b are
+    (table_at project c.args.self.now.blocks.items project.blocks c.args.block _ b are.tables
     (ap (λ l. slice_get l c.args.block) (sym c.as_slice.ensures.value) ∙ there) at)))

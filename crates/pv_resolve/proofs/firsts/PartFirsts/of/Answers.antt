@@ -31,6 +31,9 @@ loop-of-preserved c =
 pub returns : goal.returns
 returns c =
     let project = sized_project c.args.sizes.now in
-    all_added project (test_of c.loop-of.so_far.part) c.args.vars.now c.loop-of.of-index c.loop-of.so_far.numbers.items _ c.loop-of.so_far.total
-    c.loop-of-test.false c.loop-of.invariant.numbers
-    ∙ ap (λ p. fronts project (test_of p) (var_trees c.args.vars.now) 0) (sym c.loop-of.invariant.part)
+    record {
+      fronts = all_added project (test_of c.loop-of.so_far.part) c.args.vars.now c.loop-of.of-index c.loop-of.so_far.numbers.items _
+          c.loop-of.so_far.total c.loop-of-test.false c.loop-of.invariant.numbers
+          ∙ ap (λ p. fronts project (test_of p) (var_trees c.args.vars.now) 0) (sym c.loop-of.invariant.part);
+      part = c.loop-of.invariant.part;
+    }

@@ -9,4 +9,5 @@ returns c = record {
   names = c.in_ok-names.ensures;
   steps = subst (λ l. LeadToTheSame l (types_graph (map block_tree c.args.blocks.now))) (sym c.in_ok-graph.ensures)
       (c.in_ok-next.ensures (map block_tree c.args.blocks.now) c.in_ok-names.ensures);
+  endless = c.in_ok-endless.ensures;
 }

@@ -377,7 +377,7 @@ run_block-run_body-requires t c =
     let back = c.split_at_mut-inner.ensures.back_len in
     let width = c.width.ensures.within in
     let most = c.requires.room.below in
-    let less : c.args.started.now.at.calls * 2 ^ 40 + 8 * statements_end c.args.started.now.code.body + 4 < t = omega
+    let less : c.args.started.now.at.calls * 2 ^ 70 + 8 * statements_end c.args.started.now.code.body + 4 < t = omega
     (arith, c.requires.calls, c.requires.short, c.decreases) in
     let turns = room_next c.args.started.now.at.calls c.args.at.calls c.args.self.now.ranges _ c.requires.calls c.requires.room.ranges in (
       less,
@@ -429,7 +429,7 @@ run_block-returns-in-Ok-hand_out t c =
 pub run_body-run_list-requires : goal.run_body-run_list-requires
 run_body-run_list-requires t c =
     let end : statements_end c.args.body ≡ c.in-Statements.list.end = ap statements_end c.in-Statements.is in
-    let less : c.args.at.calls * 2 ^ 40 + 8 * c.in-Statements.list.end < t = omega (arith, end, c.decreases) in
+    let less : c.args.at.calls * 2 ^ 70 + 8 * c.in-Statements.list.end < t = omega (arith, end, c.decreases) in
     (less, c.requires.room)
 
 pub run_body-returns-in-Ok : goal.run_body-returns-in-Ok
@@ -465,7 +465,7 @@ run_instrs-returns-in-Err t c =
     stops_so c.of.result c.in-Err.stop
     (whole_of source (calls_within source c.args.at.calls) (activation block c.args.at.first) all frame) c.of.ensures
     (c.in-Err.ensures.same source (calls_within source c.args.at.calls) (activation block c.args.at.first) all
-    (record { registers = fresh; frame = frame }) program.bound (has_ranges k) k.are.short k.ranges)
+    (record { registers = fresh; frame = frame }) program.bound (has_ranges k) k.ranges)
 
 pub run_instrs-loop-call-init : goal.run_instrs-loop-call-init
 run_instrs-loop-call-init t c =
@@ -487,7 +487,7 @@ run_instrs-loop-call-init t c =
           at_start source (calls_within source c.args.at.calls) (activation block c.args.at.first) all c.instrs_in-code.result.now
           c.begin.new.turns g.entered g.at g.registers frame
           (c.in-Ok.ensures.same source (calls_within source c.args.at.calls) (activation block c.args.at.first) all
-          (working g.registers frame) program.bound (has_ranges k) k.are.short k.ranges) c.in-Ok.ensures.registers c.in-Ok.ensures.nested;
+          (working g.registers frame) program.bound (has_ranges k) k.ranges) c.in-Ok.ensures.registers c.in-Ok.ensures.nested;
     }
 
 pub run_instrs-returns-in-Ok-None : goal.run_instrs-returns-in-Ok-None
@@ -551,7 +551,7 @@ run_instrs-returns-in-Ok-false t c =
     c.in-Ok-run_call.field-0 its.tree its.call its.is its.its (c.in-Ok-run_call.ensures source block (site_of its.tree its.call) program its.means) in
     behind_off source calls act all c.go.new.turns c.behind_call.new.turns g.entered g.at now.entered now.at now.registers frame _
     c.in-Ok-false.field-0 c.in-Ok-false.field-0-test c.in-Ok-false.ensures.registers (sym made ∙ up.same ∙ w.same)
-    (c.in-Ok-false.ensures.same source calls act all (working now.registers frame) program.bound (has_ranges k) k.are.short up.nested
+    (c.in-Ok-false.ensures.same source calls act all (working now.registers frame) program.bound (has_ranges k) up.nested
     (omega (arith, k.ranges)))
 
 pub run_instrs-returns-in-Err-behind_call : goal.run_instrs-returns-in-Err-behind_call
@@ -574,7 +574,7 @@ run_instrs-returns-in-Err-behind_call t c =
     c.in-Ok-run_call.field-0 its.tree its.call its.is its.its (c.in-Ok-run_call.ensures source block (site_of its.tree its.call) program its.means) in
     behind_stop source calls act all c.go.new.turns g.entered g.at now.registers frame _ c.of-in-Err-behind_call.result c.in-Err-behind_call.stop
     c.of-in-Err-behind_call.ensures c.in-Err-behind_call.ensures.registers (sym made ∙ up.same ∙ w.same)
-    (c.in-Err-behind_call.ensures.same source calls act all (working now.registers frame) program.bound (has_ranges k) k.are.short
+    (c.in-Err-behind_call.ensures.same source calls act all (working now.registers frame) program.bound (has_ranges k)
     up.nested (omega (arith, k.ranges)))
 
 pub run_instrs-loop-call-preserved : goal.run_instrs-loop-call-preserved
@@ -605,7 +605,7 @@ run_instrs-loop-call-preserved t c =
           c.in-Ok-run_call.field-0 its.tree its.call its.is its.its (c.in-Ok-run_call.ensures source block (site_of its.tree its.call) program its.means) in
           behind_on source calls act all c.instrs_in-code.result.now c.go.new.turns c.behind_call.new.turns g.entered g.at now.entered now.at
           now.registers frame _ c.in-Ok-true.field-0 c.in-Ok-true.field-0-test c.in-Ok-true.ensures.registers (sym made ∙ up.same ∙ w.same)
-          (c.in-Ok-true.ensures.same source calls act all (working now.registers frame) program.bound (has_ranges k) k.are.short up.nested
+          (c.in-Ok-true.ensures.same source calls act all (working now.registers frame) program.bound (has_ranges k) up.nested
           (omega (arith, k.ranges))) (c.in-Ok-true.ensures.nested up.nested);
     }
 

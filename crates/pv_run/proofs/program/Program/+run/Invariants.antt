@@ -13,49 +13,49 @@ use Rattle.pv_run.proofs.Left.{StmtsLeft}
 use Rattle.pv_run.proofs.program.Program.+run.Given as goal
 
 abbrev pub decreases-run_block : goal.decreases-run_block
-decreases-run_block l = l.at.calls * 2 ^ 40 + 1
+decreases-run_block l = l.at.calls * 2 ^ 70 + 1
 
 abbrev pub decreases-run_body : goal.decreases-run_body
-decreases-run_body l = l.at.calls * 2 ^ 40 + 8 * statements_end l.body + 4
+decreases-run_body l = l.at.calls * 2 ^ 70 + 8 * statements_end l.body + 4
 
 abbrev pub decreases-run_instrs : goal.decreases-run_instrs
-decreases-run_instrs l = l.at.calls * 2 ^ 40 + 3
+decreases-run_instrs l = l.at.calls * 2 ^ 70 + 3
 
 abbrev pub decreases-run_call : goal.decreases-run_call
-decreases-run_call l = l.at.calls * 2 ^ 40 + 2
+decreases-run_call l = l.at.calls * 2 ^ 70 + 2
 
 abbrev pub decreases-run_for : goal.decreases-run_for
-decreases-run_for l = l.at.calls * 2 ^ 40 + 8 * l.body.end + 1
+decreases-run_for l = l.at.calls * 2 ^ 70 + 8 * l.body.end + 1
 
 abbrev pub decreases-run_list : goal.decreases-run_list
-decreases-run_list l = l.at.calls * 2 ^ 40 + 8 * l.list.end
+decreases-run_list l = l.at.calls * 2 ^ 70 + 8 * l.list.end
 
 abbrev pub decreases-run_repeat : goal.decreases-run_repeat
-decreases-run_repeat l = l.at.calls * 2 ^ 40 + 8 * l.body.end + 1
+decreases-run_repeat l = l.at.calls * 2 ^ 70 + 8 * l.body.end + 1
 
 abbrev pub decreases-run_stmt : goal.decreases-run_stmt
-decreases-run_stmt l = l.at.calls * 2 ^ 40 + 8 * l.k + 5
+decreases-run_stmt l = l.at.calls * 2 ^ 70 + 8 * l.k + 5
 
 abbrev pub decreases-run_other : goal.decreases-run_other
-decreases-run_other l = l.at.calls * 2 ^ 40 + 8 * l.k + 4
+decreases-run_other l = l.at.calls * 2 ^ 70 + 8 * l.k + 4
 
 abbrev pub decreases-run_called : goal.decreases-run_called
-decreases-run_called l = l.at.calls * 2 ^ 40 + 3
+decreases-run_called l = l.at.calls * 2 ^ 70 + 3
 
 abbrev pub decreases-run_assigned : goal.decreases-run_assigned
-decreases-run_assigned l = l.at.calls * 2 ^ 40 + 3
+decreases-run_assigned l = l.at.calls * 2 ^ 70 + 3
 
 abbrev pub decreases-run_if : goal.decreases-run_if
-decreases-run_if l = l.at.calls * 2 ^ 40 + 8 * l.k + 3
+decreases-run_if l = l.at.calls * 2 ^ 70 + 8 * l.k + 3
 
 abbrev pub decreases-run_case : goal.decreases-run_case
-decreases-run_case l = l.at.calls * 2 ^ 40 + 8 * l.k + 3
+decreases-run_case l = l.at.calls * 2 ^ 70 + 8 * l.k + 3
 
 abbrev pub decreases-run_counted : goal.decreases-run_counted
-decreases-run_counted l = l.at.calls * 2 ^ 40 + 8 * l.k + 3
+decreases-run_counted l = l.at.calls * 2 ^ 70 + 8 * l.k + 3
 
 abbrev pub decreases-run_while : goal.decreases-run_while
-decreases-run_while l = l.at.calls * 2 ^ 40 + 8 * l.body.end + 1
+decreases-run_while l = l.at.calls * 2 ^ 70 + 8 * l.body.end + 1
 
 -- the turns that are left, in the frame as it is now
 abbrev pub invariant-run_for-loop-turn : goal.invariant-run_for-loop-turn

@@ -13,12 +13,12 @@ returns-in-Onward-clause-most c = λ lt.
     (omega (arith, falls_on c.args.bound c.args.code.now c.args.self.now.at lt))
 
 pub returns-then-at-self-clause-same : goal.returns-then-at-self-clause-same
-returns-then-at-self-clause-same c = λ source calls act all i w b h short nested room goes.
+returns-then-at-self-clause-same c = λ source calls act all i w b h nested room goes.
     let is : c.args.next ≡ next.To (Ahead c.in-To-Ahead.at) = search rules in
     subst (λ x. Went c.goes_to.result (left_of source calls act all c.goes_to.new.turns c.goes_to.new.self.entered c.goes_to.new.self.at w) w.frame
     (resumed source calls act all (entered_of c.args.turns.now c.args.self.now.entered) x))
     (sym (goes_ahead source calls act all c.args.self.now.at c.in-To-Ahead.at i c.args.next w is goes))
-    (c.goes_to.ensures.same source calls act all w b h short
+    (c.goes_to.ensures.same source calls act all w b h
     (nested_on c.args.code.now c.args.turns.now c.args.self.now.entered (suc c.args.self.now.at) c.in-To-Ahead.at nested (omega arith)) room)
 
 pub returns-then-at-self-clause-most : goal.returns-then-at-self-clause-most
@@ -32,7 +32,7 @@ returns-then-at-self-clause-nested c = λ nested.
     (nested_on c.args.code.now c.args.turns.now c.args.self.now.entered (suc c.args.self.now.at) c.in-To-Ahead.at nested (omega arith))
 
 pub returns-in-To-Back-clause-same : goal.returns-in-To-Back-clause-same
-returns-in-To-Back-clause-same c = λ source calls act all i w b h short nested room goes.
+returns-in-To-Back-clause-same c = λ source calls act all i w b h nested room goes.
     let is : c.args.next ≡ next.To (Back c.in-To-Back.at) = search rules in
     let r = goes_back_to source calls act all c.args.self.now.at c.in-To-Back.at i c.args.next w is goes in
     subst (λ x. Went c.goes_back.result (left_of source calls act all c.goes_back.new.turns c.goes_back.new.self.entered c.goes_back.new.self.at w) w.frame
@@ -48,5 +48,5 @@ pub returns-in-To-Back-clause-nested : goal.returns-in-To-Back-clause-nested
 returns-in-To-Back-clause-nested c = λ nested. c.goes_back.ensures.nested (suc c.args.self.now.at) nested
 
 pub returns-in-Left-clause-same : goal.returns-in-Left-clause-same
-returns-in-Left-clause-same c = λ source calls act all i w b h short nested room goes.
+returns-in-Left-clause-same c = λ source calls act all i w b h nested room goes.
     goes_nowhere source calls act all (entered_of c.args.turns.now c.args.self.now.entered) (drop (suc c.args.self.now.at) all) i c.args.next w c.in-Left.is

@@ -66,7 +66,7 @@ returns-in-Ok-false-clause-same c = λ source calls block room all b types fits 
     ap frame_end (sym before)
     ∙ went_off _ _ _ behind c.in-Ok-false.field-0-test
     (c.in-Ok-false.ensures.same source calls (activation block c.args.first) all its.tree (working c.step.new.r behind) b (has_ranges are)
-    are.short g.nested turns goes)
+    g.nested turns goes)
 
 pub returns-in-Err-follows-clause-same : goal.returns-in-Err-follows-clause-same
 returns-in-Err-follows-clause-same c = λ source calls block room all b types fits are nested ranges depth.
@@ -83,7 +83,7 @@ returns-in-Err-follows-clause-same c = λ source calls block room all b types fi
     (may_less x.action s.self.registers.depth (nested_at c.args.code.now s.self.at) g.depth_is its.instr.nests) does.1) in
     let goes = leads all c.args.code.now s.self.at its.tree x.action c.in-Ok.next c.in-Ok.ensures.goes its.instr.jumps in
     c.in-Err-follows.ensures.same source calls (activation block c.args.first) all its.tree (working c.step.new.r behind) b (has_ranges are)
-    are.short g.nested turns goes
+    g.nested turns goes
     ∙ before
 
 pub loop-instr-preserved : goal.loop-instr-preserved
@@ -118,7 +118,7 @@ loop-instr-preserved c =
                 ap (λ r. left_of source calls (activation block c.args.first) all c.follows.new.turns now.entered now.at (working r behind)) same
                 ∙ went_on _ _ _ behind c.in-Ok-true.field-0-test
                 (c.in-Ok-true.ensures.same source calls (activation block c.args.first) all its.tree (working c.step.new.r behind) b
-                (has_ranges are) are.short g.nested turns goes)
+                (has_ranges are) g.nested turns goes)
                 ∙ before;
             nested = where_on _ _ c.in-Ok-true.field-0-test (c.in-Ok-true.ensures.nested g.nested);
             depth_is = depth_behind all c.args.code.now s.self.at now.at s.self.registers.depth now.registers.depth its.tree x c.in-Ok.next
