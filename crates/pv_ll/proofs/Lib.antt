@@ -3,6 +3,7 @@ pub mod Sets
 pub mod Steps
 pub mod Places
 pub mod Stack
+pub mod Leading
 pub mod Faults
 pub mod Tested
 pub mod Walking

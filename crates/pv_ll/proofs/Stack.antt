@@ -26,6 +26,7 @@ use Rattle.pv_ll.specs.Table.{grammar_of, body_of, rule, front}
 use Rattle.pv_ll.specs.Facts.{IsLL1, Selects}
 use Rattle.pv_ll.specs.Turns.{acts_at}
 use Rattle.pv_ll.specs.Reading.{look, IsText, symbols_of, ends_in, end_of, entered, Awaits, Stands, StandsFor, IsStuck, Chosen, NoneFits}
+use Rattle.pv_ll.specs.Ways.{load}
 use Rattle.pv_ll.proofs.Words.{Shift, inv_token, inv_nothing, replaced, lives_append}
 use Rattle.pv_ll.proofs.Steps.{ServesAs, Determined, served, determined, followed_append, production_at, front_falls}
 use Rattle.pv_ll.proofs.Telling.{retells_name, retells_token, retells_end}
@@ -175,10 +176,6 @@ token_step l acts turns later read t ps e h kind =
     (record { awaits = shifted l read t (symbols_of ps) h.awaits kind; retells = retells_token l acts turns read t ps h.retells })
 
 -- ---- that it ends
-
--- what is still to be done before the next token
-abbrev pub load : Language → List Place → ℕ
-load l ps = 2 * front l (symbols_of ps) + ends_in ps
 
 lighter : (a b c d : ℕ) → a < b → c ≤ d + 1 → 2 * a + c < 2 * b + d
 lighter a b c d h i = omega (arith, h, i)

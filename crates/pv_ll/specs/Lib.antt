@@ -3,6 +3,7 @@ pub mod Table
 pub mod Check
 pub mod Facts
 pub mod Reading
+pub mod Ways
 pub mod Sample
 pub mod Walk
 pub mod Turns

@@ -1,4 +1,4 @@
-//! Laws of grammars, for readers that keep a trace.
+//! Laws of grammars, for readers that make something of what a text derives.
 ghost use Rattle.std.specs.Prelude.{◌≡◌, ◌∷◌, [], ℕ, Bool, IsTrue, List, map, Some};
 ghost use Rattle.pv_ll.specs.declared.table.Symbol.{Symbol};
 ghost use Rattle.pv_ll.specs.declared.table.Language.{Language};

@@ -6,6 +6,7 @@ mod machine;
 mod sample;
 mod table;
 mod turn;
+mod ways;
 
 pub use laws::{
     makings_follow_along_walks, texts_have_one_trace, traces_have_one_walk, traces_tell_one_text,

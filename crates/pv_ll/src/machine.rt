@@ -1,17 +1,16 @@
 //! The machine: a stack of places on the heap, and one token of lookahead.
-ghost use Rattle.std.specs.Prelude.{ℕ, List, IfOk, IfSome, IfNone, IsTrue};
+ghost use Rattle.std.specs.Prelude.{ℕ, List, IfOk, OnOk, IsTrue};
 ghost use Rattle.pv_ll.specs.Table.{grammar_of};
 ghost use Rattle.pv_ll.specs.Check.{is_ll1};
 ghost use Rattle.pv_ll.specs.Facts.{IsLL1};
 ghost use Rattle.pv_ll.specs.Turns.{IsExact};
-ghost use Rattle.pv_ll.specs.Reading.{answer_of, places_of, Stands, StandsFor, Expects, Takes, Ends, Chosen, NoneFits};
+ghost use Rattle.pv_ll.specs.Ways.{AreWays};
+ghost use Rattle.pv_ll.specs.Reading.{answer_of, places_of, Stands, StandsFor, Expects, Takes, Ends};
 
-use crate::table::{Language, Symbol, contains, rule_of};
-use crate::turn::{Place, Turn, enter, pop};
+use crate::table::{Language, Symbol};
+use crate::turn::{Place, Turn, pop};
+use crate::ways::{Ways, lead};
 use std::alloc::{AllocError, Global};
-
-/// A text with fewer tokens is short.
-const SHORT: usize = 256;
 
 /// What the stack says must come next.
 enum Expected {
@@ -23,87 +22,29 @@ enum Expected {
     NoMore,
 }
 
-/// Whether a next token takes an alternative, which is the name's.
-fn takes(language: &Language, k: u16, name: u8, token: u8) -> bool
-    ensures { IsTrue result → Chosen language.now name token k }
-{
-    match language.alternatives.get(k as usize) {
-        Some(alternative) => alternative.name == name && contains(alternative.when, token),
-        None => false,
-    }
-}
-
-/// The alternative of a name that a next token takes.
-fn look_up(language: &Language, name: u8, token: u8) -> Option<u16>
-    requires { IsLL1 language.now }
-    ensures found { IfSome result (Chosen language.now name token) }
-    ensures none { IfNone result (NoneFits language.now name token) }
-{
-    let rule = rule_of(language, name);
-    for k in rule.from..rule.to {
-        if contains(language.alternatives[k as usize].when, token) {
-            return Some(k);
-        }
-    }
-    None
-}
-
-/// The alternative of a name that a next token takes. `known` has, by name and token, what was found last; whatever stands
-/// there is tested.
-fn choose(language: &Language, known: &mut Vec<u16>, name: u8, token: u8) -> Option<u16>
-    requires { IsLL1 language.now }
-    ensures found { IfSome result (Chosen language.now name token) }
-    ensures none { IfNone result (NoneFits language.now name token) }
-{
-    let place = name as usize * (language.kinds as usize + 1) + token as usize;
-    if place < known.len() && takes(language, known[place], name, token) {
-        return Some(known[place]);
-    }
-    let Some(k) = look_up(language, name, token) else {
-        return None;
-    };
-    if place < known.len() {
-        known[place] = k;
-    }
-    Some(k)
-}
-
-/// Room for the alternatives that a text's tokens take; none for a short text, for which it isn't worth while.
-fn room_for_choices(
-    alloc: Global,
-    language: &Language,
-    tokens: usize,
-) -> Result<Vec<u16>, AllocError> {
-    let wanted = if tokens < SHORT {
-        0
-    } else {
-        language.rules.len().min(256) * (language.kinds as usize + 1)
-    };
-    vec![in alloc; 0; wanted]
-}
-
-/// Walks on to a token or to the end: puts the alternatives that the next token takes in place of the names on top of the stack.
+/// Walks on to a token or to the end: puts what the next token leads to in place of the names on top of the stack.
 fn expand(
     language: &Language,
     acts: &[bool],
-    known: &mut Vec<u16>,
+    ways: &mut Ways,
     token: u8,
     places: &mut Vec<Place>,
     turns: &mut Vec<Turn>,
 ) -> Result<Expected, AllocError>
-    requires { IsLL1 language.now }
-    ensures { IfOk result (λ found. (read : List ℕ) → Stands language.now acts.now turns.old.items read token (places_of places.old)
+    requires ll1 { IsLL1 language.now }
+    requires ways { AreWays language.now acts.now ways.old }
+    ensures expects { IfOk result (λ found. (read : List ℕ) → Stands language.now acts.now turns.old.items read token (places_of places.old)
         → Expects language.now acts.now turns.new.items read token (places_of places.new) found) }
+    ensures ways { OnOk result (AreWays language.now acts.now ways.new) }
 {
     while let Some(place) = pop(places) {
         match place {
             Place::Of(symbol) => match symbol {
                 Symbol::Token(kind) => return Ok(Expected::ThisToken(kind)),
                 Symbol::Name(name) => {
-                    let Some(k) = choose(language, known, name, token) else {
+                    if !lead(language, acts, ways, name, token, places)? {
                         return Ok(Expected::NoMore);
-                    };
-                    enter(language, acts, k, places)?;
+                    }
                 }
             },
             Place::Behind(k) => turns.push(Turn::Leave(k))?,
@@ -116,16 +57,18 @@ fn expand(
 fn take_token(
     language: &Language,
     acts: &[bool],
-    known: &mut Vec<u16>,
+    ways: &mut Ways,
     token: u8,
     places: &mut Vec<Place>,
     turns: &mut Vec<Turn>,
 ) -> Result<bool, AllocError>
-    requires { IsLL1 language.now }
-    ensures { IfOk result (λ yes. (read : List ℕ) → StandsFor language.now acts.now turns.old.items read (places_of places.old)
+    requires ll1 { IsLL1 language.now }
+    requires ways { AreWays language.now acts.now ways.old }
+    ensures takes { IfOk result (λ yes. (read : List ℕ) → StandsFor language.now acts.now turns.old.items read (places_of places.old)
         → Takes language.now acts.now turns.new.items read token (places_of places.new) yes) }
+    ensures ways { OnOk result (AreWays language.now acts.now ways.new) }
 {
-    match expand(language, acts, known, token, places, turns)? {
+    match expand(language, acts, ways, token, places, turns)? {
         Expected::ThisToken(kind) => {
             if kind == token {
                 turns.push(Turn::Pass)?;
@@ -143,15 +86,16 @@ fn take_token(
 fn take_end(
     language: &Language,
     acts: &[bool],
-    known: &mut Vec<u16>,
+    ways: &mut Ways,
     places: &mut Vec<Place>,
     turns: &mut Vec<Turn>,
 ) -> Result<bool, AllocError>
-    requires { IsLL1 language.now }
+    requires ll1 { IsLL1 language.now }
+    requires ways { AreWays language.now acts.now ways.old }
     ensures { IfOk result (λ yes. (read : List ℕ) → StandsFor language.now acts.now turns.old.items read (places_of places.old)
         → Ends language.now acts.now turns.new.items read yes) }
 {
-    match expand(language, acts, known, language.kinds, places, turns)? {
+    match expand(language, acts, ways, language.kinds, places, turns)? {
         Expected::TheEnd => Ok(true),
         Expected::ThisToken(_) => Ok(false),
         Expected::NoMore => Ok(false),
@@ -168,16 +112,16 @@ fn run(
     requires { IsLL1 language.now }
     ensures { IfOk result (λ answer. IsExact (grammar_of language.now) language.now.start acts.now kinds.now (answer_of answer)) }
 {
-    let mut known = room_for_choices(alloc, language, kinds.len())?;
+    let mut ways = Ways::of(alloc, language, kinds.len())?;
     let mut turns = Vec::new(alloc);
     let mut places = Vec::new(alloc);
     places.push(Place::Of(Symbol::Name(language.start)))?;
     for (i, kind) in kinds.iter().enumerate() {
-        if !take_token(language, acts, &mut known, *kind, &mut places, &mut turns)? {
+        if !take_token(language, acts, &mut ways, *kind, &mut places, &mut turns)? {
             return Ok(Err(i));
         }
     }
-    if take_end(language, acts, &mut known, &mut places, &mut turns)? {
+    if take_end(language, acts, &mut ways, &mut places, &mut turns)? {
         Ok(Ok(turns))
     } else {
         Ok(Err(kinds.len()))

@@ -35,6 +35,7 @@ fn acts_at(acts: &[bool], k: u16) -> bool
 pub(crate) fn pop(places: &mut Vec<Place>) -> Option<Place>
     ensures some { IfSome result (λ place. places_of places.old ≡ place ∷ places_of places.new) }
     ensures none { IfNone result (places_of places.old ≡ []) }
+    ensures empty { IfNone result (places_of places.new ≡ []) }
 {
     places.pop()
 }

@@ -6,6 +6,7 @@ mod KindSpelled
 mod KindNames
 mod KindOf
 mod KindPairs
+pub mod NumberLaws
 pub mod FunctionTables
 pub mod Taking
 pub mod Idle

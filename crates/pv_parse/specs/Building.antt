@@ -14,7 +14,7 @@ abbrev pub acts : Action → Bool
 acts Keep = false
 acts _ = true
 
--- the turns make that stack of these tokens and this one, whatever stands before the tokens
+-- the turns make that stack of these tokens and this one, with a mark before the tokens or with none
 abbrev pub Plays : {V : Type 0} → Making Kinded V → List Turn → List Lexeme → List V → List V
     → Type 0
 Plays m turns tokens s behind = (marked : Bool) × (play m turns (kinded marked tokens) s ≡ Some behind)
@@ -37,7 +37,7 @@ Taken {X} {V} view m turn result tokens old new =
     (turns : List Turn) (behind : List V) → Plays m (turn ∷ turns) tokens old behind
     → PlaysOn view m turns result new behind
 
--- the same, of any tokens
+-- the same, of some tokens
 abbrev pub Makes : {V : Type 0} → Making Kinded V → List Turn → List V → List V → Type 0
 Makes m turns s behind = (tokens : List Kinded) × (play m turns tokens s ≡ Some behind)
 

@@ -39,7 +39,7 @@ pub use fault::{ParseFault, ReadFault};
 pub use held::{added, with};
 pub use item::{Item, Sliced};
 pub use laws::{fronts_have_front_kinds, kinds_have_witnesses, tokens_have_kinds};
-pub use numbers::{area_of, number_type};
+pub use numbers::{area_of, negated_value, number_type};
 pub use outside::first_outside;
 pub use stack::{Stop, mistyped, pop_expr, pop_item, pop_path, pop_token, push, word_in};
 pub use texts::{is_text, truth_of};

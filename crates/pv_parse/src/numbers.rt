@@ -1,14 +1,15 @@
 //! The types of numbers, and the parts of addresses.
-ghost use Rattle.std.specs.Prelude.{◌≡◌, ◌≤◌, IfOk, IfSome, length, drop, not, ◌∷◌, []};
+ghost use Rattle.std.specs.Prelude.{◌≡◌, ◌≤◌, ◌^◌, pos, neg_ℤ, ◌≤ℤ◌, IfOk, IfSome, length, drop, not, ◌∷◌, []};
 ghost use Rattle.pv_lex.specs.Shapes.{is_one_of};
 ghost use Rattle.std.specs.List.{prefix_len};
 ghost use Rattle.std.specs.Char.{is_ascii_digit};
 ghost use Rattle.pv_lex.specs.Classes.{is_word_byte};
-ghost use Rattle.pv_lex.specs.Values.{digit_value, is_silent, with_byte, value_behind};
+ghost use Rattle.pv_lex.specs.Values.{token_value, digit_value, is_silent, with_byte, value_behind};
 ghost use Rattle.pv_tree.specs.Literals.{prefix_type, number_type, bare_address, address_bits, from_digit, leading_digits, behind_digits};
 ghost use Rattle.pv_parse.specs.TokenTexts.{is_text, starts, area_of_letter, area_of};
 
 use crate::texts::is_text;
+use pv_lex::{Kind, token_value};
 use pv_tree::{Area, Root};
 use pv_word::Ty;
 use std::alloc::AllocError;
@@ -46,6 +47,21 @@ pub fn number_type(bytes: &[u8]) -> Option<Ty>
     } else {
         None
     }
+}
+
+/// The number with the other sign, which one of 64 bits has.
+fn negated(value: i128) -> i128
+    requires { neg_ℤ (pos (2 ^ 64)) ≤ℤ value }
+    ensures { result ≡ neg_ℤ value }
+{
+    -value
+}
+
+/// The value of a token with the other sign.
+pub fn negated_value(kind: Kind, bytes: &[u8]) -> i128
+    ensures { result ≡ neg_ℤ (token_value kind bytes.now) }
+{
+    negated(token_value(kind, bytes))
 }
 
 /// Whether the text is this word.

@@ -1,15 +1,17 @@
 //! Literals behind an instruction's word, on which their type hangs.
-ghost use Rattle.std.specs.Prelude.{◌≡◌, ◌≤◌, ◌∷◌, [], length, Some, neg_ℤ};
+ghost use Rattle.std.specs.Prelude.{◌≡◌, ◌≤◌, ◌∷◌, [], length, Some};
 ghost use Rattle.std.specs.List.{prefix_len};
 ghost use Rattle.pv_lex.specs.Classes.{is_word_byte};
 ghost use Rattle.pv_lex.specs.Shapes.{is_one_of};
 ghost use Rattle.pv_parse.specs.TokenTexts.{starts};
 ghost use Rattle.pv_tree.specs.Literals.{is_based, loaded_type};
-ghost use Rattle.pv_parse.specs.Items.{stack_of, lexeme_of_slice, Finds, Leaves};
+ghost use Rattle.pv_parse.specs.Items.{stack_of, lexeme_of_slice, Leaves};
 ghost use Rattle.pv_parse.specs.InstrDeeds.{type_behind, number_behind, number_deed, negative_deed, truth_deed};
 
 use pv_lex::token_value;
-use pv_parse::{Item, Sliced, Stop, is_text, number_type, pop_token, push, truth_of};
+use pv_parse::{
+    Item, Sliced, Stop, is_text, negated_value, number_type, pop_token, push, truth_of,
+};
 use pv_place::Place;
 use pv_types::Literal;
 use pv_word::Ty;
@@ -102,17 +104,6 @@ pub fn number(stack: &mut Vec<Item>) -> Result<(), Stop>
     Ok(())
 }
 
-/// The number with the other sign. The one that has none in 128 bits is want of memory; no token has it, since tokens have no
-/// sign.
-fn negated(value: i128) -> Result<i128, Stop>
-    ensures { Finds (λ n. n) result (Some (neg_ℤ value)) }
-{
-    match value.checked_neg() {
-        Some(value) => Ok(value),
-        None => Err(Stop::NoMemory),
-    }
-}
-
 /// A number behind `-`.
 pub fn negative(stack: &mut Vec<Item>) -> Result<(), Stop>
     ensures { Leaves result (stack_of stack.new) (negative_deed (stack_of stack.old)) }
@@ -120,7 +111,7 @@ pub fn negative(stack: &mut Vec<Item>) -> Result<(), Stop>
     let token = pop_token(stack)?;
     let minus = pop_token(stack)?;
     let op = pop_token(stack)?;
-    let value = negated(token_value(token.kind, token.bytes))?;
+    let value = negated_value(token.kind, token.bytes);
     let literal = number_behind(op, token, value, minus.place);
     push(stack, Item::Token(op))?;
     push(stack, Item::Literal(literal))?;

@@ -1,5 +1,5 @@
 //! What alternatives of names, literals and declarations make of what lies on the stack.
-ghost use Rattle.std.specs.Prelude.{◌≡◌, ◌++◌, [], ◌∷◌, Some, OnOk, neg_ℤ};
+ghost use Rattle.std.specs.Prelude.{◌≡◌, ◌++◌, [], ◌∷◌, Some, OnOk};
 ghost use Rattle.pv_types.specs.View.{type_tree, vars_tree, var_trees};
 ghost use Rattle.pv_tree.specs.Tree.{PlacedName};
 ghost use Rattle.pv_parse.specs.Items.{stack_of, path_tree, Leaves, Finds};
@@ -12,8 +12,8 @@ use crate::pops::{
 };
 use pv_lex::token_value;
 use pv_parse::{
-    Bounds, DeclAction, DeclItem, Fields, Item, Stop, added, number_type, pop_path, pop_token,
-    pop_word, push, truth_of, with,
+    Bounds, DeclAction, DeclItem, Fields, Item, Stop, added, negated_value, number_type, pop_path,
+    pop_token, pop_word, push, truth_of, with,
 };
 use pv_parse_call::{pop_literal, pop_words};
 use pv_place::Place;
@@ -66,24 +66,13 @@ fn number(stack: &mut Vec<Item>) -> Result<(), Stop>
     Ok(())
 }
 
-/// The number with the other sign. The one that has none in 128 bits is want of memory; no token
-/// has it, since tokens have no sign.
-fn negated(value: i128) -> Result<i128, Stop>
-    ensures { Finds (λ n. n) result (Some (neg_ℤ value)) }
-{
-    match value.checked_neg() {
-        Some(value) => Ok(value),
-        None => Err(Stop::NoMemory),
-    }
-}
-
 /// A number behind `-` is a literal.
 fn negative(stack: &mut Vec<Item>) -> Result<(), Stop>
     ensures { Leaves result (stack_of stack.new) (negative_deed (stack_of stack.old)) }
 {
     let token = pop_token(stack)?;
     let minus = pop_token(stack)?;
-    let value = negated(token_value(token.kind, token.bytes))?;
+    let value = negated_value(token.kind, token.bytes);
     let literal = Literal {
         ty: number_type(token.bytes),
         value,

@@ -1,4 +1,4 @@
-//! Sources and expressions, read from tokens by the grammar of a language: declarations, blocks, and the walk that builds a tree.
+//! Sources and expressions, read from tokens by the grammar of a language: declarations, blocks, and the loop that builds a tree.
 #![tactic(auto)]
 
 mod blocks;

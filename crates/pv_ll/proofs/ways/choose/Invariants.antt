@@ -2,7 +2,7 @@ use Rattle.std.proofs.Common.{◌≡◌, ℕ, ◌<◌}
 use Rattle.std.specs.Int.{bit_at}
 use Rattle.pv_ll.specs.declared.table.Alternative.{Alternative}
 use Rattle.pv_ll.specs.Facts.{Selects}
-use Rattle.pv_ll.proofs.machine.look_up.Given as goal
+use Rattle.pv_ll.proofs.ways.choose.Given as goal
 
 -- the alternatives before k don't take the token
 abbrev pub invariant-loop-k : goal.invariant-loop-k

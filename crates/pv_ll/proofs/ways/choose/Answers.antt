@@ -1,6 +1,6 @@
 use Rattle.std.proofs.Common.{◌≡◌, true}
 use Rattle.pv_ll.proofs.Places.{owned_within, found, passed, at_rule}
-use Rattle.pv_ll.proofs.machine.look_up.Goals as goal
+use Rattle.pv_ll.proofs.ways.choose.Goals as goal
 
 pub bounds-language-k : goal.bounds-language-k
 bounds-language-k c =
