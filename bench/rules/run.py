@@ -1,8 +1,8 @@
 #!/usr/bin/env python3
 """Times the rules of the language on sources of n and 2n parts: variables each of which is assigned, assignments, blocks with four
-calls each, a chain of named types whose last one contains itself, fields of a type with as many fields, calls of a block with as many
-variables, values of a data block's parts, calls that hand a function without a value out, assignments of 60 levels, and ordinary
-statements.
+calls each, a chain of named types whose last one contains itself, fields of a type with as many fields, once behind a type that
+contains itself, calls of a block with as many variables, values of a data block's parts, calls that hand a function without a value out,
+assignments of 60 levels, and ordinary statements.
 
 Usage: run.py [name ..] (all). Builds bench/rules/main.rt.txt over pv_rules in a temporary copy, and needs `rt`. Prints the answer, the
 processor time and the peak memory of both runs and their ratios; then the times of the check alone, which are those of whole runs less
@@ -63,6 +63,27 @@ def named(n):
     return f"TYPE u STRUCT x : INT; END_STRUCT END_TYPE\n{text}", KEPT
 
 
+def behind(n):
+    """A type with n fields of a type with n fields; between the two stands one that contains itself."""
+    first, then = (f"TYPE {name} STRUCT {''.join(f'f{k} : {of}; ' for k in range(n))}END_STRUCT END_TYPE\n" for name, of in ("st", "tu"))
+    last = f"t{n - 1}"
+    return text + f"TYPE {last} STRUCT a : {last}; END_STRUCT END_TYPE\n", f"rule 3 at {text.index(f'{last};')}"
+
+
+def named(n):
+    """A type with n fields of a type, and one with n fields of that."""
+    many = [("t", "u", "f"), ("s", "t", "g")]
+    text = "".join(f"TYPE {name} STRUCT {''.join(f'{word}{k} : {of}; ' for k in range(n))}END_STRUCT END_TYPE\n" for name, of, word in many)
+    return f"TYPE u STRUCT x : INT; END_STRUCT END_TYPE\n{text}", KEPT
+
+
+def behind(n):
+    """A type with n fields of a type with n fields; between the two stands one that contains itself."""
+    first, then = (f"TYPE {a} STRUCT {''.join(f'f{k} : {b}; ' for k in range(n))}END_STRUCT END_TYPE\n" for a, b in ("st", "tu"))
+    last = "TYPE u STRUCT x : INT; END_STRUCT END_TYPE\n"
+    return f"{first}TYPE e STRUCT a : e; END_STRUCT END_TYPE\n{then}{last}", f"rule 3 at {len(first) + len('TYPE e STRUCT a : ')}"
+
+
 def called(n):
     """A function block of n variables, which is called n times."""
     declared = "".join(f"v{k} : INT;\n" for k in range(n))
@@ -104,8 +125,9 @@ def ordinary(n):
 
 # How many parts n is, and how many less where instructions are counted, which takes some fifty times as long.
 CASES = {
-    variables: (10_000, 1), assignments: (419_000, 16), blocks: (1_000, 1), types: (2_500, 1), named: (10_000, 1), called: (10_000, 1),
-    values: (20_000, 4), shared: (1_000, 16), outputs: (10_000, 1), levels: (6_900, 16), ordinary: (19_000, 16),
+    variables: (10_000, 1), assignments: (419_000, 16), blocks: (1_000, 1), types: (2_500, 1), named: (10_000, 1),
+    behind: (10_000, 1), called: (10_000, 1), values: (20_000, 4), shared: (1_000, 16), outputs: (10_000, 1),
+    levels: (6_900, 16), ordinary: (19_000, 16),
 }
 
 

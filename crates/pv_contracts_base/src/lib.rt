@@ -4,6 +4,7 @@
 //! An edit of `must-fail` gives a wrong answer in its place.
 #![tactic(auto)]
 
+ghost use Rattle.pv_graph.specs.Cycles.{AreOnCycles};
 ghost use Rattle.pv_graph.specs.Graphs.{LeadFrom, Leads, lists_of, next_of};
 ghost use Rattle.pv_graph.specs.Rounds.{AreEnds};
 ghost use Rattle.pv_graph.specs.Steps.{steps_of};
@@ -57,6 +58,13 @@ pub fn is_on_cycle(graph: &Graph, alloc: Global, node: usize) -> Result<bool, Al
         IfOk result (λ b. IsTrue b ↔ LeadFrom g (next_of g node) node) }
 {
     graph.is_on_cycle(alloc, node)
+}
+
+/// [`Graph::on_cycles`].
+pub fn on_cycles(graph: &Graph, alloc: Global) -> Result<Vec<bool>, AllocError>
+    ensures { IfOk result (λ v. AreOnCycles (steps_of graph.now) v.items) }
+{
+    graph.on_cycles(alloc)
 }
 
 /// [`pv_types::flatten`].

@@ -4,10 +4,12 @@
 //! answer in its place.
 #![tactic(auto)]
 
+ghost use Rattle.pv_names.specs.Entries.{block_of};
 ghost use Rattle.pv_names.specs.Firsts.{number_in, or_number};
 ghost use Rattle.pv_names.specs.InScope.{scope_of};
 ghost use Rattle.pv_names.specs.Sorts.{want_tree};
 ghost use Rattle.pv_names.specs.Tables.{project_of};
+ghost use Rattle.pv_names.specs.Unique.{HaveUniqueNames};
 ghost use Rattle.pv_rules.specs.NoInstructions.{ArePlain};
 ghost use Rattle.pv_rules_call.specs.Links.{AreLinks};
 ghost use Rattle.pv_rules_code.specs.AreInCode.{AreInCode};
@@ -25,7 +27,7 @@ ghost use Rattle.pv_tree.specs.Tree.{BlockTree};
 ghost use Rattle.pv_tree.specs.View.{block_tree, expr_tree};
 ghost use Rattle.std.specs.Prelude.{Any, IfOk, IsTrue, List, None, OnOk, Some, bytes_eq, length, map, slice_get, ℕ, ◌<◌, ◌↔◌, ◌≡◌};
 
-use pv_names::{Firsts, Scope, Tables, Want};
+use pv_names::{Entry, Firsts, Scope, Tables, Want};
 use pv_place::Place;
 use pv_rules_call::Links;
 use pv_rules_code::CodeNear;
@@ -48,6 +50,13 @@ pub fn push(into: &mut Firsts, name: &Name, number: usize) -> Result<(), AllocEr
         ≡ or_number (number_in into.old key) (bytes_eq key name.now.key) number) }
 {
     into.push(name, number)
+}
+
+/// [`Entry::has_unique_names`].
+pub fn has_unique_names(entry: &Entry) -> bool
+    ensures { IsTrue result ↔ HaveUniqueNames (block_of entry.now).vars }
+{
+    entry.has_unique_names()
 }
 
 /// [`pv_rules_expr::nearer`].

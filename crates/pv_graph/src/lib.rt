@@ -4,6 +4,7 @@
 #![tactic(auto)]
 
 mod chains;
+mod cycles;
 mod graph;
 mod numbers;
 mod search;

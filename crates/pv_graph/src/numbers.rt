@@ -1,4 +1,4 @@
-//! Numbers for the nodes of a graph that no step raises, and that are the same only for nodes that lead to one another.
+//! Numbered for the nodes of a graph that no step raises, and that are the same only for nodes that lead to one another.
 //!
 //! By the walk of R. Tarjan ("Depth-first search and linear graph algorithms", 1972), with a list in place of recursion. No clause says that
 //! they are so: whoever takes them tests it (`graph`), and is only slower where they aren't.
@@ -17,6 +17,8 @@ struct Walk {
     gone: Vec<usize>,
     /// The numbers, from 1; 0 for a node that has none yet.
     numbers: Vec<usize>,
+    /// Of nodes with a number the first that was met of those with the same.
+    roots: Vec<usize>,
     /// The nodes without a number, in the order in which they were met.
     open: Vec<usize>,
     /// The nodes whose targets are being gone to, each led to by the one before.
@@ -68,6 +70,7 @@ impl Walk {
         self.given = self.given.saturating_add(1);
         while let Some(last) = self.open.pop() {
             put(self.numbers.as_mut_slice(), last, self.given);
+            put(self.roots.as_mut_slice(), last, node);
             if last == node {
                 break;
             }
@@ -119,14 +122,22 @@ impl Walk {
     }
 }
 
-/// The numbers of the nodes.
-pub(crate) fn numbers(alloc: Global, next: &[Targets]) -> Result<Vec<usize>, AllocError> {
+/// The numbers of nodes, and for each the one node that stands for all with the same number.
+#[derive(Drop)]
+pub(crate) struct Numbered {
+    pub(crate) numbers: Vec<usize>,
+    pub(crate) roots: Vec<usize>,
+}
+
+/// Those of the nodes.
+pub(crate) fn numbers(alloc: Global, next: &[Targets]) -> Result<Numbered, AllocError> {
     let count = next.len();
     let mut walk = Walk {
         met: vec![in alloc; 0; count]?,
         low: vec![in alloc; 0; count]?,
         gone: vec![in alloc; 0; count]?,
         numbers: vec![in alloc; 0; count]?,
+        roots: vec![in alloc; 0; count]?,
         open: Vec::new(alloc),
         path: Vec::new(alloc),
         count: 0,
@@ -135,5 +146,6 @@ pub(crate) fn numbers(alloc: Global, next: &[Targets]) -> Result<Vec<usize>, All
     for node in 0..count {
         walk.walk_from(next, node)?;
     }
-    Ok(walk.numbers)
+    let Walk { numbers, roots, .. } = walk;
+    Ok(Numbered { numbers, roots })
 }

@@ -24,17 +24,20 @@ one_more p (y ∷ ys) x =
     ]
 
 -- a list one longer, as a loop goes along it
+pub grown_by : {X Y : Type 0} (p : Y → Bool) (f : X → Y) (xs : List X) (i j : ℕ) (x : X) → i < length xs → x ≡ get_or xs i x → j ≡ i + 1
+    → first_number p (map f (take j xs)) ≡ or_number (first_number p (map f (take i xs))) (p (f x)) i
+grown_by p f xs i j x inside is e =
+    let below : i ≤ length xs = omega (arith, inside) in
+    let next : j ≡ suc i = omega (arith, e) in
+    ap (λ l. first_number p (map f l)) (ap (λ n. take n xs) next ∙ take-suc xs i x inside ∙ ap (λ y. take i xs ++ y ∷ []) (sym is))
+    ∙ ap (first_number p) (map-append f (take i xs) (x ∷ []))
+    ∙ one_more p (map f (take i xs)) (f x)
+    ∙ ap (or_number (first_number p (map f (take i xs))) (p (f x))) (length-map (take i xs) f ∙ length-take-le i xs below)
+
 pub grown : {X : Type 0} (f : X → List ℕ) (q : List ℕ) (xs : List X) (i j : ℕ) (x : X) → i < length xs → x ≡ get_or xs i x → j ≡ i + 1
     → first_number (bytes_eq q) (map f (take j xs))
     ≡ or_number (first_number (bytes_eq q) (map f (take i xs))) (bytes_eq q (f x)) i
-grown f q xs i j x inside is e =
-    let below : i ≤ length xs = omega (arith, inside) in
-    let next : j ≡ suc i = omega (arith, e) in
-    ap (λ l. first_number (bytes_eq q) (map f l)) (ap (λ n. take n xs) next ∙ take-suc xs i x inside ∙ ap (λ y. take i xs ++ y ∷ []) (sym is))
-    ∙ ap (first_number (bytes_eq q)) (map-append f (take i xs) (x ∷ []))
-    ∙ one_more (bytes_eq q) (map f (take i xs)) (f x)
-    ∙ ap (or_number (first_number (bytes_eq q) (map f (take i xs))) (bytes_eq q (f x)))
-    (length-map (take i xs) f ∙ length-take-le i xs below)
+grown f q xs i j x inside is e = grown_by (bytes_eq q) f xs i j x inside is e
 
 moved : {X : Type 0} (x : X) (xs : List X) (o : Option ℕ)
     → option_and_then (slice_get (x ∷ xs)) (option_map (λ n. suc n) o) ≡ option_and_then (slice_get xs) o
@@ -55,6 +58,23 @@ element f k g key same (x ∷ xs) =
       | true ↦ refl
       | false ↦ ap (option_map f) (moved x xs (first_number (bytes_eq key) (map k xs))) ∙ element f k g key same xs
     ])
+
+element_by : {X Y : Type 0} (p : Y → Bool) (f : X → Y) (xs : List X)
+    → option_map f (option_and_then (slice_get xs) (first_number p (map f xs))) ≡ find p (map f xs)
+element_by p f [] = refl
+element_by p f (x ∷ xs) =
+    elim (p (f x)) as (λ b. option_map f (option_and_then (slice_get (x ∷ xs)) (if b then Some 0 else option_map (λ n. suc n)
+    (first_number p (map f xs)))) ≡ cond b (Some (f x)) (find p (map f xs))) [
+      | true ↦ refl
+      | false ↦ ap (option_map f) (moved x xs (first_number p (map f xs))) ∙ element_by p f xs
+    ]
+
+-- the same, where nothing is looked for when a test says so
+pub element_unless : {X Y : Type 0} (p : Y → Bool) (f : X → Y) (xs : List X) (b : Bool)
+    → option_map f (option_and_then (slice_get xs) (if b then None else first_number p (map f xs)))
+    ≡ (if b then None else find p (map f xs))
+element_unless p f xs true = refl
+element_unless p f xs false = element_by p f xs
 
 -- what a slice gives at the number that was found
 at_number : {X B : Type 0} (now : B → X) (xs : List X) (n : ℕ) (r : Option B) → is_some r ≡ nat_lt n (length xs)

@@ -4,6 +4,8 @@ pub mod Functions
 pub mod LiteralSorts
 pub mod LookUps
 pub mod Parameters
+pub mod Sought
 pub mod Steps
+pub mod UniqueNames
 pub mod Widening
 pub mod ForCallers

@@ -1,54 +1,26 @@
 -- Parameters by name and alone, among variables.
-use Rattle.std.proofs.Common.{◌≡◌, ℕ, refl, sym, ap, ◌∙◌, List, [], ◌∷◌, ◌++◌, Option, Some, None, Bool, true, false, cond, filter, true≢false, ◌&&◌, is_some}
-use Rattle.std.specs.Prelude.{find, unwrap_or, option_map, bytes_eq}
+use Rattle.std.proofs.Common.{◌≡◌, ℕ, refl, sym, ap, List, [], ◌∷◌, ◌++◌, Option, Some, None, true, false, cond, filter, true≢false, ◌&&◌, is_some}
+use Rattle.std.specs.Prelude.{find, option_map, bytes_eq}
 use Rattle.pv_types.specs.Tree.{VarTree, var}
-use Rattle.pv_types.specs.View.{name_of, section_of, var_tree, type_tree}
+use Rattle.pv_types.specs.View.{var_tree, type_tree}
 use Rattle.pv_types.specs.declared.var.Var.{Var}
 use Rattle.pv_tree.specs.Tree.{PlacedName, ArgTree, BlockTree}
-use Rattle.pv_tree.specs.Scopes.{has_key, is_fc}
+use Rattle.pv_tree.specs.Scopes.{is_fc}
 use Rattle.pv_tree.specs.Callees.{How, is_param, is_input, Param, params_of_vars, params_of, first_param, only, only_input, param_for}
-use Rattle.pv_names.specs.Params.{param_of, is_sought, sole_input}
+use Rattle.pv_names.specs.Params.{param_of, sole_input}
+use Rattle.pv_names.specs.Doubled.{is_sought}
+use Rattle.pv_names.specs.declared.doubled.Part.TheVariants.{Params}
 use Rattle.pv_types.specs.declared.declaration.Section.TheVariants.{Input, Output, InOut, Static, Temp, Const}
 
-abbrev is_named : List ℕ → VarTree → Bool
-is_named key v = has_key key (name_of v)
-
-abbrev may_be : VarTree → Bool
-may_be v = is_param (section_of v)
-
 module _ (key : List ℕ) where
-  pub none_sought : (xs : List VarTree) → find (is_named key) xs ≡ None → find (is_sought key) xs ≡ None
-  none_sought [] e = refl
-  none_sought (x ∷ xs) e = by (is_named key x) (may_be x) refl e (none_sought xs)
-    where
-      by : (h n : Bool) → is_named key x ≡ h → cond h (Some x) (find (is_named key) xs) ≡ None
-          → (find (is_named key) xs ≡ None → find (is_sought key) xs ≡ None)
-          → cond (n && is_named key x) (Some x) (find (is_sought key) xs) ≡ None
-      by true n hx e ih = absurd (true≢false (ap is_some e))
-      by false true hx e ih = ap (λ b. cond b (Some x) (find (is_sought key) xs)) hx ∙ ih e
-      by false false hx e ih = ih e
-
-  pub first_sought : (xs : List VarTree) (v : VarTree) → find (is_named key) xs ≡ Some v → may_be v ≡ true
-      → find (is_sought key) xs ≡ Some v
-  first_sought [] v e i = absurd (true≢false (sym (ap is_some e)))
-  first_sought (x ∷ xs) v e i = by (is_named key x) (may_be x) refl refl e (first_sought xs v)
-    where
-      by : (h n : Bool) → is_named key x ≡ h → may_be x ≡ n → cond h (Some x) (find (is_named key) xs) ≡ Some v
-          → (find (is_named key) xs ≡ Some v → may_be v ≡ true → find (is_sought key) xs ≡ Some v)
-          → cond (n && is_named key x) (Some x) (find (is_sought key) xs) ≡ Some v
-      by true true hx kx e ih = ap (λ b. cond b (Some x) (find (is_sought key) xs)) hx ∙ e
-      by true false hx kx e ih = absurd (true≢false (sym i ∙ ap may_be (sym (ap (λ o. unwrap_or o x) e)) ∙ kx))
-      by false true hx kx e ih = ap (λ b. cond b (Some x) (find (is_sought key) xs)) hx ∙ ih e i
-      by false false hx kx e ih = ih e i
-
   -- a parameter of this name among those of variables
-  pub param_among : (xs : List VarTree) → first_param (params_of_vars xs) key ≡ option_map param_of (find (is_sought key) xs)
+  pub param_among : (xs : List VarTree) → first_param (params_of_vars xs) key ≡ option_map param_of (find (is_sought Params key) xs)
   param_among [] = refl
   param_among (var name section ty start place ∷ xs) =
       elim (is_param section) as (λ n. first_param (cond n (param_of (var name section ty start place) ∷ params_of_vars xs) (params_of_vars xs)) key
-      ≡ option_map param_of (cond (n && bytes_eq key name.key) (Some (var name section ty start place)) (find (is_sought key) xs))) [
+      ≡ option_map param_of (cond (n && bytes_eq key name.key) (Some (var name section ty start place)) (find (is_sought Params key) xs))) [
         | true ↦ elim (bytes_eq key name.key) as (λ h. cond h (Some (param_of (var name section ty start place))) (first_param (params_of_vars xs) key)
-            ≡ option_map param_of (cond h (Some (var name section ty start place)) (find (is_sought key) xs))) [ true ↦ refl | false ↦ param_among xs ]
+            ≡ option_map param_of (cond h (Some (var name section ty start place)) (find (is_sought Params key) xs))) [ true ↦ refl | false ↦ param_among xs ]
         | false ↦ param_among xs
       ]
 
@@ -98,10 +70,7 @@ pub mapped : {X Y Z : Type 0} (f : X → Y) (g : Y → Z) (o : Option X) → opt
 mapped f g None = refl
 mapped f g (Some x) = refl
 
--- a variable of the code that is a parameter
-pub may_seen : (v : Var) → may_be (var_tree v) ≡ is_param v.of.now.section
-may_seen v = refl
-
+-- a variable of the code as a parameter
 pub param_seen : (v : Var)
     → Some (record { key = v.name.now.key; section = v.of.now.section; ty = type_tree v.of.now.ty }) ≡ Some (param_of (var_tree v))
 param_seen v = refl

@@ -1,5 +1,5 @@
 -- Names with their numbers in a list: of each name the first is found.
-use Rattle.std.specs.Prelude.{◌≡◌, ℕ, suc, List, [], ◌∷◌, Option, Some, None, option_map, bytes_eq, Bool as Truth, if◌then◌else◌}
+use Rattle.std.specs.Prelude.{◌≡◌, ℕ, suc, List, [], ◌∷◌, Option, Some, None, option_map, slice_get, bytes_eq, Bool as Truth, if◌then◌else◌}
 use Rattle.indexmap.specs.IndexMap.{get_by}
 use Rattle.pv_names.specs.declared.firsts.Firsts.{Firsts}
 
@@ -21,3 +21,7 @@ first_number test (x ∷ xs) =
 -- of each key the first in the list is found
 abbrev pub FindsFirsts : Firsts → List (List ℕ) → Type 0
 FindsFirsts f keys = (key : List ℕ) → number_in f key ≡ first_number (bytes_eq key) keys
+
+-- of each key in the list its own number is found
+abbrev pub FindsEach : Firsts → List (List ℕ) → Type 0
+FindsEach f keys = (n : ℕ) (key : List ℕ) → slice_get keys n ≡ Some key → number_in f key ≡ Some n

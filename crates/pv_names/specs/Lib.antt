@@ -1,5 +1,6 @@
 pub mod DeclarationSets
 pub mod Callees
+pub mod Doubled
 pub mod Entries
 pub mod Firsts
 pub mod InScope
@@ -8,6 +9,7 @@ pub mod Needed
 pub mod Params
 pub mod Sorts
 pub mod Tables
+pub mod Unique
 pub mod Views
 pub mod Widest
 pub mod Written

@@ -1,19 +1,11 @@
--- Parameters among variables: the first of a name, and an only input.
-use Rattle.std.specs.Prelude.{ℕ, List, [], ◌∷◌, map, find, Bool as Truth, ◌&&◌, if◌then◌else◌, Option, Some, None}
+-- Parameters among variables: what they are, and an only input.
+use Rattle.std.specs.Prelude.{List, [], ◌∷◌, if◌then◌else◌, Option, Some, None}
 use Rattle.pv_types.specs.Tree.{VarTree}
-use Rattle.pv_types.specs.View.{var_tree, name_of, section_of, declared_type_of}
-use Rattle.pv_types.specs.declared.var.Var.{Var}
-use Rattle.pv_tree.specs.Scopes.{has_key}
-use Rattle.pv_tree.specs.Callees.{is_param, is_input, Param}
+use Rattle.pv_types.specs.View.{name_of, section_of, declared_type_of}
+use Rattle.pv_tree.specs.Callees.{is_input, Param}
 
 abbrev pub param_of : VarTree → Param
 param_of v = record { key = (name_of v).key; section = section_of v; ty = declared_type_of v }
-
-abbrev pub is_sought : List ℕ → VarTree → Truth
-is_sought key v = is_param (section_of v) && has_key key (name_of v)
-
-abbrev pub first_in : List ℕ → List Var → Option VarTree
-first_in key vars = find (is_sought key) (map var_tree vars)
 
 -- the only input, where one was found before these, or none
 abbrev pub sole_input : Option VarTree → List VarTree → Option VarTree

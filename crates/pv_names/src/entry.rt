@@ -1,12 +1,15 @@
 //! A block with the table of its variables.
-ghost use Rattle.std.specs.Prelude.{◌≡◌, None, map, option_map};
+ghost use Rattle.std.specs.Prelude.{◌≡◌, ◌↔◌, None, IsTrue, map, option_map};
 ghost use Rattle.std.proofs.Props.{props};
 ghost use Rattle.pv_names.specs.DeclarationSets.{declarations-are-a-set};
 ghost use Rattle.pv_types.specs.View.{var_tree, var_trees};
 ghost use Rattle.pv_names.specs.Firsts.{FindsFirsts};
 ghost use Rattle.pv_names.specs.Needed.{needed_among};
 ghost use Rattle.pv_names.specs.Params.{sole_input};
+ghost use Rattle.pv_names.specs.Unique.{HaveUniqueNames};
+ghost use Rattle.pv_names.specs.Doubled.{FindsDoubled};
 
+use crate::doubled::{Doubled, Part, is_of};
 use crate::firsts::Firsts;
 use crate::needed::{needed_among, sole_input};
 use pv_tree::Block;
@@ -21,19 +24,24 @@ pub struct Entry<'p> {
     numbers: Firsts,
     needed: Vec<Var<'p>>,
     sole: Option<Var<'p>>,
+    unique: bool,
+    doubled: Doubled,
     ghost all: { map var_tree vars.items ≡ var_trees block.now.interface.vars.items } by { Prim.hlevel (props, declarations-are-a-set) },
     ghost by_name: { FindsFirsts numbers (map (λ v. v.name.now.key) vars.items) },
     ghost all_needed: { map var_tree needed.items ≡ needed_among block.now.kind (map var_tree vars.items) } by { Prim.hlevel (props, declarations-are-a-set) },
     ghost one_input: { option_map var_tree sole ≡ sole_input None (map var_tree vars.items) } by { Prim.hlevel (props, declarations-are-a-set) },
+    ghost apart: { IsTrue unique ↔ HaveUniqueNames (var_trees block.now.interface.vars.items) },
+    ghost by_part: { FindsDoubled doubled unique (map var_tree vars.items) },
 }
 
 impl<'p> Entry<'p> {
-    ghost use Rattle.std.specs.Prelude.{IfOk, slice_get, bytes_eq};
+    ghost use Rattle.std.specs.Prelude.{IfOk, slice_get, bytes_eq, find, if◌then◌else◌};
     ghost use Rattle.pv_types.specs.View.{var_tree, name_of};
     ghost use Rattle.pv_tree.specs.View.{block_tree};
     ghost use Rattle.pv_tree.specs.Scopes.{first_var};
     ghost use Rattle.pv_names.specs.Entries.{block_of};
     ghost use Rattle.pv_names.specs.Firsts.{first_number};
+    ghost use Rattle.pv_names.specs.Doubled.{is_sought};
 
     /// The block with its table.
     pub fn of(alloc: Global, block: &'p Block) -> Result<Entry<'p>, AllocError>
@@ -43,12 +51,16 @@ impl<'p> Entry<'p> {
         let numbers = Firsts::of_vars(alloc, vars.as_slice())?;
         let needed = needed_among(alloc, &block.kind, vars.as_slice())?;
         let sole = sole_input(vars.as_slice());
+        let unique = numbers.has_each(vars.as_slice());
+        let doubled = Doubled::of(alloc, unique, vars.as_slice())?;
         Ok(Entry {
             block,
             vars,
             numbers,
             needed,
             sole,
+            unique,
+            doubled,
         })
     }
 
@@ -80,6 +92,13 @@ impl<'p> Entry<'p> {
         self.sole
     }
 
+    /// Whether no two of the variables have one name.
+    pub fn has_unique_names(&self) -> bool
+        ensures { IsTrue result ↔ HaveUniqueNames (block_of self.now).vars }
+    {
+        self.unique
+    }
+
     /// The number of the first variable of this name that the block declares.
     pub fn number_of(&self, name: &Name) -> Option<usize>
         ensures { result ≡ first_number (bytes_eq name.now.key)
@@ -105,6 +124,33 @@ impl<'p> Entry<'p> {
     {
         match self.numbers.find(name) {
             Some(number) => self.at(number),
+            None => None,
+        }
+    }
+
+    /// The first of a part that has this name, where the first variable of the name is none of the part.
+    fn behind_first(&self, part: Part, name: &Name) -> Option<Var<'p>>
+        ensures { option_map var_tree result ≡ (if self.now.unique then None
+            else find (is_sought part name.now.key) (block_of self.now).vars) }
+    {
+        match self.doubled.find(part, name) {
+            Some(number) => self.at(number),
+            None => None,
+        }
+    }
+
+    /// The first variable of this name that is of a part of those that the block declares.
+    pub(crate) fn find_of(&self, part: Part, name: &Name) -> Option<Var<'p>>
+        ensures { option_map var_tree result
+            ≡ find (is_sought part name.now.key) (block_of self.now).vars }
+    {
+        match self.find(name) {
+            Some(var) => {
+                if is_of(part, var.of.section) {
+                    return Some(var);
+                }
+                self.behind_first(part, name)
+            }
             None => None,
         }
     }

@@ -1,6 +1,6 @@
 //! Names with their numbers in a list, of which the first of each name is found.
-ghost use Rattle.std.specs.Prelude.{◌≡◌, ℕ, List, None, OnOk, IfOk, map};
-ghost use Rattle.pv_names.specs.Firsts.{number_in, or_number, FindsFirsts};
+ghost use Rattle.std.specs.Prelude.{◌≡◌, ◌↔◌, ℕ, List, None, Some, OnOk, IfOk, IsTrue, map};
+ghost use Rattle.pv_names.specs.Firsts.{number_in, or_number, FindsFirsts, FindsEach};
 ghost use Rattle.std.specs.Prelude.{bytes_eq};
 
 use indexmap::IndexMap;
@@ -48,6 +48,28 @@ impl Firsts {
             Some(number) => Some(*number),
             None => None,
         }
+    }
+
+    /// Whether this is the number of a name.
+    fn has_at(&self, name: &Name, number: usize) -> bool
+        ensures { IsTrue result ↔ (number_in self.now name.now.key ≡ Some number) }
+    {
+        match self.find(name) {
+            Some(first) => first == number,
+            None => false,
+        }
+    }
+
+    /// Whether each variable's own number is that of its name.
+    pub(crate) fn has_each(&self, vars: &[Var]) -> bool
+        ensures { IsTrue result ↔ FindsEach self.now (map (λ v. v.name.now.key) vars.now) }
+    {
+        for (i, var) in vars.iter().enumerate() {
+            if !self.has_at(var.name, i) {
+                return false;
+            }
+        }
+        true
     }
 
     /// The names of variables.

@@ -6,6 +6,7 @@
 
 mod blocks;
 mod callee;
+mod doubled;
 mod entry;
 mod firsts;
 mod function;

@@ -1,14 +1,15 @@
 //! Which parameter of a block an argument is for.
-ghost use Rattle.std.specs.Prelude.{◌≡◌, find, option_map};
+ghost use Rattle.std.specs.Prelude.{◌≡◌, option_map};
 ghost use Rattle.pv_types.specs.View.{var_tree};
 ghost use Rattle.pv_tree.specs.View.{arg_tree};
 ghost use Rattle.pv_tree.specs.Callees as callees;
 ghost use Rattle.pv_names.specs.Entries.{block_of};
 ghost use Rattle.pv_names.specs.Views.{held_tree};
 ghost use Rattle.pv_names.specs.Callees.{how_tree, param_tree};
-ghost use Rattle.pv_names.specs.Params.{param_of, is_sought, first_in};
+ghost use Rattle.pv_names.specs.Params.{param_of};
 
 use crate::callee::{How, is_by_stl};
+use crate::doubled::Part;
 use crate::entry::Entry;
 use crate::needed::is_fc;
 use crate::thing::{Held, level_of};
@@ -33,18 +34,6 @@ pub(crate) fn is_param(section: Section) -> bool
     }
 }
 
-/// The first parameter of this name among variables.
-fn first_among<'p>(vars: &[Var<'p>], name: &Name) -> Option<Var<'p>>
-    ensures { option_map var_tree result ≡ first_in name.now.key vars.now }
-{
-    for var in vars {
-        if is_param(var.of.section) && name.key() == var.name.key() {
-            return Some(*var);
-        }
-    }
-    None
-}
-
 /// The only input of a function.
 pub fn only_var<'p>(entry: &'p Entry<'p>) -> Option<Var<'p>>
     ensures { option_map (λ v. param_of (var_tree v)) result
@@ -63,22 +52,6 @@ fn only_input<'p>(entry: &'p Entry<'p>) -> Option<Param<'p>>
 {
     match only_var(entry) {
         Some(var) => Some(Param::Var(var)),
-        None => None,
-    }
-}
-
-/// The parameter of this name that a block declares.
-fn declared_param<'p>(entry: &'p Entry<'p>, name: &Name) -> Option<Var<'p>>
-    ensures { option_map var_tree result
-        ≡ find (is_sought name.now.key) (block_of entry.now).vars }
-{
-    match entry.find(name) {
-        Some(var) => {
-            if is_param(var.of.section) {
-                return Some(var);
-            }
-            first_among(entry.vars(), name)
-        }
         None => None,
     }
 }
@@ -105,7 +78,7 @@ pub fn named_param<'p>(how: How, entry: &'p Entry<'p>, name: &Name) -> Option<Pa
     ensures { option_map param_tree result ≡ callees.first_param
         (callees.params_of (how_tree how) (block_of entry.now)) name.now.key }
 {
-    match declared_param(entry, name) {
+    match entry.find_of(Part::Params, name) {
         Some(var) => Some(Param::Var(var)),
         None => value_param(how, entry, name),
     }

@@ -1,22 +1,21 @@
 //! A block of a project, in which names are looked up.
-ghost use Rattle.std.specs.Prelude.{◌≡◌, ◌||◌, find, option_map};
-ghost use Rattle.pv_types.specs.View.{var_tree, vars_tree};
+ghost use Rattle.std.specs.Prelude.{◌≡◌, option_map};
+ghost use Rattle.pv_types.specs.View.{var_tree, var_trees};
 ghost use Rattle.pv_tree.specs.View.{block_tree, body_tree, step_tree, operand_tree, expr_tree};
 ghost use Rattle.pv_tree.specs.Scopes as scopes;
 ghost use Rattle.pv_tree.specs.Things as things;
 ghost use Rattle.pv_names.specs.Entries.{block_of};
 ghost use Rattle.pv_names.specs.Tables.{project_of};
 ghost use Rattle.pv_names.specs.Views.{held_tree, thing_tree};
-ghost use Rattle.pv_names.specs.InScope.{scope_of, is_sought, first_where};
+ghost use Rattle.pv_names.specs.InScope.{scope_of};
 
+use crate::doubled::Part;
 use crate::entry::Entry;
 use crate::tables::Tables;
-use crate::thing::{
-    Held, Thing, dated, is_address, is_of_instance, level_of, thing_of_var, type_of_bits,
-};
+use crate::thing::{Held, Thing, dated, is_address, level_of, thing_of_var, type_of_bits};
 use pv_place::Place;
 use pv_tree::{Block, BlockKind, Body, Root};
-use pv_types::{Name, Section, Var, Vars, named_among};
+use pv_types::{Name, Var, Vars, named_among};
 use pv_word::Ty;
 
 /// A block of a project, in which names are looked up.
@@ -75,30 +74,12 @@ pub fn quoted_value(block: &Block, name: &Name) -> Option<Ty>
     own_value(block, name, false)
 }
 
-/// Whether variables of a section count: all do, or an instance has them.
-fn counts(all: bool, section: Section) -> bool
-    ensures { result ≡ (all || scopes.is_of_instance section) }
-{
-    all || is_of_instance(section)
-}
-
-/// The first of the variables of this name that are declared at once; those that an instance lacks count only where all do.
-fn first_of<'p>(of: &'p Vars, name: &Name, all: bool) -> Option<Var<'p>>
-    ensures { option_map var_tree result ≡ find (is_sought all name.now.key) (vars_tree of.now) }
-{
-    if counts(all, of.section) {
-        named_among(of, name)
-    } else {
-        None
-    }
-}
-
-/// The first of the variables of this name; those that an instance lacks count only where all do.
-fn first_among<'p>(vars: &'p [Vars], name: &Name, all: bool) -> Option<Var<'p>>
-    ensures { option_map var_tree result ≡ first_where all name.now.key vars.now }
+/// The first of the variables of this name.
+fn first_among<'p>(vars: &'p [Vars], name: &Name) -> Option<Var<'p>>
+    ensures { option_map var_tree result ≡ scopes.first_var (var_trees vars.now) name.now.key }
 {
     for of in vars {
-        if let Some(var) = first_of(of, name, all) {
+        if let Some(var) = named_among(of, name) {
             return Some(var);
         }
     }
@@ -210,7 +191,7 @@ impl<'p> Scope<'p> {
             name.now.key place }
     {
         match ty {
-            Held::Struct(vars) => match first_among(vars, name, true) {
+            Held::Struct(vars) => match first_among(vars, name) {
                 Some(var) => Thing::Part(level_of(&var.of.ty)),
                 None => Thing::NoName(place),
             },
@@ -288,13 +269,5 @@ fn field_of_instance<'p>(entry: &Entry<'p>, name: &Name) -> Option<Var<'p>>
     ensures { option_map var_tree result
         ≡ scopes.first_var (things.fields_of_type (block_of entry.now)) name.now.key }
 {
-    match entry.find(name) {
-        Some(var) => {
-            if is_of_instance(var.of.section) {
-                return Some(var);
-            }
-            first_among(entry.block.interface.vars.as_slice(), name, false)
-        }
-        None => None,
-    }
+    entry.find_of(Part::Fields, name)
 }

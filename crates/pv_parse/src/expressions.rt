@@ -122,23 +122,12 @@ pub fn pop_word(stack: &mut Vec<Item>) -> Result<(Name, Place), Stop>
     Ok(word)
 }
 
-/// The steps with one more behind them. A single one takes no room beyond itself, since most operands have no more.
-fn with_step(steps: Vec<Step>, step: Step) -> Result<Vec<Step>, AllocError>
-    ensures { IfOk result (λ longer. longer.items ≡ steps.items ++ step ∷ []) }
-{
-    let mut longer = steps;
-    if longer.is_empty() {
-        let _ = longer.reserve_exact(1);
-    }
-    added(longer, step)
-}
-
 /// Puts a path with one more step on the stack.
 pub fn push_step(from: Operand, step: Step, stack: &mut Vec<Item>) -> Result<(), Stop>
     ensures { Leaves result (stack_of stack.new) (Some
         (path (stepped (path_tree from) (step_tree step)) ∷ stack_of stack.old)) }
 {
-    let steps = with_step(from.steps, step);
+    let steps = added(from.steps, step);
     let (root, steps) = with(from.root, steps)?;
     push(
         stack,

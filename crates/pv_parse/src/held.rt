@@ -14,11 +14,14 @@ pub fn with<A: Drop, B, E>(first: A, second: Result<B, E>) -> Result<(A, B), E>
     }
 }
 
-/// The list with one more behind it.
+/// The list with one more behind it. A single one takes no room beyond itself, since many lists have no more.
 pub fn added<T: Drop>(list: Vec<T>, last: T) -> Result<Vec<T>, AllocError>
     ensures { IfOk result (λ longer. longer.items ≡ list.items ++ last ∷ []) }
 {
     let mut longer = list;
+    if longer.is_empty() {
+        let _ = longer.reserve_exact(1);
+    }
     longer.push(last)?;
     Ok(longer)
 }

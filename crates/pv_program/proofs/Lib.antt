@@ -3,6 +3,8 @@ mod Keeping
 mod Pairing
 mod Standing
 mod Passing
+mod Seeking
+mod Skipping
 mod Numbers
 mod Making
 mod Arguments

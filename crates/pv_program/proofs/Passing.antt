@@ -1,16 +1,17 @@
 -- What is handed in and out, one parameter more.
 use Rattle.std.proofs.Common.{◌≡◌, ℕ, ◌+◌, ◌<◌, ◌≤◌, List, [], ◌∷◌, ◌++◌, map, filter, length, take, get_or, Option, Some, None, Bool, true, false, refl, sym, ap, ◌∙◌, subst, append_assoc}
-use Rattle.std.specs.Prelude.{◌&&◌, ◌||◌, not, find, if◌then◌else◌}
+use Rattle.std.specs.Prelude.{find, ◌&&◌, is_none, if◌then◌else◌}
 use Rattle.pv_word.specs.declared.types.Ty.{Ty}
 use Rattle.std.proofs.lemmas.List.{append-nil, take_all}
 use Rattle.pv_types.specs.declared.declaration.Section.{Section}
 use Rattle.pv_types.specs.declared.declaration.Section.TheVariants.{Input, Output, InOut, Static, Temp, Const}
-use Rattle.pv_types.specs.Tree.{VarTree, var}
+use Rattle.pv_types.specs.Tree.{VarTree, var, plain}
 use Rattle.pv_types.specs.declared.var.Var.{Var}
 use Rattle.pv_types.specs.View.{var_tree, name_of, section_of}
 use Rattle.pv_types.proofs.ForCallers.{var_seen}
 use Rattle.pv_tree.specs.Tree.{ExprTree, ArgTree, BlockTree}
-use Rattle.pv_tree.specs.Callees.{How, CallSite, params_of_vars, value_param}
+use Rattle.pv_tree.specs.Scopes.{first_var, value_key}
+use Rattle.pv_tree.specs.Callees.{How, CallSite, params_of_vars, value_param, is_by_stl}
 use Rattle.pv_tree.specs.Parts.{operand_of}
 use Rattle.pv_mean.specs.Sources.{Source}
 use Rattle.pv_mean.specs.Activations.{word_begins, spot_of, value_number}
@@ -77,7 +78,7 @@ taken-over h without (one_taken a e t g rest) = one_taken a e t g (taken-over h 
 
 -- ---- variables as parameters
 
-handed-append : (source : Source) (callee : BlockTree) (test : Section → Bool) (vs : List VarTree) (v : VarTree)
+pub handed-append : (source : Source) (callee : BlockTree) (test : Section → Bool) (vs : List VarTree) (v : VarTree)
     → handed_of source callee test (vs ++ v ∷ []) ≡ handed_of source callee test vs ++ handed_if source callee test v
 handed-append source callee test [] v = append-nil (handed_if source callee test v)
 handed-append source callee test (w ∷ vs) v =
@@ -197,15 +198,20 @@ pub given-grown : {source : Source} {block : BlockTree} {p : Program} {site : Ca
 given-grown {source} {block} {p} {site} {callee} test xs i j x cs inside is e are =
     subst (λ l. AreGiven source block p site callee cs l) (sym (handed-grown source callee test var_tree xs i j x inside is e)) are
 
-pub given-whole : {source : Source} {block : BlockTree} {p q : Program} {site : CallSite} {callee : BlockTree} (test : Section → Bool)
-    (xs : List Var) (i : ℕ) (cs slice : List Inward) (hs : List Handed) → Extends p q → length xs ≤ i → slice ≡ cs
-    → handed_of source callee test (map var_tree xs) ≡ hs
+pub given-seen : {source : Source} {block : BlockTree} {p : Program} {site : CallSite} {callee : BlockTree} (test : Section → Bool)
+    (xs : List Var) (i : ℕ) (cs : List Inward) (vars : List VarTree) → length xs ≤ i → map var_tree xs ≡ vars
     → AreGiven source block p site callee cs (handed_of source callee test (map var_tree (take i xs)))
-    → AreGiven source block q site callee slice hs
-given-whole {source} {block} {p} {q} {site} {callee} test xs i cs slice hs x end same all are =
-    subst (λ l. AreGiven source block q site callee l hs) (sym same)
-    (subst (λ l. AreGiven source block q site callee cs l) (ap (λ l. handed_of source callee test (map var_tree l)) (take_all i xs end) ∙ all)
-    (given-kept x are))
+    → AreGiven source block p site callee cs (handed_of source callee test vars)
+given-seen {source} {block} {p} {site} {callee} test xs i cs vars end seen are =
+    subst (λ l. AreGiven source block p site callee cs l)
+    (ap (λ l. handed_of source callee test (map var_tree l)) (take_all i xs end) ∙ ap (handed_of source callee test) seen) are
+
+pub given-whole : {source : Source} {block : BlockTree} {p q : Program} {site : CallSite} {callee : BlockTree} (cs slice : List Inward)
+    (hs all : List Handed) → Extends p q → slice ≡ cs → hs ≡ all → AreGiven source block p site callee cs hs
+    → AreGiven source block q site callee slice all
+given-whole {source} {block} {p} {q} {site} {callee} cs slice hs all x same is are =
+    subst (λ l. AreGiven source block q site callee l all) (sym same)
+    (subst (λ l. AreGiven source block q site callee cs l) is (given-kept x are))
 
 -- a parameter more that has an argument
 pub taken-one : {source : Source} {block : BlockTree} {p q : Program} {site : CallSite} {callee : BlockTree} (old new : List Outward) (hs : List Handed)
@@ -250,25 +256,14 @@ pub taken-grown : {source : Source} {block : BlockTree} {p : Program} {site : Ca
 taken-grown {source} {block} {p} {site} {callee} test xs i j x cs inside is e are =
     subst (λ l. AreTaken source block p site callee cs l) (sym (handed-grown source callee test var_tree xs i j x inside is e)) are
 
--- the variables of a block
-pub parameters-in : (source : Source) (callee seen : BlockTree) (vars : List VarTree) → seen ≡ callee → vars ≡ seen.vars
-    → handed_of source callee goes_in vars ≡ handed_in source callee
-parameters-in source callee seen vars is e =
-    ap (handed_of source callee goes_in) (e ∙ ap (λ (b : BlockTree). b.vars) is) ∙ all-in source callee
-
-pub parameters-out : (source : Source) (how : How) (callee seen : BlockTree) (vars : List VarTree) → seen ≡ callee
-    → vars ≡ seen.vars → handed_of source callee goes_out vars ++ values_handed source how callee ≡ handed_out source how callee
-parameters-out source how callee seen vars is e =
-    ap (λ l. handed_of source callee goes_out l ++ values_handed source how callee) (e ∙ ap (λ (b : BlockTree). b.vars) is)
-    ∙ all-out source how callee
-
 -- all variables, and what is handed out behind them
-pub taken-all : {source : Source} {block : BlockTree} {p : Program} {site : CallSite} {callee : BlockTree} (test : Section → Bool)
-    (xs : List Var) (i : ℕ) (cs : List Outward) → length xs ≤ i
+pub taken-seen : {source : Source} {block : BlockTree} {p : Program} {site : CallSite} {callee : BlockTree} (test : Section → Bool)
+    (xs : List Var) (i : ℕ) (cs : List Outward) (vars : List VarTree) → length xs ≤ i → map var_tree xs ≡ vars
     → AreTaken source block p site callee cs (handed_of source callee test (map var_tree (take i xs)))
-    → AreTaken source block p site callee cs (handed_of source callee test (map var_tree xs))
-taken-all {source} {block} {p} {site} {callee} test xs i cs end are =
-    subst (λ l. AreTaken source block p site callee cs l) (ap (λ l. handed_of source callee test (map var_tree l)) (take_all i xs end)) are
+    → AreTaken source block p site callee cs (handed_of source callee test vars)
+taken-seen {source} {block} {p} {site} {callee} test xs i cs vars end seen are =
+    subst (λ l. AreTaken source block p site callee cs l)
+    (ap (λ l. handed_of source callee test (map var_tree l)) (take_all i xs end) ∙ ap (handed_of source callee test) seen) are
 
 pub taken-end : {source : Source} {block : BlockTree} {p q : Program} {site : CallSite} {callee : BlockTree} (cs slice : List Outward)
     (hs all : List Handed) → Extends p q → slice ≡ cs → hs ≡ all → AreTaken source block p site callee cs hs
@@ -300,3 +295,16 @@ pub values-handed-none : {source : Source} {block : BlockTree} {p : Program} {si
 values-handed-none {source} {block} {p} {site} {callee} how cs hs e are =
     subst (λ l. AreTaken source block p site callee cs (hs ++ map (λ p. record { param = p; spot = λ first. value_spot source callee }) l)) e
     (subst (λ l. AreTaken source block p site callee cs l) (sym (append-nil hs)) are)
+
+-- without an argument for it
+pub values-passed : {source : Source} {block : BlockTree} {p : Program} {site : CallSite} {callee : BlockTree} (how : How)
+    (cs : List Outward) (hs : List Handed) → None ≡ find (is_for site.how callee value_key) site.call.args
+    → AreTaken source block p site callee cs hs → AreTaken source block p site callee cs (hs ++ values_handed source how callee)
+values-passed {source} {block} {p} {site} {callee} how cs hs without before =
+    lead (is_by_stl how && is_none (first_var callee.vars value_key)) callee.value
+  where
+    lead : (b : Bool) (o : Option Ty) → AreTaken source block p site callee cs (hs ++ map (λ p. record { param = p; spot = λ first. value_spot source callee })
+        (if b then elim o [ None ↦ [] | Some ty ↦ record { key = value_key; section = Output; ty = plain ty } ∷ [] ] else []))
+    lead true (Some ty) = taken-over (handed_value source callee ty) (sym without) before
+    lead true None = subst (λ l. AreTaken source block p site callee cs l) (sym (append-nil hs)) before
+    lead false o = subst (λ l. AreTaken source block p site callee cs l) (sym (append-nil hs)) before

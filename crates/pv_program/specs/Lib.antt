@@ -5,6 +5,8 @@ pub mod Growth
 pub mod Pairs
 pub mod Made
 pub mod Handed
+pub mod Sought
+pub mod Given
 pub mod Reached
 pub mod Rows
 pub mod Labels

@@ -1,10 +1,10 @@
 //! Calls: which block one runs, on which instance, and what is handed in and out in the order of the declarations.
 //!
-//! The arguments of a call are gone along once, for the parameters that they are for; then each parameter finds its own by its name.
-ghost use Rattle.std.specs.Prelude.{◌≡◌, ◌++◌, ◌∷◌, [], List, map, slice_get, option_map, is_some, IfOk, IfErr, IfSome, OnOk, None, Some, Contains};
+//! The arguments of a call are gone along once, for the parameters that they are for; then each parameter that has one finds it by its name.
+ghost use Rattle.std.specs.Prelude.{◌≡◌, ◌++◌, ◌∷◌, [], List, map, slice_get, option_map, is_some, IfOk, IfErr, IfSome, OnOk, None, Some, true, Contains};
 ghost use Rattle.pv_types.specs.Tree.{VarTree};
 ghost use Rattle.pv_types.specs.View.{var_tree};
-ghost use Rattle.pv_tree.specs.View.{call_tree, expr_tree, operand_tree};
+ghost use Rattle.pv_tree.specs.View.{arg_tree, call_tree, expr_tree, operand_tree};
 ghost use Rattle.pv_tree.specs.Tree.{ArgTree, BlockTree};
 ghost use Rattle.pv_tree.specs.Callees as callees;
 ghost use Rattle.pv_tree.specs.Callees.{CallSite};
@@ -14,6 +14,7 @@ ghost use Rattle.pv_tree.specs.Parts as parts;
 ghost use Rattle.pv_tree.specs.Parts.{site};
 ghost use Rattle.pv_names.specs.Callees.{how_tree};
 ghost use Rattle.pv_names.specs.Entries.{block_of};
+ghost use Rattle.pv_mean.specs.Calls as calls;
 ghost use Rattle.pv_mean.specs.Sources.{Source};
 ghost use Rattle.pv_mean.specs.Placed.{call_placed};
 ghost use Rattle.pv_run.specs.Code.{GoesTo, AreInward, AreOutward, IsCall};
@@ -23,11 +24,14 @@ ghost use Rattle.pv_resolve.specs.Rooms.{HasRoom, FitsExpr};
 ghost use Rattle.pv_resolve.specs.declared.fault.ResolveFault.TheVariants.{NoMemory};
 ghost use Rattle.pv_laws_room.specs.Bodies.{FitsCall};
 ghost use Rattle.pv_program.specs.Growth.{Extends};
+ghost use Rattle.pv_program.specs.Given.{FindsGiven};
 ghost use Rattle.pv_program.specs.Led.{AreLed, HasAllRoom, RunsLed, IsVariable};
 ghost use Rattle.pv_program.specs.Handed.{goes_in, goes_out, handed_if, value_params, handed_value, values_handed, FindsArguments, IsSpotOf, AreGiven, AreTaken};
 
-use crate::argument::{argument_for_value, arguments_of, named_argument};
+use crate::along::{all_in, all_out};
+use crate::argument::{argument_for_value, named_argument};
 use crate::block::value_number;
+use crate::given::{Given, given_of, number_for};
 use crate::grow::{append_inward, append_outward, push_call, see_code};
 use crate::instance::instance_of;
 use crate::placed::call_placed;
@@ -37,7 +41,7 @@ use pv_names::{Callee, Entry, Firsts, How};
 use pv_place::Place;
 use pv_resolve::{Context, ResolveFault, context_in};
 use pv_run::{Called, First, Inward, Outward, Program, Slot, Span};
-use pv_tree::{CallTree, Expr, Operand};
+use pv_tree::{Arg, CallTree, Expr, Operand};
 use pv_types::{Name, Section, Var};
 use pv_word::Ty;
 use std::alloc::Global;
@@ -112,7 +116,7 @@ fn give(
 }
 
 /// Hands a variable's argument in, if it is a parameter that has one.
-fn hand_in(
+pub(crate) fn hand_in(
     alloc: Global,
     context: &Context,
     inner: &Context,
@@ -156,10 +160,10 @@ fn add_inward(
     inner: &Context,
     how: How,
     call: &CallTree,
-    named: &Firsts,
+    given: &Given,
     program: &mut Program,
 ) -> Result<Span, ResolveFault>
-    requires { FindsArguments (how_tree how) (block_in inner.now) (call_tree call.now).args named.now }
+    requires { FindsGiven (how_tree how) (block_in inner.now) (call_tree call.now).args given.now }
     ensures grows { OnOk result (Extends program.old program.new) }
     ensures are { (source : Source) → IsContext context.now source → IsContext inner.now source
         → IfOk result (λ s. AreInward source (block_in context.now) program.new
@@ -172,12 +176,7 @@ fn add_inward(
         → FitsCall (call_tree call.now) → IfErr result (λ e. e ≡ NoMemory) }
 {
     let mut made = Vec::new(alloc);
-    let vars = inner.scope.entry.vars();
-    for var in vars {
-        hand_in(
-            alloc, context, inner, how, call, named, program, &mut made, *var,
-        )?;
-    }
+    all_in(alloc, context, inner, how, call, given, program, &mut made)?;
     let span = append_inward(program, made.as_slice())?;
     Ok(span)
 }
@@ -243,7 +242,7 @@ fn take(
 }
 
 /// Hands a variable out to its argument, if it is a parameter that has one.
-fn hand_out(
+pub(crate) fn hand_out(
     alloc: Global,
     context: &Context,
     inner: &Context,
@@ -289,25 +288,24 @@ fn is_by_stl(how: How) -> bool
     }
 }
 
-/// Whether a variable has the name of a function's value.
-fn names_value(vars: &[Var]) -> bool
-    ensures { result ≡ is_some (scopes.first_var (map var_tree vars.now) value_key) }
+/// Whether a variable has the name of a function's value, which this argument is for.
+fn names_value(how: How, callee: &Entry, arg: &Arg) -> bool
+    requires { calls.is_for (how_tree how) (block_of callee.now) value_key (arg_tree arg.now)
+        ≡ true }
+    ensures { result ≡ is_some (scopes.first_var (block_of callee.now).vars value_key) }
 {
-    for var in vars {
-        if b"ret_val".as_slice() == var.name.key().bytes() {
-            return true;
-        }
-    }
-    false
+    number_for(callee, arg).is_some()
 }
 
-/// The type of a function's value, where a call hands it out.
-fn value_out(how: How, callee: &Entry) -> Option<Ty>
+/// The type of a function's value, where a call hands it out to this argument, which is for that name.
+fn value_out(how: How, callee: &Entry, arg: &Arg) -> Option<Ty>
+    requires { calls.is_for (how_tree how) (block_of callee.now) value_key (arg_tree arg.now)
+        ≡ true }
     ensures params { value_params result
         ≡ callees.value_param (how_tree how) (block_of callee.now) }
     ensures is { IfSome result (λ ty. (block_of callee.now).value ≡ Some ty) }
 {
-    if !is_by_stl(how) || names_value(callee.vars()) {
+    if !is_by_stl(how) || names_value(how, callee, arg) {
         return None;
     }
     callee.block().interface.value
@@ -375,8 +373,11 @@ fn hand_any_value(
         → HasRoom source (block_in context.now) → HasRoom source (block_in inner.now)
         → FitsCall (call_tree call.now) → IfErr result (λ e. e ≡ NoMemory) }
 {
-    match value_out(how, inner.scope.entry) {
-        Some(ty) => hand_value_out(alloc, context, inner, how, call, program, made, ty),
+    match argument_for_value(how, inner.scope.entry, call) {
+        Some(arg) => match value_out(how, inner.scope.entry, arg) {
+            Some(ty) => hand_value_out(alloc, context, inner, how, call, program, made, ty),
+            None => Ok(()),
+        },
         None => Ok(()),
     }
 }
@@ -388,10 +389,10 @@ fn add_outward(
     inner: &Context,
     how: How,
     call: &CallTree,
-    named: &Firsts,
+    given: &Given,
     program: &mut Program,
 ) -> Result<Span, ResolveFault>
-    requires { FindsArguments (how_tree how) (block_in inner.now) (call_tree call.now).args named.now }
+    requires { FindsGiven (how_tree how) (block_in inner.now) (call_tree call.now).args given.now }
     ensures grows { OnOk result (Extends program.old program.new) }
     ensures are { (source : Source) → IsContext context.now source → IsContext inner.now source
         → IfOk result (λ s. AreOutward source (block_in context.now) program.new
@@ -404,12 +405,7 @@ fn add_outward(
         → FitsCall (call_tree call.now) → IfErr result (λ e. e ≡ NoMemory) }
 {
     let mut made = Vec::new(alloc);
-    let vars = inner.scope.entry.vars();
-    for var in vars {
-        hand_out(
-            alloc, context, inner, how, call, named, program, &mut made, *var,
-        )?;
-    }
+    all_out(alloc, context, inner, how, call, given, program, &mut made)?;
     hand_any_value(alloc, context, inner, how, call, program, &mut made)?;
     let span = append_outward(program, made.as_slice())?;
     Ok(span)
@@ -428,17 +424,17 @@ fn number_of_block(context: &Context, entry: &Entry) -> usize
     }
 }
 
-/// Puts a call that runs a block behind those of the program, and gives its number; its arguments have these numbers.
+/// Puts a call that runs a block behind those of the program, and gives its number; this is what its arguments are for.
 fn add_named(
     alloc: Global,
     context: &Context,
     inner: &Context,
     how: How,
     call: &CallTree,
-    named: &Firsts,
+    given: &Given,
     program: &mut Program,
 ) -> Result<usize, ResolveFault>
-    requires { FindsArguments (how_tree how) (block_in inner.now) (call_tree call.now).args named.now }
+    requires { FindsGiven (how_tree how) (block_in inner.now) (call_tree call.now).args given.now }
     ensures grows { OnOk result (Extends program.old program.new) }
     ensures means { (source : Source) → IsContext context.now source → IsContext inner.now source
         → callees.callee_of (record { project = source.project; block = block_in context.now })
@@ -458,8 +454,8 @@ fn add_named(
 {
     let block = number_of_block(context, inner.scope.entry);
     let first = instance_of(context, call)?;
-    let inward = add_inward(alloc, context, inner, how, call, named, program)?;
-    let outward = add_outward(alloc, context, inner, how, call, named, program)?;
+    let inward = add_inward(alloc, context, inner, how, call, given, program)?;
+    let outward = add_outward(alloc, context, inner, how, call, given, program)?;
     let made = push_call(
         program,
         Called {
@@ -500,8 +496,8 @@ fn add_running(
         → AreLed source program.old.calls.items
         → OnOk result (AreLed source program.new.calls.items) }
 {
-    let named = arguments_of(alloc, how, inner.scope.entry, call)?;
-    add_named(alloc, context, inner, how, call, &named, program)
+    let given = given_of(alloc, how, inner.scope.entry, call)?;
+    add_named(alloc, context, inner, how, call, &given, program)
 }
 
 /// Puts a call that runs no block behind those of the program, and gives its number.

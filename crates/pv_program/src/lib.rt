@@ -6,11 +6,13 @@
 #![tactic(auto)]
 
 mod action;
+mod along;
 mod argument;
 mod block;
 mod call;
 mod choice;
 mod fault;
+mod given;
 mod grow;
 mod instance;
 mod instr;

@@ -2,7 +2,7 @@
 use Rattle.std.proofs.Common.{◌≡◌, ◌<◌, ◌≤◌, ◌+◌, ℕ, ℤ, zero, suc, List, [], ◌∷◌, ◌++◌, Bool, true, false, map, drop, take, get_or, length, refl, ap, sym, subst, ◌∙◌, inl, inr, append_assoc}
 use Rattle.std.proofs.lemmas.List.{append-nil, map-append, drop_all}
 use Rattle.std.proofs.lemmas.Grind.{flat_map-append}
-use Rattle.std.specs.Prelude.{◌⊎◌, ◌↔◌, Option, Some, flat_map, if◌then◌else◌}
+use Rattle.std.specs.Prelude.{◌⊎◌, Option, flat_map, if◌then◌else◌}
 use Rattle.pv_place.specs.declared.place.Place.{Place}
 use Rattle.pv_types.specs.declared.name.Name.{Name}
 use Rattle.pv_types.specs.declared.declaration.Literal.{Literal}
@@ -22,6 +22,7 @@ use Rattle.pv_rules_expr.specs.Nearest.{Nears}
 use Rattle.pv_rules_expr.proofs.ForCallers.{near_same, taken_one}
 use Rattle.pv_graph.specs.Members as node
 use Rattle.pv_graph.specs.Graphs.{lists_of, next_of, Leads, here, by, LeadFrom}
+use Rattle.pv_graph.specs.Cycles.{AreOnCycles}
 use Rattle.pv_graph.specs.declared.targets.Targets.{Targets}
 use Rattle.pv_tree.specs.Tree.{BlockTree}
 use Rattle.pv_tree.specs.Scopes.{is_type}
@@ -29,7 +30,7 @@ use Rattle.pv_tree.specs.View.{block_tree}
 use Rattle.pv_tree.specs.declared.block.Block.{Block}
 use Rattle.pv_rules_decl.specs.Declarations.{HaveTheSame}
 use Rattle.pv_rules_decl.specs.TypeNames.{LeadToTheSame}
-use Rattle.pv_rules_decl.specs.TypeNumbers.{type_number, numbers_of_type, targets_in, types_graph, IsWrongNumber}
+use Rattle.pv_rules_decl.specs.TypeNumbers.{numbers_of_type, targets_in}
 
 -- ---- lists with the same elements
 
@@ -317,13 +318,6 @@ turned [] (y ∷ ys) same = absurd same
 turned (x ∷ xs) [] same = absurd same
 turned (x ∷ xs) (y ∷ ys) same = (same_back x y same.0, turned xs ys same.1)
 
--- as many nodes
-pub same_count : (g h : List (List ℕ)) → LeadToTheSame g h → length g ≡ length h
-same_count [] [] same = refl
-same_count [] (y ∷ ys) same = absurd same
-same_count (x ∷ xs) [] same = absurd same
-same_count (x ∷ xs) (y ∷ ys) same = ap suc (same_count xs ys same.1)
-
 -- what types name, where the lists of types have the same elements
 pub numbers_same : (bs : List BlockTree) (xs ys : List TypeTree) → HaveTheSame xs ys
     → HaveTheSame (flat_map (numbers_of_type bs) xs) (flat_map (numbers_of_type bs) ys)
@@ -377,11 +371,10 @@ lead_next bs blocks i b old new t inside at is before one =
     ∙ types_pushed (targets_in bs) (map block_tree (take i blocks) ++ block_tree b ∷ []) (map block_tree (take i blocks)) (block_tree b) refl))
     (lead_more (lists_of old) (map (targets_in bs) (map block_tree (take i blocks))) t.list.items (targets_in bs (block_tree b)) before one))
 
--- a name's number in the one graph is wrong where it is in the other
-pub wrong_same : (bs : List BlockTree) (g : List (List ℕ)) (key : List ℕ) (i : ℕ) (b : Bool) → LeadToTheSame g (types_graph bs)
-    → Some i ≡ type_number bs key → (b ≡ true) ↔ LeadFrom g (next_of g i) i → (b ≡ true) ↔ IsWrongNumber bs (type_number bs key)
-wrong_same bs g key i b same is w =
-    subst (λ o. (b ≡ true) ↔ IsWrongNumber bs o) is (
-      (λ t. lead_same g (types_graph bs) same i i (w.0 t)),
-      (λ l. w.1 (lead_same (types_graph bs) g (turned g (types_graph bs) same) i i l)),
+-- so the same nodes lead to themselves
+pub cycles_same : (g h k : List (List ℕ)) (flags : List Bool) → g ≡ k → LeadToTheSame k h → AreOnCycles g flags → AreOnCycles h flags
+cycles_same g h k flags is same on a =
+    let to : LeadToTheSame g h = subst (λ l. LeadToTheSame l h) (sym is) same in (
+      (λ t. lead_same g h to a a ((on a).0 t)),
+      (λ l. (on a).1 (lead_same h g (turned g h to) a a l)),
     )

@@ -1,7 +1,6 @@
 -- Types by number: a type leads to another by steps exactly where the definition says that it contains it.
-use Rattle.std.proofs.Common.{◌≡◌, ℕ, zero, suc, ◌+◌, ◌<◌, ◌≤◌, Bool, true, false, List, [], ◌∷◌, map, length, get_or, take, refl, ap, sym, subst, ◌∙◌, arith, inl, inr, true≢false}
+use Rattle.std.proofs.Common.{◌≡◌, ℕ, zero, suc, ◌<◌, ◌≤◌, Bool, true, false, List, [], ◌∷◌, map, length, get_or, take, refl, ap, sym, subst, ◌∙◌, arith, inl, inr}
 use Rattle.std.specs.Prelude.{◌⊎◌, Option, Some, None, option_map, option_to_list, option_and_then, find, flat_map, bytes_eq, cond, if◌then◌else◌, Any, Contains}
-use Rattle.std.proofs.Math.Nat.{eq-or-lt_of_le}
 use Rattle.std.proofs.lemmas.Bool.{cases_Bool}
 use Rattle.std.proofs.lemmas.Slice.Eq.{bytes_eq-Decides}
 use Rattle.pv_place.specs.declared.place.Place.{Place}
@@ -14,6 +13,7 @@ use Rattle.pv_tree.specs.Interfaces.{types_in, types_in_vars, all_types}
 use Rattle.pv_tree.specs.Rules.MissingTypes.{names_in, names_in_vars, name_of_kind, named_types, named_within, Holds, at_once, within, IsMissingOrEndless, IsMissingType}
 use Rattle.pv_rules_expr.specs.Members.{HasSome, Has}
 use Rattle.pv_graph.specs.Graphs.{next_of, Leads, here, by, LeadFrom}
+use Rattle.pv_graph.specs.Cycles.{AreOnCycles}
 use Rattle.pv_graph.specs.Members.{Has as HasNode}
 use Rattle.pv_graph.proofs.ForCallers.{has_front as node_front, has_behind as node_behind, has_either as node_either, some_of as some_node, of_some as of_node}
 use Rattle.pv_rules_decl.specs.TypeNumbers.{type_number, numbers_of_type, targets_in, types_graph, IsWrongNumber, IsWrongName, NamesWrongType, HasWrongType}
@@ -24,8 +24,8 @@ use Rattle.pv_tree.specs.declared.block.Block.{Block}
 use Rattle.pv_rules_expr.specs.Nearest.{Nears, IsNearest}
 use Rattle.pv_names.specs.Firsts.{number_in, first_number, FindsFirsts}
 use Rattle.pv_rules_decl.specs.Declarations.{HaveTheSame}
-use Rattle.pv_rules_decl.specs.TypeNames.{NumbersTypes, LeadToTheSame, IsEndlessFrom}
-use Rattle.pv_rules_decl.proofs.Sharing.{some_same, same_back, same_count}
+use Rattle.pv_rules_decl.specs.TypeNames.{NumbersTypes}
+use Rattle.pv_rules_decl.proofs.Sharing.{some_same, same_back}
 use Rattle.pv_rules_decl.specs.declared.types.TypeNames.{TypeNames}
 use Rattle.pv_rules_expr.proofs.ForCallers.{any_has, has_any, near_same, nearest_by, near_then, all_taken}
 use Rattle.pv_rules_expr.proofs.ForCallers.{has_contains, contains_has}
@@ -373,21 +373,15 @@ number_found names bs key o r are is so =
     so ∙ ap (type_there names.kinds.items) (is ∙ are.numbers key) ∙ ap (λ k. type_there k (first_number (bytes_eq key) (map (λ b. b.name.key) bs))) are.types
     ∙ sym (there_is bs key)
 
-pub number_below : (bs : List BlockTree) (g : List (List ℕ)) (key : List ℕ) (i : ℕ) → LeadToTheSame g (types_graph bs) → Some i ≡ type_number bs key → i < length g
-number_below bs g key i are is =
-    let f = (found bs key i (sym is)).below in
-    let m : length g ≡ length (types_graph bs) = same_count g (types_graph bs) are in
-    let k = counted bs in omega (arith, f, m, k)
-  where
-    counted_map : {X Y : Type 0} (g : X → Y) (xs : List X) → length (map g xs) ≡ length xs
-    counted_map g [] = refl
-    counted_map g (x ∷ xs) = ap suc (counted_map g xs)
-
-    counted : (bs : List BlockTree) → length (types_graph bs) ≡ length bs
-    counted bs = counted_map (targets_in bs) bs
-
 pub no_number : (bs : List BlockTree) (key : List ℕ) (b : Bool) → b ≡ true → None ≡ type_number bs key → (b ≡ true) ↔ IsWrongNumber bs (type_number bs key)
 no_number bs key b so is = ((λ t. subst (IsWrongNumber bs) is tt), (λ w. so))
+
+-- and what is known of its number
+pub number_known : (bs : List BlockTree) (flags seen : List Bool) (key : List ℕ) (i : ℕ) (b : Bool) → AreOnCycles (types_graph bs) flags
+    → seen ≡ flags → Some i ≡ type_number bs key → b ≡ slice_index_or seen i false → (b ≡ true) ↔ IsWrongNumber bs (type_number bs key)
+number_known bs flags seen key i b known same is so =
+    let it : b ≡ slice_index_or flags i false = so ∙ ap (λ l. slice_index_or l i false) same in
+    subst (λ o. (b ≡ true) ↔ IsWrongNumber bs o) is ((λ t. (known i).0 (sym it ∙ t)), (λ l. it ∙ (known i).1 l))
 
 pub flag_set : (kinds flags : List Bool) (i : ℕ) (b : Bool) → flags ≡ kinds → b ≡ slice_index_or flags i false → b ≡ true → Some i ≡ type_there kinds (Some i)
 flag_set kinds flags i b same is so =
@@ -420,14 +414,3 @@ near_types bs b types old mid new are first second =
     (near_same (λ at. HasSome (NamesWrongType bs at) types) (λ at. HasSome (NamesWrongType bs at) (all_types b.vars)) old mid
     (λ at. some_same (NamesWrongType bs at) types (all_types b.vars) are)
     (λ at. some_same (NamesWrongType bs at) (all_types b.vars) types (same_back types (all_types b.vars) are)) first) second
-
--- ---- nodes that don't lead to themselves, one more of them
-
-pub endless_next : (g : List (List ℕ)) (k j : ℕ) (b : Bool) → b ≡ false → j ≡ k + 1 → (b ≡ true) ↔ LeadFrom g (next_of g k) k
-    → IsEndlessFrom g k → IsEndlessFrom g j
-endless_next g k j b isnt next told below n less lead =
-    let le : n ≤ k = omega (arith, less, next) in
-    elim (eq-or-lt_of_le le) [
-      | inl same ↦ true≢false (sym (told.1 (subst (λ m. LeadFrom g (next_of g m) m) same lead)) ∙ isnt)
-      | inr under ↦ below n under lead
-    ]

@@ -1,14 +1,13 @@
 -- The names of a project's types with their numbers.
-use Rattle.std.specs.Prelude.{◌≡◌, ℕ, ◌<◌, List, [], ◌∷◌, map}
+use Rattle.std.specs.Prelude.{◌≡◌, ℕ, List, [], ◌∷◌, map}
 use Rattle.pv_tree.specs.Tree.{BlockTree}
 use Rattle.pv_tree.specs.Scopes.{is_type}
 use Rattle.pv_names.specs.Firsts.{FindsFirsts}
-use Rattle.pv_graph.specs.Graphs.{next_of, LeadFrom}
-use Rattle.pv_graph.specs.Steps.{steps_of}
+use Rattle.pv_graph.specs.Cycles.{AreOnCycles}
 use Rattle.pv_rules_decl.specs.Declarations.{HaveTheSame}
 use Rattle.pv_rules_decl.specs.TypeNumbers.{types_graph}
 use Rattle.pv_rules_decl.specs.declared.types.TypeNames.{TypeNames}
-use Rattle.pv_rules_decl.specs.declared.types.TypeGraph.{TypeGraph}
+use Rattle.pv_rules_decl.specs.declared.types.DeclaredTypes.{DeclaredTypes}
 
 -- they are those of these blocks
 pub record NumbersTypes (names : TypeNames) (bs : List BlockTree) : Type 0 where
@@ -22,11 +21,6 @@ LeadToTheSame [] (y ∷ ys) = ⊥
 LeadToTheSame (x ∷ xs) [] = ⊥
 LeadToTheSame (x ∷ xs) (y ∷ ys) = HaveTheSame x y × LeadToTheSame xs ys
 
--- no node under this number leads to itself
-abbrev pub IsEndlessFrom : List (List ℕ) → ℕ → Type 0
-IsEndlessFrom g k = (n : ℕ) → n < k → LeadFrom g (next_of g n) n → ⊥
-
-pub record IsGraphOf (types : TypeGraph) (bs : List BlockTree) : Type 0 where
+pub record AreTypesOf (types : DeclaredTypes) (bs : List BlockTree) : Type 0 where
   pub names : NumbersTypes types.names bs
-  pub steps : LeadToTheSame (steps_of types.graph) (types_graph bs)
-  pub endless : IsEndlessFrom (steps_of types.graph) types.endless
+  pub endless : AreOnCycles (types_graph bs) types.endless.items

@@ -1,8 +1,7 @@
 //! Types that aren't declared, or contain themselves.
 //!
-//! The types are numbered as the blocks are, and each leads to those that it names (`pv_graph`): one that leads to itself contains itself, through however many
-//! others. The types are asked once, as far as the first one that contains itself; those behind it are asked by each name that stands
-//! before the least place so far.
+//! The types are numbered as the blocks are, and each leads to those that it names (`pv_graph`): one that leads to itself contains
+//! itself, through however many others. Which ones do is found once for all of them.
 ghost use Rattle.std.specs.Prelude.{◌≡◌, ◌↔◌, ◌++◌, List, map, flat_map, IfOk, OnOk, IsTrue, slice_index_or, false};
 ghost use Rattle.pv_types.specs.View.{type_tree};
 ghost use Rattle.pv_tree.specs.Tree.{BlockTree};
@@ -12,10 +11,9 @@ ghost use Rattle.pv_tree.specs.Rules.MissingTypes.{name_of_kind, IsMissingType};
 ghost use Rattle.pv_rules_expr.specs.Members.{HasSome};
 ghost use Rattle.pv_rules_expr.specs.Nearest.{Nears, IsNearest};
 ghost use Rattle.pv_graph.specs.Graphs.{lists_of};
-ghost use Rattle.pv_graph.specs.Steps.{steps_of};
 ghost use Rattle.pv_rules_decl.specs.TypeNumbers.{type_number, numbers_of_type, targets_in, types_graph, IsWrongNumber, IsWrongName, NamesWrongType, HasWrongType};
 ghost use Rattle.pv_rules_decl.specs.Declarations.{HaveTheSame};
-ghost use Rattle.pv_rules_decl.specs.TypeNames.{NumbersTypes, LeadToTheSame, IsEndlessFrom, IsGraphOf};
+ghost use Rattle.pv_rules_decl.specs.TypeNames.{NumbersTypes, LeadToTheSame, AreTypesOf};
 
 use crate::gathered::Gathered;
 use pv_graph::{Graph, Targets};
@@ -135,135 +133,89 @@ impl TypeNames {
     }
 }
 
-/// The number of the first node that leads to itself, or how many nodes there are.
-fn first_endless(alloc: Global, graph: &Graph) -> Result<usize, AllocError>
-    ensures { IfOk result (IsEndlessFrom (steps_of graph.now)) }
-{
-    for node in 0..graph.len() {
-        if graph.is_on_cycle(alloc, node)? {
-            return Ok(node);
-        }
-    }
-    Ok(graph.len())
-}
-
-/// The types of a project by name, which lead to which, and how many of the first don't lead to themselves.
+/// The types of a project by name, and which of them lead to themselves.
 #[derive(Drop)]
-struct TypeGraph {
+struct DeclaredTypes {
     names: TypeNames,
-    graph: Graph,
-    endless: usize,
+    endless: Vec<bool>,
 }
 
-impl TypeGraph {
-    /// That of these blocks.
-    fn of(alloc: Global, blocks: &[Block]) -> Result<TypeGraph, AllocError>
-        ensures { IfOk result (λ t. IsGraphOf t (map block_tree blocks.now)) }
+impl DeclaredTypes {
+    /// Those of these blocks.
+    fn of(alloc: Global, blocks: &[Block]) -> Result<DeclaredTypes, AllocError>
+        ensures { IfOk result (λ t. AreTypesOf t (map block_tree blocks.now)) }
     {
         let names = TypeNames::of(alloc, blocks)?;
         let next = names.all_targets(alloc, blocks)?;
         let graph = Graph::new(alloc, next)?;
-        let endless = first_endless(alloc, &graph)?;
-        Ok(TypeGraph {
-            names,
-            graph,
-            endless,
-        })
+        let endless = graph.on_cycles(alloc)?;
+        Ok(DeclaredTypes { names, endless })
     }
 
     /// Whether there is no type of this name, or it contains itself.
-    fn is_wrong(&self, alloc: Global, name: &Name) -> Result<bool, AllocError>
-        ensures { (bs : List BlockTree) → IsGraphOf self.now bs → IfOk result
-            (λ b. IsTrue b ↔ IsWrongNumber bs (type_number bs name.now.key)) }
+    fn is_wrong(&self, name: &Name) -> bool
+        ensures { (bs : List BlockTree) → AreTypesOf self.now bs
+            → (IsTrue result ↔ IsWrongNumber bs (type_number bs name.now.key)) }
     {
         match self.names.find(name) {
-            None => Ok(true),
-            Some(number) => {
-                if number < self.endless {
-                    return Ok(false);
-                }
-                if number >= self.graph.len() {
-                    return Ok(true);
-                }
-                self.graph.is_on_cycle(alloc, number)
-            }
+            None => true,
+            Some(number) => flag_at(self.endless.as_slice(), number),
         }
     }
 
     /// Looks at a name of a type.
-    fn wrong_name(
-        &self,
-        alloc: Global,
-        name: &Name,
-        place: &Place,
-        nearest: Option<Place>,
-    ) -> Result<Option<Place>, AllocError>
-        ensures { (bs : List BlockTree) → IsGraphOf self.now bs → IfOk result
-            (λ r. Nears (λ at. IsWrongName bs at (name.now, place.now)) nearest r) }
+    fn wrong_name(&self, name: &Name, place: &Place, nearest: Option<Place>) -> Option<Place>
+        ensures { (bs : List BlockTree) → AreTypesOf self.now bs
+            → Nears (λ at. IsWrongName bs at (name.now, place.now)) nearest result }
     {
         if !is_nearer(nearest, place) {
-            return Ok(nearest);
+            return nearest;
         }
-        if self.is_wrong(alloc, name)? {
-            Ok(Some(*place))
+        if self.is_wrong(name) {
+            Some(*place)
         } else {
-            Ok(nearest)
+            nearest
         }
     }
 
     /// Looks at a type.
-    fn wrong_type(
-        &self,
-        alloc: Global,
-        ty: &DeclType,
-        nearest: Option<Place>,
-    ) -> Result<Option<Place>, AllocError>
-        ensures { (bs : List BlockTree) → IsGraphOf self.now bs → IfOk result
-            (λ r. Nears (λ at. NamesWrongType bs at (type_tree ty.now)) nearest r) }
+    fn wrong_type(&self, ty: &DeclType, nearest: Option<Place>) -> Option<Place>
+        ensures { (bs : List BlockTree) → AreTypesOf self.now bs
+            → Nears (λ at. NamesWrongType bs at (type_tree ty.now)) nearest result }
     {
         match ty {
-            DeclType::Named(name, place) => self.wrong_name(alloc, name, place, nearest),
+            DeclType::Named(name, place) => self.wrong_name(name, place, nearest),
             DeclType::Plain(_) | DeclType::Array { .. } | DeclType::Struct(_) | DeclType::Unread =>
-                { Ok(nearest) }
+                { nearest }
         }
     }
 
     /// Looks at types.
-    fn wrong_types(
-        &self,
-        alloc: Global,
-        types: &[&DeclType],
-        nearest: Option<Place>,
-    ) -> Result<Option<Place>, AllocError>
-        ensures { (bs : List BlockTree) → IsGraphOf self.now bs → IfOk result
-            (λ r. Nears (λ at. HasSome (NamesWrongType bs at) (map (λ t. type_tree t.now) types.now)) nearest r) }
+    fn wrong_types(&self, types: &[&DeclType], nearest: Option<Place>) -> Option<Place>
+        ensures { (bs : List BlockTree) → AreTypesOf self.now bs
+            → Nears (λ at. HasSome (NamesWrongType bs at) (map (λ t. type_tree t.now) types.now)) nearest result }
     {
         let mut nearest = nearest;
         for ty in types {
-            nearest = self.wrong_type(alloc, *ty, nearest)?;
+            nearest = self.wrong_type(*ty, nearest);
         }
-        Ok(nearest)
+        nearest
     }
 
     /// Looks at the type that a data block is of.
-    fn wrong_kind(
-        &self,
-        alloc: Global,
-        kind: &BlockKind,
-        nearest: Option<Place>,
-    ) -> Result<Option<Place>, AllocError>
-        ensures { (bs : List BlockTree) → IsGraphOf self.now bs → IfOk result
-            (λ r. Nears (λ at. HasSome (IsWrongName bs at) (name_of_kind kind.now)) nearest r) }
+    fn wrong_kind(&self, kind: &BlockKind, nearest: Option<Place>) -> Option<Place>
+        ensures { (bs : List BlockTree) → AreTypesOf self.now bs
+            → Nears (λ at. HasSome (IsWrongName bs at) (name_of_kind kind.now)) nearest result }
     {
         match kind {
             BlockKind::Db {
                 of: Some((name, place)),
-            } => self.wrong_name(alloc, name, place, nearest),
+            } => self.wrong_name(name, place, nearest),
             BlockKind::Db { of: None }
             | BlockKind::Fb
             | BlockKind::Fc
             | BlockKind::Ob
-            | BlockKind::Udt => Ok(nearest),
+            | BlockKind::Udt => nearest,
         }
     }
 
@@ -274,12 +226,12 @@ impl TypeGraph {
         block: &Block,
         nearest: Option<Place>,
     ) -> Result<Option<Place>, AllocError>
-        ensures { (bs : List BlockTree) → IsGraphOf self.now bs → IfOk result
+        ensures { (bs : List BlockTree) → AreTypesOf self.now bs → IfOk result
             (λ r. Nears (λ at. HasWrongType bs at (block_tree block.now)) nearest r) }
     {
         let gathered = Gathered::of(alloc, block.interface.vars.as_slice())?;
-        let nearest = self.wrong_types(alloc, gathered.types.as_slice(), nearest)?;
-        self.wrong_kind(alloc, &block.kind, nearest)
+        let nearest = self.wrong_types(gathered.types.as_slice(), nearest);
+        Ok(self.wrong_kind(&block.kind, nearest))
     }
 }
 
@@ -288,7 +240,7 @@ pub fn missing_type(alloc: Global, blocks: &[Block]) -> Result<Option<Place>, Al
     ensures { (project : ProjectTree) → project.blocks ≡ map block_tree blocks.now
         → IfOk result (λ r. IsNearest (IsMissingType project) r) }
 {
-    let types = TypeGraph::of(alloc, blocks)?;
+    let types = DeclaredTypes::of(alloc, blocks)?;
     let mut nearest = None;
     for block in blocks {
         nearest = types.wrong_types_of(alloc, block, nearest)?;

@@ -1,14 +1,15 @@
-use Rattle.std.proofs.Common.{◌+◌, ap, sym, ◌∙◌, drop}
+use Rattle.std.proofs.Common.{Bool, ◌+◌, ap, sym, ◌∙◌, drop}
 use Rattle.std.specs.Prelude.{find}
-use Rattle.pv_types.specs.View.{var_tree, vars_tree, var_trees}
+use Rattle.pv_types.specs.Tree.{VarTree}
+use Rattle.pv_types.specs.View.{name_of, var_tree, vars_tree, var_trees}
 use Rattle.pv_types.proofs.ForCallers.{vars_from}
-use Rattle.pv_names.specs.InScope.{is_sought}
+use Rattle.pv_tree.specs.Scopes.{has_key}
 use Rattle.pv_names.proofs.Fields.{find_front, find_behind}
 use Rattle.pv_names.proofs.scope.first_among.Goals as goal
 
 pub returns-in-Some : goal.returns-in-Some
 returns-in-Some c =
-    let sought = is_sought c.args.all c.args.name.now.key in
+    let sought : VarTree → Bool = λ v. has_key c.args.name.now.key (name_of v) in
     let vars = c.args.vars.now in
     let i = c.loop-of.of-index in
     let v = c.of-item.result in
@@ -18,7 +19,7 @@ returns-in-Some c =
 
 pub loop-of-preserved : goal.loop-of-preserved
 loop-of-preserved c =
-    let sought = is_sought c.args.all c.args.name.now.key in
+    let sought : VarTree → Bool = λ v. has_key c.args.name.now.key (name_of v) in
     let vars = c.args.vars.now in
     let i = c.loop-of.of-index in
     let v = c.of-item.result in

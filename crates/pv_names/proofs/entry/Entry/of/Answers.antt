@@ -1,9 +1,14 @@
-use Rattle.std.proofs.Common.{ap, ◌∙◌, map, None}
+use Rattle.std.proofs.Common.{ap, sym, subst, ◌∙◌, ℕ, List, map, None}
 use Rattle.std.specs.Prelude.{bytes_eq}
-use Rattle.pv_types.specs.View.{var_tree, var_trees}
-use Rattle.pv_names.specs.Firsts.{first_number}
+use Rattle.std.proofs.lemmas.Simd.{map-map}
+use Rattle.pv_types.specs.declared.var.Var.{Var}
+use Rattle.pv_types.specs.Tree.{VarTree}
+use Rattle.pv_types.specs.View.{var_tree, var_trees, name_of}
+use Rattle.pv_names.specs.Firsts.{number_in, first_number}
 use Rattle.pv_names.specs.Needed.{needed_among}
 use Rattle.pv_names.specs.Params.{sole_input}
+use Rattle.pv_names.specs.Doubled.{FindsDoubled}
+use Rattle.pv_names.proofs.UniqueNames.{told_by_table}
 use Rattle.pv_names.proofs.entry.Entry.of.Goals as goal
 
 pub invariant_of-result-clause-all : goal.invariant_of-result-clause-all
@@ -20,3 +25,21 @@ invariant_of-result-clause-all_needed c =
 pub invariant_of-result-clause-one_input : goal.invariant_of-result-clause-one_input
 invariant_of-result-clause-one_input c =
     c.sole_input-sole.ensures ∙ ap (λ vars. sole_input None (map var_tree vars)) c.as_slice-4.ensures.value
+
+pub invariant_of-result-clause-apart : goal.invariant_of-result-clause-apart
+invariant_of-result-clause-apart c =
+    let key : Var → List ℕ = λ v. v.name.now.key in
+    let name : VarTree → List ℕ = λ v. (name_of v).key in
+    let vars = c.as_slice-5.result.now in
+    told_by_table (number_in c.in_ok-numbers.numbers) (map key vars) (map name (var_trees c.args.block.now.interface.vars.items))
+    c.has_each-unique.result
+    (λ q. c.in_ok-numbers.ensures q
+    ∙ ap (λ vars. first_number (bytes_eq q) (map key vars)) (c.as_slice-2.ensures.value ∙ sym c.as_slice-5.ensures.value))
+    (sym (map-map name var_tree vars)
+    ∙ ap (map name) (ap (map var_tree) c.as_slice-5.ensures.value ∙ c.in_ok-vars.ensures ∙ ap var_trees c.as_slice.ensures.value))
+    c.has_each-unique.ensures
+
+pub invariant_of-result-clause-by_part : goal.invariant_of-result-clause-by_part
+invariant_of-result-clause-by_part c =
+    subst (λ (vars : List Var). FindsDoubled c.in_ok-doubled.doubled c.has_each-unique.result (map var_tree vars))
+    c.as_slice-6.ensures.value c.in_ok-doubled.ensures
