@@ -65,20 +65,6 @@ def named(n):
 
 def behind(n):
     """A type with n fields of a type with n fields; between the two stands one that contains itself."""
-    first, then = (f"TYPE {name} STRUCT {''.join(f'f{k} : {of}; ' for k in range(n))}END_STRUCT END_TYPE\n" for name, of in ("st", "tu"))
-    last = f"t{n - 1}"
-    return text + f"TYPE {last} STRUCT a : {last}; END_STRUCT END_TYPE\n", f"rule 3 at {text.index(f'{last};')}"
-
-
-def named(n):
-    """A type with n fields of a type, and one with n fields of that."""
-    many = [("t", "u", "f"), ("s", "t", "g")]
-    text = "".join(f"TYPE {name} STRUCT {''.join(f'{word}{k} : {of}; ' for k in range(n))}END_STRUCT END_TYPE\n" for name, of, word in many)
-    return f"TYPE u STRUCT x : INT; END_STRUCT END_TYPE\n{text}", KEPT
-
-
-def behind(n):
-    """A type with n fields of a type with n fields; between the two stands one that contains itself."""
     first, then = (f"TYPE {a} STRUCT {''.join(f'f{k} : {b}; ' for k in range(n))}END_STRUCT END_TYPE\n" for a, b in ("st", "tu"))
     last = "TYPE u STRUCT x : INT; END_STRUCT END_TYPE\n"
     return f"{first}TYPE e STRUCT a : e; END_STRUCT END_TYPE\n{then}{last}", f"rule 3 at {len(first) + len('TYPE e STRUCT a : ')}"

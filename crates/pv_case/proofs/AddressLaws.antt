@@ -1,6 +1,5 @@
 -- A text that is one address, by its tokens.
-use Rattle.std.proofs.Common.{◌≡◌, ℕ, ◌+◌, ◌<◌, ◌≤◌, List, [], ◌∷◌, length, slice_index_or, IsTrue, Option, Some, None, IfOk, IfSome, IfNone, Result, Ok, Err, sym, subst, ap, ◌∙◌, arith}
-use Rattle.std.specs.declared.alloc.AllocError.{AllocError}
+use Rattle.std.proofs.Common.{◌≡◌, ℕ, ◌+◌, ◌<◌, ◌≤◌, List, [], ◌∷◌, length, slice_index_or, IsTrue, Option, Some, None, IfSome, IfNone, sym, subst, ap, ◌∙◌, arith}
 use Rattle.pv_place.specs.declared.place.Place.{Place}
 use Rattle.pv_lex.specs.declared.token.Token.{Token}
 use Rattle.pv_lex.specs.declared.token.Kind.{Kind}
@@ -91,29 +90,27 @@ token_lies text tokens other lt are = first_lies text tokens other lt (tokens-li
 
 -- ---- what is answered
 
-pub found_in : (text bytes other : List ℕ) (tokens given : List Token) (r : Result (Option Address) AllocError) → IsTrue (is_short text)
+pub found_in : (text bytes other : List ℕ) (tokens given : List Token) (o : Option Address) → IsTrue (is_short text)
     → bytes ≡ text → other ≡ text → given ≡ tokens → AreTokens Scl 0 bytes tokens
-    → IfOk r (λ o. IfSome o (λ s. IsAddressAmong other given s.area s.bits s.byte s.bit s.place))
-    → IfOk r (λ o. IfSome o (λ s. IsAddressText text s.area s.bits s.byte s.bit s.place))
-found_in text bytes other tokens given (Ok None) short e f g are found = found
-found_in text bytes other tokens given (Ok (Some s)) short e f g are found =
+    → IfSome o (λ s. IsAddressAmong other given s.area s.bits s.byte s.bit s.place)
+    → IfSome o (λ s. IsAddressText text s.area s.bits s.byte s.bit s.place)
+found_in text bytes other tokens given None short e f g are found = found
+found_in text bytes other tokens given (Some s) short e f g are found =
     let cut = subst (λ (b : List ℕ). AreTokens Scl 0 b tokens) e are in
     let here = subst (λ (b : List ℕ). IsAddressAmong b given s.area s.bits s.byte s.bit s.place) f found in
     among_text text tokens s.area s.bits s.byte s.bit s.place short cut
     (subst (λ (ts : List Token). IsAddressAmong text ts s.area s.bits s.byte s.bit s.place) g here)
-found_in text bytes other tokens given (Err fault) short e f g are found = found
 
-pub none_in : (text bytes other : List ℕ) (tokens given : List Token) (r : Result (Option Address) AllocError)
+pub none_in : (text bytes other : List ℕ) (tokens given : List Token) (o : Option Address)
     → bytes ≡ text → other ≡ text → given ≡ tokens → AreTokens Scl 0 bytes tokens
-    → IfOk r (λ o. IfNone o ((its : Area) (bits byte bit : ℕ) (place : Place) → IsAddressAmong other given its bits byte bit place → ⊥))
-    → IfOk r (λ o. IfNone o ((its : Area) (bits byte bit : ℕ) (place : Place) → IsAddressText text its bits byte bit place → ⊥))
-none_in text bytes other tokens given (Ok None) e f g are none = λ its bits byte bit place h.
+    → IfNone o ((its : Area) (bits byte bit : ℕ) (place : Place) → IsAddressAmong other given its bits byte bit place → ⊥)
+    → IfNone o ((its : Area) (bits byte bit : ℕ) (place : Place) → IsAddressText text its bits byte bit place → ⊥)
+none_in text bytes other tokens given None e f g are none = λ its bits byte bit place h.
     let cut = subst (λ (b : List ℕ). AreTokens Scl 0 b tokens) e are in
     let among = text_among text tokens its bits byte bit place cut h in
     let there = subst (λ (b : List ℕ). IsAddressAmong b tokens its bits byte bit place) (sym f) among in
     none its bits byte bit place (subst (λ (ts : List Token). IsAddressAmong other ts its bits byte bit place) (sym g) there)
-none_in text bytes other tokens given (Ok (Some s)) e f g are none = none
-none_in text bytes other tokens given (Err fault) e f g are none = none
+none_in text bytes other tokens given (Some s) e f g are none = none
 
 -- ---- one text is one address
 

@@ -36,49 +36,49 @@ pub(crate) fn address_in(alloc: Global, text: &str) -> Result<Option<Address>, A
         return Ok(None);
     }
     match tokens(alloc, 0, Language::Scl, text.as_bytes()) {
-        Ok(tokens) => address_of(text.as_bytes(), tokens.as_slice()),
+        Ok(tokens) => Ok(address_of(text.as_bytes(), tokens.as_slice())),
         Err(LexFault::NoToken { .. }) => Ok(None),
         Err(LexFault::NoMemory) => Err(AllocError),
     }
 }
 
 /// The address that the tokens are, where they are one and the text's end.
-fn address_of(text: &[u8], tokens: &[Token]) -> Result<Option<Address>, AllocError>
+fn address_of(text: &[u8], tokens: &[Token]) -> Option<Address>
     requires { AreTokens In_scl 0 text.now tokens.now }
-    ensures found { IfOk result (λ o. IfSome o (λ s. IsAddressAmong text.now tokens.now s.area s.bits s.byte s.bit s.place)) }
-    ensures none { IfOk result (λ o. IfNone o ((area : An_area) (bits byte bit : ℕ) (place : A_place)
-        → IsAddressAmong text.now tokens.now area bits byte bit place → ⊥)) }
+    ensures found { IfSome result (λ s. IsAddressAmong text.now tokens.now s.area s.bits s.byte s.bit s.place) }
+    ensures none { IfNone result ((area : An_area) (bits byte bit : ℕ) (place : A_place)
+        → IsAddressAmong text.now tokens.now area bits byte bit place → ⊥) }
 {
     match tokens {
         [token, _end] => address_at(text, token),
-        _ => Ok(None),
+        _ => None,
     }
 }
 
 /// The address that the token is, where it is one.
-fn address_at(text: &[u8], token: &Token) -> Result<Option<Address>, AllocError>
+fn address_at(text: &[u8], token: &Token) -> Option<Address>
     requires { token.now.place.offset + token.now.len ≤ length text.now }
-    ensures found { IfOk result (λ o. IfSome o (λ s. IsAddressAt text.now token.now s.area s.bits s.byte s.bit s.place)) }
-    ensures none { IfOk result (λ o. IfNone o ((area : An_area) (bits byte bit : ℕ) (place : A_place)
-        → IsAddressAt text.now token.now area bits byte bit place → ⊥)) }
+    ensures found { IfSome result (λ s. IsAddressAt text.now token.now s.area s.bits s.byte s.bit s.place) }
+    ensures none { IfNone result ((area : An_area) (bits byte bit : ℕ) (place : A_place)
+        → IsAddressAt text.now token.now area bits byte bit place → ⊥) }
 {
     if token.kind != Kind::Address {
-        return Ok(None);
+        return None;
     }
-    match area_of(bytes_at(text, token))? {
+    match area_of(bytes_at(text, token)) {
         Root::Area {
             area,
             bits,
             byte,
             bit,
-        } if is_address(bits, byte, bit) => Ok(Some(Address {
+        } if is_address(bits, byte, bit) => Some(Address {
             area,
             bits,
             byte,
             bit,
             place: token.place,
-        })),
-        _ => Ok(None),
+        }),
+        _ => None,
     }
 }
 

@@ -23,7 +23,7 @@ use std::alloc::{AllocError, Global};
 pub fn expression_of(
     alloc: Global,
     nodes: &[Node],
-    result_node: u32,
+    result_node: usize,
 ) -> Result<Expression, AllocError>
     requires nodes { AreNodes nodes.now }
     requires within { result_node < length nodes.now }

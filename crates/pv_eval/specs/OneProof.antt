@@ -3,8 +3,6 @@ use Rattle.std.specs.Prelude.{List}
 use Rattle.std.proofs.Props.{props}
 use Rattle.pv_eval.specs.declared.node.Spot.{Spot}
 use Rattle.pv_eval.specs.declared.node.Spot.TheVariants.{Visible, Brief, Bit, Bytes, Fixed, Nowhere}
-use Rattle.pv_eval.specs.declared.node.Operand.TheVariants as operand
-use Rattle.pv_eval.specs.declared.node.Node.TheVariants.{Read, One, Two, Three, Element}
 use Rattle.pv_eval.specs.Operands.{IsSpot}
 use Rattle.pv_eval.specs.declared.op.Access.{Access}
 use Rattle.pv_eval.specs.declared.op.Access.TheVariants as access

@@ -32,7 +32,7 @@ impl Expression {
     ghost use Rattle.pv_eval.specs.Ready.{Evaluates};
 
     /// The expression whose value is that of one of these nodes.
-    pub fn of(alloc: Global, nodes: &[Node], result_node: u32) -> Result<Expression, AllocError>
+    pub fn of(alloc: Global, nodes: &[Node], result_node: usize) -> Result<Expression, AllocError>
         requires nodes { AreNodes nodes.now }
         requires within { result_node < length nodes.now }
         ensures count { IfOk result (λ x. x.count ≡ length nodes.now) }

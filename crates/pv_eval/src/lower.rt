@@ -42,10 +42,10 @@ fn copied(node: &Node) -> Option<Arg>
 }
 
 /// Where the value of the node of this number is fetched.
-pub(crate) fn arg_of(nodes: &[Node], n: u32) -> Arg
+pub(crate) fn arg_of(nodes: &[Node], n: usize) -> Arg
     ensures { result ≡ arg_of nodes.now n }
 {
-    match nodes.get(n as usize) {
+    match nodes.get(n) {
         Some(node) => copied(node).unwrap_or(Arg::Value(n)),
         None => Arg::Value(n),
     }
@@ -73,7 +73,7 @@ fn read_of(nodes: &[Node], operand: Operand, place: Place) -> Option<Deed>
 }
 
 /// An operation of two arguments, by the numbers of their nodes.
-fn two_of(nodes: &[Node], op: TwoOp, ty: Ty, place: Place, left: u32, right: u32) -> Deed
+fn two_of(nodes: &[Node], op: TwoOp, ty: Ty, place: Place, left: usize, right: usize) -> Deed
     ensures { result ≡ Two op ty place (arg_of nodes.now left) (arg_of nodes.now right) }
 {
     Deed::Two {
@@ -86,7 +86,7 @@ fn two_of(nodes: &[Node], op: TwoOp, ty: Ty, place: Place, left: u32, right: u32
 }
 
 /// An operation of three arguments, by the numbers of their nodes.
-fn three_of(nodes: &[Node], op: ThreeOp, first: u32, second: u32, third: u32) -> Deed
+fn three_of(nodes: &[Node], op: ThreeOp, first: usize, second: usize, third: usize) -> Deed
     ensures { result
         ≡ Three op (arg_of nodes.now first) (arg_of nodes.now second) (arg_of nodes.now third) }
 {

@@ -35,7 +35,7 @@ pub enum Operand {
     /// The visible cell that stands so far behind the first one of the instance.
     Own(u32),
     /// The cell that stands so far behind the one whose number the node has.
-    Element(Part, u32, u32),
+    Element(Part, u32, usize),
 }
 
 /// What is made of one value.
@@ -86,25 +86,25 @@ pub enum Node {
     One {
         op: OneOp,
         ty: Ty,
-        arg: u32,
+        arg: usize,
     },
     Two {
         op: TwoOp,
         ty: Ty,
         place: Place,
-        left: u32,
-        right: u32,
+        left: usize,
+        right: usize,
     },
     Three {
         op: ThreeOp,
-        first: u32,
-        second: u32,
-        third: u32,
+        first: usize,
+        second: usize,
+        third: usize,
     },
     /// The number that `from` has, and so many cells more for each step of the index above `low`; none is above `most`.
     Element {
-        from: u32,
-        index: u32,
+        from: usize,
+        index: usize,
         low: i64,
         high: i64,
         stride: u32,

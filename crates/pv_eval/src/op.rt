@@ -10,7 +10,7 @@ use pv_word::Ty;
 pub(crate) enum Arg {
     Constant(i64),
     /// What the operation of this node left.
-    Value(u32),
+    Value(usize),
     /// A visible cell.
     Visible(usize),
     /// The visible cell that stands so far behind the first one of the instance.

@@ -16,10 +16,10 @@ use crate::spot::{read, spot_in, visible_value};
 use crate::trap::Trap;
 use pv_place::{Place, TrapKind};
 
-fn value_at(values: &[i64], n: u32) -> i64
+fn value_at(values: &[i64], n: usize) -> i64
     ensures { result ≡ at values.now n }
 {
-    match values.get(n as usize) {
+    match values.get(n) {
         Some(v) => *v,
         None => 0,
     }

@@ -26,4 +26,4 @@ pub use laws::{
 pub use lex::{MAX_SOURCE, tokens};
 pub use pv_place::Place;
 pub use token::{Kind, Language, Token};
-pub use value::token_value;
+pub use value::{fitting_value, token_value};

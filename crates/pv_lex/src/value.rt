@@ -3,7 +3,7 @@ ghost use Rattle.std.specs.Prelude.{◌≡◌, ◌≤◌, ◌+◌, ◌*◌, ◌^
 ghost use Rattle.std.specs.List.{list_any};
 ghost use Rattle.pv_lex.specs.Shapes.{is_one_of, decimal_prefixes, hex_prefixes, time_prefixes};
 ghost use Rattle.pv_lex.specs.declared.token.Kind.TheVariants as k;
-ghost use Rattle.pv_lex.specs.Values.{token_value, digit_value, is_silent, value_behind, unit_value, time_behind, base_of, body_magnitude, magnitude, is_negative, number_value, runs_fit, with_byte, with_run_byte};
+ghost use Rattle.pv_lex.specs.Values.{token_value, digit_value, is_silent, value_behind, unit_value, time_behind, base_of, body_magnitude, magnitude, is_negative, number_value, fitting_value, runs_fit, with_byte, with_run_byte};
 
 use crate::class::Class;
 use crate::scan::{begins, word_len};
@@ -101,6 +101,16 @@ fn base_of(digits: &[u8]) -> u64
         8
     } else {
         16
+    }
+}
+
+/// The number that decimal digits make, or 0 where it has more than 64 bits, as no token's has.
+pub fn fitting_value(digits: &[u8]) -> u64
+    ensures { result ≡ fitting_value digits.now }
+{
+    match digits_value(10, digits) {
+        Some(value) => value,
+        None => 0,
     }
 }
 

@@ -2,17 +2,16 @@
 --
 -- What goes on behind a name that was read says what it makes of whatever tokens spelled that name: the path that lies on the stack is
 -- the front of an operand, or the called name of a call, or both, and which of them is decided behind it.
-use Rattle.std.proofs.Common.{◌≡◌, ℕ, Bool, true, false, List, [], ◌∷◌, ◌++◌, All, Option, Some, None}
+use Rattle.std.proofs.Common.{◌≡◌, Bool, true, List, [], ◌∷◌, ◌++◌, All, Option, Some, None}
 use Rattle.pv_place.specs.declared.place.Place.{Place}
 use Rattle.pv_types.specs.declared.name.Name.{Name}
 use Rattle.pv_types.specs.declared.declaration.Literal.{Literal}
 use Rattle.pv_lex.specs.declared.token.Kind.TheVariants as k
-use Rattle.pv_tree.specs.declared.expr.Root.{Root}
 use Rattle.pv_tree.specs.declared.expr.Root.TheVariants.{Local}
 use Rattle.pv_tree.specs.declared.stmt.Choice.{Choice}
 use Rattle.pv_tree.specs.declared.stmt.Choice.TheVariants as of
 use Rattle.pv_tree.specs.Tree.{PlacedName, ExprTree, StepTree, field, ArgTree, CallPlain, Choices, StmtTree, StmtTrees}
-use Rattle.pv_tree.specs.View.{steps_of, stmts_of, arms_of, branches_of, else_of}
+use Rattle.pv_tree.specs.View.{stmts_of, arms_of, branches_of, else_of}
 use Rattle.pv_tree.specs.Lexemes.{Lexeme, ◌⨾◌, IsSign, sign, word, maybe, listed, each_behind}
 use Rattle.pv_tree.specs.Words.{IsFree, plain_name, pair_name, quoted_name, SpellsWord, SpellsName}
 use Rattle.pv_tree.specs.Expressions.{SpellsExpr, IsFormedExpr, SpellsOperand, IsFormedOperand}

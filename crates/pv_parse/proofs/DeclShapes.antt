@@ -1,5 +1,5 @@
 -- What the names of declarations and blocks take off the stack and put there, as shapes.
-use Rattle.std.proofs.Common.{List, [], ◌∷◌, ◌++◌, ℕ, refl}
+use Rattle.std.proofs.Common.{List, ◌++◌, ℕ, refl}
 use Rattle.pv_ll.specs.Shapes.{IsTopped}
 use Rattle.pv_parse.specs.Items.{Stack}
 use Rattle.pv_parse.proofs.Sure.{Sure}

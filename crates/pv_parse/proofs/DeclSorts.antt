@@ -1,5 +1,5 @@
 -- What the names of declarations and blocks mean, by sort.
-use Rattle.std.proofs.Common.{◌≡◌, ℕ, List, [], ◌∷◌, ◌++◌, All, Option, Some, None}
+use Rattle.std.proofs.Common.{◌≡◌, List, [], ◌∷◌, ◌++◌, All, Option, Some}
 use Rattle.std.specs.Prelude.{ℤ}
 use Rattle.pv_word.specs.declared.types.Ty.{Ty}
 use Rattle.pv_place.specs.declared.place.Place.{Place}

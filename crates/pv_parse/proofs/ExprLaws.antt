@@ -28,7 +28,7 @@ use Rattle.pv_parse.specs.Items.{Stack, PathTree, token, path, expr}
 use Rattle.pv_parse.specs.ExprDeeds.{rooted, stepped, function_expr}
 use Rattle.pv_parse.specs.Deeds.{expression_actions}
 use Rattle.pv_parse.proofs.Sure.{IsPrefix}
-use Rattle.pv_parse.proofs.Sorts.{Sure, lexemes, sure_making, Holds, IsFreeWord, Sort, Does, a_label, a_word, a_firm, a_root, a_field, walks, an_expr, leads, word, root, walk, chain, on_path, on_expr, expression_sorts, meaning}
+use Rattle.pv_parse.proofs.Sorts.{Sure, lexemes, sure_making, Holds, IsFreeWord, Sort, Does, a_label, a_word, a_firm, a_root, a_field, walks, an_expr, leads, word, walk, chain, on_path, on_expr, expression_sorts, meaning}
 use Rattle.pv_parse.proofs.Forms.{last, parted, single, single_at, led, joined}
 use Rattle.pv_parse.proofs.ChainLaws.{on_lexemes, weaker, first_then, link_then, no_link, linked}
 use Rattle.pv_parse.proofs.TokenFacts as fact

@@ -2,8 +2,8 @@
 use Rattle.std.proofs.Common.{ℕ, List, [], ◌∷◌, ◌++◌, refl}
 use Rattle.pv_ll.specs.Shapes.{Shaping, IsTopped, Keeps}
 use Rattle.pv_parse.specs.declared.action.Action.{Action}
-use Rattle.pv_parse.specs.Items.{ItemTree, Stack, token, path, expr}
-use Rattle.pv_parse.proofs.Stacks.{Shape, a_token, a_path, an_expr, a_literal, shape_of, numbers, Tops, bare, top_path, top_expr, asked, met}
+use Rattle.pv_parse.specs.Items.{Stack}
+use Rattle.pv_parse.proofs.Stacks.{Shape, a_token, a_path, an_expr, a_literal, shape_of, numbers, Tops, top_path, top_expr, asked, met}
 use Rattle.pv_parse.proofs.CodeSorts.{code_takes, code_puts}
 use Rattle.pv_parse.proofs.CodeShapes.{code_leaves}
 use Rattle.pv_parse.proofs.DeclSorts.{decl_takes, decl_puts}

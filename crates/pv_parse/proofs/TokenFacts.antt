@@ -1,6 +1,6 @@
 -- What a token is that has a kind, as the laws of productions ask for it.
 use Prim.Native.String.{String}
-use Rattle.std.proofs.Common.{◌≡◌, ◌⊎◌, inl, inr, ℕ, true, List, [], ◌∷◌, ◌++◌, Option, Some, None, refl, ap, sym, subst, ◌∙◌, arith}
+use Rattle.std.proofs.Common.{◌≡◌, ◌⊎◌, inl, inr, ℕ, List, [], ◌∷◌, ◌++◌, Option, Some, None, refl, ap, sym, subst, ◌∙◌, arith}
 use Rattle.std.specs.Prelude.{pos}
 use Rattle.pv_word.specs.declared.types.Ty.TheVariants as ty
 use Rattle.pv_lex.specs.declared.token.Kind.TheVariants as k

@@ -1,5 +1,5 @@
 -- What the alternatives of blocks and of the values of data blocks make of what lies on the stack.
-use Rattle.std.specs.Prelude.{List, [], ◌∷◌, ◌++◌, Option, Some, None, option_and_then}
+use Rattle.std.specs.Prelude.{[], ◌∷◌, ◌++◌, Option, Some, None, option_and_then}
 use Rattle.pv_tree.specs.declared.block.BlockKind.{BlockKind}
 use Rattle.pv_tree.specs.declared.block.BlockKind.TheVariants as kind
 use Rattle.pv_tree.specs.Tree.{PlacedName, lit, index, BodyTree, scl, starts, BlockTree}

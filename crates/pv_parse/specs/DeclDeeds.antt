@@ -14,7 +14,7 @@ use Rattle.pv_parse.specs.declared.action.DeclAction.{DeclAction}
 use Rattle.pv_parse.specs.declared.action.DeclAction.TheVariants as a
 use Rattle.pv_parse.specs.TokenTexts.{truth_of}
 use Rattle.pv_parse.specs.DeclTexts.{type_of_word, section_of_word}
-use Rattle.pv_parse.specs.Items.{Stack, FieldsTree, BoundsTree, name, literal, words, around, fields, typed, start, bounds, token_on, path_on, literal_on}
+use Rattle.pv_parse.specs.Items.{Stack, FieldsTree, name, literal, words, around, fields, typed, start, bounds, token_on, path_on, literal_on}
 use Rattle.pv_parse.specs.DeclStack.{word_on, name_of, name_on, words_on, around_on, fields_on, typed_on, start_on, bounds_on}
 
 -- a name that stands alone

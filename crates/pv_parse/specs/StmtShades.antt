@@ -1,8 +1,6 @@
 -- What is known of statements and calls while a tree isn't built yet, and what their alternatives do with it.
 use Rattle.std.specs.Prelude.{[], ◌∷◌, List}
 use Rattle.pv_place.specs.declared.place.Place.{Place}
-use Rattle.pv_types.specs.declared.declaration.Literal.{Literal}
-use Rattle.pv_tree.specs.declared.stmt.Choice.{Choice}
 use Rattle.pv_tree.specs.Tree.{ArgTree, CallPlain, StmtTree, assign, assign_call, if_, case_, for_, while_, repeat_, exit_, continue_, return_, call_, empty_, StmtTrees, no_stmts, stmts, ArmTrees, no_arms, arms, BranchTrees, no_branches, branches, ElseTree, no_else, else_}
 use Rattle.pv_tree.specs.View.{stmts_of, arms_of, branches_of, else_of}
 use Rattle.pv_tree.specs.Nesting.{first_of, first_of_stmt}

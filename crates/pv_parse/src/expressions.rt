@@ -101,7 +101,7 @@ pub fn area(alloc: Global, stack: &mut Vec<Item>) -> Result<(), Stop>
     ensures { Leaves result (stack_of stack.new) (area_deed (stack_of stack.old)) }
 {
     let token = pop_token(stack)?;
-    let root = area_of(token.bytes)?;
+    let root = area_of(token.bytes);
     push_root(alloc, root, token.place, stack)
 }
 

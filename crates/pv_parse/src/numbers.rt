@@ -1,18 +1,17 @@
 //! The types of numbers, and the parts of addresses.
-ghost use Rattle.std.specs.Prelude.{◌≡◌, ◌≤◌, ◌^◌, pos, neg_ℤ, ◌≤ℤ◌, IfOk, IfSome, length, drop, not, ◌∷◌, []};
+ghost use Rattle.std.specs.Prelude.{◌≡◌, ◌≤◌, ◌^◌, pos, neg_ℤ, ◌≤ℤ◌, length, drop, not, ◌∷◌, []};
 ghost use Rattle.pv_lex.specs.Shapes.{is_one_of};
 ghost use Rattle.std.specs.List.{prefix_len};
 ghost use Rattle.std.specs.Char.{is_ascii_digit};
 ghost use Rattle.pv_lex.specs.Classes.{is_word_byte};
-ghost use Rattle.pv_lex.specs.Values.{token_value, digit_value, is_silent, with_byte, value_behind};
+ghost use Rattle.pv_lex.specs.Values.{token_value};
 ghost use Rattle.pv_tree.specs.Literals.{prefix_type, number_type, bare_address, address_bits, from_digit, leading_digits, behind_digits};
 ghost use Rattle.pv_parse.specs.TokenTexts.{is_text, starts, area_of_letter, area_of};
 
 use crate::texts::is_text;
-use pv_lex::{Kind, token_value};
+use pv_lex::{Kind, fitting_value, token_value};
 use pv_tree::{Area, Root};
 use pv_word::Ty;
-use std::alloc::AllocError;
 
 /// Whether this byte begins the text.
 fn starts(text: &[u8], byte: u8) -> bool
@@ -177,65 +176,18 @@ fn digit_len(text: &[u8]) -> usize
     text.iter().take_while(|byte| byte.is_ascii_digit()).count()
 }
 
-/// The number that a digit stands for.
-fn digit_value(byte: u8) -> u64
-    ensures { result ≡ digit_value byte }
-{
-    if byte < 65 {
-        u64::from(byte.saturating_sub(48))
-    } else if byte < 97 {
-        u64::from(byte - 55)
-    } else {
-        u64::from(byte - 87)
-    }
-}
-
-/// Whether the byte stands in a number and isn't a digit.
-fn is_silent(byte: u8) -> bool
-    ensures { result ≡ is_silent byte }
-{
-    byte == b'_' || byte == b'+' || byte == b'-'
-}
-
-/// The number with a digit behind it, where 64 bits hold it.
-fn with_byte(value: u64, byte: u8) -> Option<u64>
-    ensures { IfSome result (λ next. next ≡ with_byte 10 value byte) }
-{
-    if is_silent(byte) {
-        return Some(value);
-    }
-    value.checked_mul(10)?.checked_add(digit_value(byte))
-}
-
-/// The number that the digits make. A token's has at most 64 bits; where another text's has more,
-/// the answer is want of memory.
-fn digits_value(digits: &[u8]) -> Result<u64, AllocError>
-    ensures { IfOk result (λ value. value ≡ value_behind 10 0 digits.now) }
-{
-    let mut value = 0u64;
-    for byte in digits {
-        let Some(next) = with_byte(value, *byte) else {
-            return Err(AllocError);
-        };
-        value = next;
-    }
-    Ok(value)
-}
-
 /// The operand that an address begins.
 #[tactic(auto, unfolding(crate::specs::TokenTexts::area_of))]
-pub fn area_of(bytes: &[u8]) -> Result<Root, AllocError>
-    ensures { IfOk result (λ root. root ≡ area_of bytes.now) }
+pub fn area_of(bytes: &[u8]) -> Root
+    ensures { result ≡ area_of bytes.now }
 {
     let text = bare_address(bytes);
     let from = from_digit(text);
     let (digits, rest) = from.split_at(digit_len(from));
-    let byte = digits_value(digits)?;
-    let bit = digits_value(behind_first(rest))?;
-    Ok(Root::Area {
+    Root::Area {
         area: area_letter(text),
         bits: address_bits(text),
-        byte,
-        bit,
-    })
+        byte: fitting_value(digits),
+        bit: fitting_value(behind_first(rest)),
+    }
 }

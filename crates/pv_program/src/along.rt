@@ -16,8 +16,8 @@ ghost use Rattle.pv_program.specs.Handed.{goes_in, goes_out, handed_of, FindsArg
 ghost use Rattle.pv_program.specs.Sought.{HaveAll, AreSought};
 ghost use Rattle.pv_program.specs.Given.{FindsGiven};
 
-use crate::call::{hand_in, hand_out};
 use crate::given::Given;
+use crate::handing::{hand_in, hand_out};
 use pv_names::{Firsts, How};
 use pv_resolve::{Context, ResolveFault};
 use pv_run::{Inward, Outward, Program};

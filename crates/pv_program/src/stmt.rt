@@ -1,110 +1,31 @@
 //! Statements, each with the lists in it put behind the program before it.
 //!
 //! The recursion goes as deep as statements stand inside each other.
-ghost use Rattle.std.specs.Prelude.{◌≡◌, ◌≤◌, length, map, option_map, IfOk, IfErr, IsOk, OnOk};
+ghost use Rattle.std.specs.Prelude.{◌≡◌, length, map, option_map, IfOk, IfErr, IsOk, OnOk};
 ghost use Rattle.pv_place.specs.declared.place.Place.{Place};
-ghost use Rattle.pv_tree.specs.Tree.{if_, case_, for_, while_, repeat_, assign, assign_call, call_};
-ghost use Rattle.pv_tree.specs.View.{expr_tree, operand_tree, call_tree, stmt_tree, stmt_trees, arms_of, branches_of, else_of};
+ghost use Rattle.pv_tree.specs.Tree.{if_, case_, for_, while_, repeat_};
+ghost use Rattle.pv_tree.specs.View.{expr_tree, stmt_tree, stmt_trees, arms_of, branches_of, else_of};
 ghost use Rattle.pv_mean.specs.Sources.{Source};
 ghost use Rattle.pv_mean.specs.Statements.{step_of};
-ghost use Rattle.pv_run.specs.Code.{IsStmt, AreArms, AreBranches, Counts};
+ghost use Rattle.pv_run.specs.Code.{AreArms, AreBranches, Counts};
 ghost use Rattle.pv_resolve.specs.Contexts.{IsContext, block_in};
-ghost use Rattle.pv_tree.specs.Callees.{as_statement, as_value};
-ghost use Rattle.pv_tree.specs.Parts.{site};
-ghost use Rattle.pv_resolve.specs.Rooms.{HasRoom, FitsExpr, FitsOperand};
+ghost use Rattle.pv_resolve.specs.Rooms.{HasRoom, FitsExpr};
 ghost use Rattle.pv_resolve.specs.declared.fault.ResolveFault.TheVariants.{NoMemory};
-ghost use Rattle.pv_laws_room.specs.Bodies.{FitsLiteral, FitsCall, FitsStmt, FitsStmts, FitsArms, FitsBranches, FitsElse};
+ghost use Rattle.pv_laws_room.specs.Bodies.{FitsLiteral, FitsStmt, FitsStmts, FitsArms, FitsBranches, FitsElse};
 ghost use Rattle.pv_program.specs.Growth.{Extends};
-ghost use Rattle.pv_program.specs.Led.{AreLed, HasAllRoom, RunsLed, CallsLed, AllLed, ArmsLed, BranchesLed, ElseLed};
+ghost use Rattle.pv_program.specs.Led.{AreLed, HasAllRoom, CallsLed, AllLed, ArmsLed, BranchesLed, ElseLed};
 ghost use Rattle.pv_program.specs.Made.{IsNext, IsList, IsOther};
 
-use crate::call::add_call;
 use crate::choice::add_choices;
 use crate::grow::{append_arms, append_branches, append_stmts};
-use crate::value::{add_counter, add_target, add_value};
-use pv_names::How;
+use crate::plain::{make_assign, make_assign_call, make_called};
+use crate::value::{add_counter, add_value};
 use pv_place::Place;
 use pv_resolve::{Context, ResolveFault, number_of};
 use pv_run::{Arm, Branch, Counting, List, Program, Span, Stmt};
-use pv_tree::{CallTree, ChoiceRange, Expr, ForHead, Operand, Stmt as StmtTree};
+use pv_tree::{ChoiceRange, Expr, ForHead, Stmt as StmtTree};
 use pv_types::Literal;
 use std::alloc::Global;
-
-fn make_assign(
-    alloc: Global,
-    context: &Context,
-    program: &mut Program,
-    target: &Operand,
-    value: &Expr,
-) -> Result<Stmt, ResolveFault>
-    ensures grows { OnOk result (Extends program.old program.new) }
-    ensures means { (source : Source) (place : Place) → IsContext context.now source
-        → IfOk result (λ c. IsNext source (block_in context.now) program.new c
-        (assign (operand_tree target.now) place (expr_tree value.now))) }
-    ensures calls { OnOk result (program.new.calls ≡ program.old.calls) }
-    ensures room { (source : Source) → IsContext context.now source
-        → HasRoom source (block_in context.now)
-        → FitsOperand (operand_tree target.now) → FitsExpr (expr_tree value.now)
-        → IfErr result (λ e. e ≡ NoMemory) }
-{
-    let from = add_value(alloc, context, program, value)?;
-    let to = add_target(alloc, context, program, target)?;
-    Ok(Stmt::Assign { value: from, to })
-}
-
-fn make_assign_call(
-    alloc: Global,
-    context: &Context,
-    program: &mut Program,
-    target: &Operand,
-    call: &CallTree,
-) -> Result<Stmt, ResolveFault>
-    ensures grows { OnOk result (Extends program.old program.new) }
-    ensures means { (source : Source) (place : Place) → IsContext context.now source
-        → IfOk result (λ c. IsNext source (block_in context.now) program.new c
-        (assign_call (operand_tree target.now) place (call_tree call.now))) }
-    ensures room { (source : Source) → IsContext context.now source
-        → HasAllRoom source (block_in context.now)
-        → FitsOperand (operand_tree target.now) → FitsCall (call_tree call.now)
-        → RunsLed source (block_in context.now) (site as_value (call_tree call.now))
-        → IfErr result (λ e. e ≡ NoMemory) }
-    ensures led { (source : Source) → IsContext context.now source
-        → RunsLed source (block_in context.now) (site as_value (call_tree call.now))
-        → AreLed source program.old.calls.items
-        → OnOk result (AreLed source program.new.calls.items) }
-{
-    let made = add_call(alloc, context, How::Value, call, program)?;
-    let to = add_target(alloc, context, program, target)?;
-    Ok(Stmt::AssignCall {
-        call: made,
-        to,
-        place: call.place,
-    })
-}
-
-fn make_called(
-    alloc: Global,
-    context: &Context,
-    program: &mut Program,
-    call: &CallTree,
-) -> Result<Stmt, ResolveFault>
-    ensures grows { OnOk result (Extends program.old program.new) }
-    ensures means { (source : Source) → IsContext context.now source
-        → IfOk result (λ c. IsNext source (block_in context.now) program.new c
-        (call_ (call_tree call.now))) }
-    ensures room { (source : Source) → IsContext context.now source
-        → HasAllRoom source (block_in context.now)
-        → FitsCall (call_tree call.now)
-        → RunsLed source (block_in context.now) (site as_statement (call_tree call.now))
-        → IfErr result (λ e. e ≡ NoMemory) }
-    ensures led { (source : Source) → IsContext context.now source
-        → RunsLed source (block_in context.now) (site as_statement (call_tree call.now))
-        → AreLed source program.old.calls.items
-        → OnOk result (AreLed source program.new.calls.items) }
-{
-    let made = add_call(alloc, context, How::Statement, call, program)?;
-    Ok(Stmt::Call(made))
-}
 
 /// The step of a FOR: 1 where none is written.
 fn step_of(by: &Option<Literal>) -> Result<i64, ResolveFault>

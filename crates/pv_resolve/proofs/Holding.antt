@@ -1,8 +1,6 @@
 -- What begins with a block, and fields of data blocks.
 use Rattle.std.proofs.Common.{◌≡◌, ℕ, List, map, Option, Some, None, slice_get, true, false, refl, sym, ap, subst, ◌∙◌}
 use Rattle.std.specs.Prelude.{Bool as Truth, if◌then◌else◌, bytes_eq, IfSome}
-use Rattle.std.proofs.lemmas.Bool.{true≢false}
-use Rattle.std.proofs.lemmas.Option.{none-some, same_Some}
 use Rattle.pv_types.specs.Tree.{TypeTree, unread, VarTree, VarTrees, structure}
 use Rattle.pv_types.specs.View.{listed}
 use Rattle.pv_tree.specs.declared.block.BlockKind.{BlockKind}
@@ -11,12 +9,12 @@ use Rattle.pv_tree.specs.Tree.{BlockTree}
 use Rattle.pv_tree.specs.Scopes.{ProjectTree, first_block, first_var, own_value}
 use Rattle.pv_tree.specs.Things.{quoted_value}
 use Rattle.pv_names.specs.Firsts.{first_number}
-use Rattle.pv_names.specs.Tables.{blocks_of, project_of}
+use Rattle.pv_names.specs.Tables.{blocks_of}
 use Rattle.pv_names.specs.Views.{held_tree}
 use Rattle.pv_mean.specs.Layout as layout
 use Rattle.pv_mean.specs.Sources.{Source}
 use Rattle.pv_mean.specs.Spots.{nowhere}
-use Rattle.pv_mean.specs.Activations.{Begins, in_visible, in_brief, at, block_begins, block_or, variable_or, value_or, word_begins, name_begins}
+use Rattle.pv_mean.specs.Activations.{Begins, in_visible, in_brief, at, block_begins, block_or, variable_or, value_or, word_begins}
 use Rattle.pv_eval.specs.Means.{activation}
 use Rattle.pv_resolve.specs.declared.context.Context.{Context}
 use Rattle.pv_resolve.specs.declared.begin.Begin.{Begin}

@@ -26,7 +26,6 @@ use Rattle.pv_names.specs.Tables.{blocks_of, symbols_of, project_of}
 use Rattle.pv_mean.specs.declared.count.TheConstants.{BEYOND}
 use Rattle.pv_mean.specs.Counts.{capped}
 use Rattle.pv_mean.specs.Layout as layout
-use Rattle.pv_mean.specs.LaidOut.{capped_laid}
 use Rattle.pv_mean.specs.AreaBytes.{place_of_byte}
 use Rattle.pv_mean.specs.Sources.{Source, data_block_first, byte_number}
 use Rattle.pv_mean.specs.Sized.{sized_project}

@@ -25,7 +25,7 @@ use pv_tree::{BinaryOp, StdFunction, UnaryOp};
 use pv_word::Ty;
 
 /// The node of a literal of this value.
-pub(crate) fn push_literal(nodes: &mut Vec<Node>, v: &i64) -> Result<u32, ResolveFault>
+pub(crate) fn push_literal(nodes: &mut Vec<Node>, v: &i64) -> Result<usize, ResolveFault>
     requires { AreNodes nodes.old.items }
     ensures grows { OnOk result (Grows nodes.old.items nodes.new.items) }
     ensures within { IfOk result (λ n. n < length nodes.new.items) }
@@ -42,7 +42,7 @@ pub(crate) fn push_read(
     nodes: &mut Vec<Node>,
     from: Operand,
     place: Place,
-) -> Result<u32, ResolveFault>
+) -> Result<usize, ResolveFault>
     requires nodes { AreNodes nodes.old.items }
     requires operand { IsOperand (length nodes.old.items) from }
     ensures grows { OnOk result (Grows nodes.old.items nodes.new.items) }
@@ -56,7 +56,7 @@ pub(crate) fn push_read(
     push(nodes, Node::Read(from, place))
 }
 
-fn push_one(nodes: &mut Vec<Node>, op: OneOp, ty: Ty, arg: u32) -> Result<u32, ResolveFault>
+fn push_one(nodes: &mut Vec<Node>, op: OneOp, ty: Ty, arg: usize) -> Result<usize, ResolveFault>
     requires nodes { AreNodes nodes.old.items }
     requires arg { arg < length nodes.old.items }
     ensures adds { IfOk result (Adds nodes.old.items nodes.new.items (One op ty arg)) }
@@ -70,8 +70,8 @@ pub(crate) fn push_unary(
     nodes: &mut Vec<Node>,
     op: UnaryOp,
     ty: Ty,
-    arg: u32,
-) -> Result<u32, ResolveFault>
+    arg: usize,
+) -> Result<usize, ResolveFault>
     requires nodes { AreNodes nodes.old.items }
     requires arg { arg < length nodes.old.items }
     ensures grows { OnOk result (Grows nodes.old.items nodes.new.items) }
@@ -117,9 +117,9 @@ pub(crate) fn push_binary(
     op: BinaryOp,
     ty: Ty,
     place: Place,
-    left: u32,
-    right: u32,
-) -> Result<u32, ResolveFault>
+    left: usize,
+    right: usize,
+) -> Result<usize, ResolveFault>
     requires nodes { AreNodes nodes.old.items }
     requires left { left < length nodes.old.items }
     requires right { right < length nodes.old.items }
@@ -150,8 +150,8 @@ pub(crate) fn push_function(
     function: StdFunction,
     ty: Ty,
     place: Place,
-    numbers: &[u32],
-) -> Result<u32, ResolveFault>
+    numbers: &[usize],
+) -> Result<usize, ResolveFault>
     requires nodes { AreNodes nodes.old.items }
     requires numbers { All (λ k. k < length nodes.old.items) numbers.now }
     requires enough { arity function ≤ length numbers.now }

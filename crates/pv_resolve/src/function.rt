@@ -18,7 +18,7 @@ pub(crate) fn arity(function: StdFunction) -> usize
     }
 }
 
-fn one(op: OneOp, ty: Ty, numbers: &[u32]) -> Node
+fn one(op: OneOp, ty: Ty, numbers: &[usize]) -> Node
     requires { 1 ≤ length numbers.now }
     ensures { AppliesTo numbers.now result (one_value op ty) }
 {
@@ -29,7 +29,7 @@ fn one(op: OneOp, ty: Ty, numbers: &[u32]) -> Node
     }
 }
 
-fn two(op: TwoOp, ty: Ty, place: Place, numbers: &[u32]) -> Node
+fn two(op: TwoOp, ty: Ty, place: Place, numbers: &[usize]) -> Node
     requires { 2 ≤ length numbers.now }
     ensures { AppliesTo numbers.now result (two_value op ty place) }
 {
@@ -42,7 +42,7 @@ fn two(op: TwoOp, ty: Ty, place: Place, numbers: &[u32]) -> Node
     }
 }
 
-fn three(op: ThreeOp, numbers: &[u32]) -> Node
+fn three(op: ThreeOp, numbers: &[usize]) -> Node
     requires { 3 ≤ length numbers.now }
     ensures { AppliesTo numbers.now result (three_value op) }
 {
@@ -55,7 +55,12 @@ fn three(op: ThreeOp, numbers: &[u32]) -> Node
 }
 
 /// The node of a function of these nodes' values. The type is that of its result.
-pub(crate) fn node_of_function(function: StdFunction, ty: Ty, place: Place, numbers: &[u32]) -> Node
+pub(crate) fn node_of_function(
+    function: StdFunction,
+    ty: Ty,
+    place: Place,
+    numbers: &[usize],
+) -> Node
     requires { arity function ≤ length numbers.now }
     ensures { AppliesTo numbers.now result (function_value function ty) }
 {

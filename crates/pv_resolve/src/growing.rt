@@ -11,15 +11,13 @@ use pv_eval::Node;
 use pv_place::Place;
 
 /// Puts a node behind the others, and gives its number.
-pub(crate) fn push(nodes: &mut Vec<Node>, node: Node) -> Result<u32, ResolveFault>
+pub(crate) fn push(nodes: &mut Vec<Node>, node: Node) -> Result<usize, ResolveFault>
     requires ordered { AreNodes nodes.old.items }
     requires follows { MayFollow nodes.old.items node }
     ensures adds { IfOk result (Adds nodes.old.items nodes.new.items node) }
     ensures memory { IfErr result (λ e. e ≡ NoMemory) }
 {
-    let Ok(n) = u32::try_from(nodes.len()) else {
-        return Err(ResolveFault::NoMemory);
-    };
+    let n = nodes.len();
     nodes.push(node)?;
     Ok(n)
 }
@@ -51,10 +49,10 @@ fn most_of(node: &Node) -> Option<u64>
 }
 
 /// The same of the node of this number.
-fn most_at(nodes: &[Node], n: u32) -> Option<u64>
+fn most_at(nodes: &[Node], n: usize) -> Option<u64>
     ensures { result ≡ most_at nodes.now n }
 {
-    match nodes.get(n as usize) {
+    match nodes.get(n) {
         Some(node) => most_of(node),
         None => None,
     }
@@ -77,7 +75,7 @@ fn most_behind(before: u64, elements: &Elements) -> Option<u32>
 }
 
 /// The same behind the node of this number.
-fn most_behind_node(nodes: &[Node], from: u32, elements: &Elements) -> Option<u32>
+fn most_behind_node(nodes: &[Node], from: usize, elements: &Elements) -> Option<u32>
     ensures most { IfSome result (IsMost (most_at nodes.now from)
         (span elements.now.low elements.now.high elements.now.stride)) }
     ensures is { (before : ℕ) → most_at nodes.now from ≡ Some before
@@ -93,11 +91,11 @@ fn most_behind_node(nodes: &[Node], from: u32, elements: &Elements) -> Option<u3
 /// Puts the number of an element's cell behind the others, from that of the first element.
 pub(crate) fn push_element(
     nodes: &mut Vec<Node>,
-    from: u32,
-    index: u32,
+    from: usize,
+    index: usize,
     elements: &Elements,
     place: Place,
-) -> Result<u32, ResolveFault>
+) -> Result<usize, ResolveFault>
     requires ordered { AreNodes nodes.old.items }
     requires from { from < length nodes.old.items }
     requires index { index < length nodes.old.items }

@@ -46,7 +46,7 @@ use std::alloc::Global;
 /// The node that has an expression's value, and what the expression is to the operators around it.
 #[derive(Clone, Copy)]
 pub(crate) struct Made {
-    pub(crate) node: u32,
+    pub(crate) node: usize,
     pub(crate) sort: Sort,
 }
 
@@ -117,7 +117,7 @@ fn type_of_sort(sort: Sort) -> Ty
 }
 
 /// A missing argument is 0.
-fn pad(nodes: &mut Vec<Node>, numbers: &mut Vec<u32>, count: usize) -> Result<(), ResolveFault>
+fn pad(nodes: &mut Vec<Node>, numbers: &mut Vec<usize>, count: usize) -> Result<(), ResolveFault>
     requires nodes { AreNodes nodes.old.items }
     requires numbers { All (λ k. k < length nodes.old.items) numbers.old.items }
     ensures grows { OnOk result (Grows nodes.old.items nodes.new.items) }
@@ -140,7 +140,7 @@ fn push_applied(
     nodes: &mut Vec<Node>,
     function: StdFunction,
     place: Place,
-    numbers: Vec<u32>,
+    numbers: Vec<usize>,
     sort: Sort,
 ) -> Result<Made, ResolveFault>
     requires nodes { AreNodes nodes.old.items }

@@ -43,7 +43,7 @@ use pv_word::Ty;
 pub(crate) struct Walk<'p> {
     pub(crate) begin: Begin<'p>,
     /// The node of the address, where an index was among the steps.
-    pub(crate) address: Option<u32>,
+    pub(crate) address: Option<usize>,
     /// The number of the block that holds it, if that is known: where no step was gone yet.
     pub(crate) block: Option<usize>,
 }
@@ -70,7 +70,7 @@ fn cell(part: Where, ty: Ty, first: u32) -> Operand
 }
 
 /// The cell of a simple type so many further as the node's value says.
-fn cell_behind(part: Where, ty: Ty, first: u32, address: u32) -> Operand
+fn cell_behind(part: Where, ty: Ty, first: u32, address: usize) -> Operand
     ensures value { (begin : ℕ) (values : List ℤ) → operands.spot_at begin values result
         ≡ act.spot_of (begins_further (unsigned_abs (operands.at values address))
         (begins_in part begin (record { ty = plain ty; first = first }))) }
@@ -84,7 +84,7 @@ fn cell_behind(part: Where, ty: Ty, first: u32, address: u32) -> Operand
 }
 
 /// The cell of a simple type, alone or so many further as the address says.
-fn cell_at(part: Where, ty: Ty, first: u32, address: Option<u32>) -> Operand
+fn cell_at(part: Where, ty: Ty, first: u32, address: Option<usize>) -> Operand
     ensures value { (begin : ℕ) (values : List ℤ) → operands.spot_at begin values result
         ≡ act.spot_of (begins_behind address (address_value address values)
         (begins_in part begin (record { ty = plain ty; first = first }))) }
@@ -97,7 +97,7 @@ fn cell_at(part: Where, ty: Ty, first: u32, address: Option<u32>) -> Operand
 }
 
 /// What is laid out, so many cells further as the address says. A whole array, structure or instance is none.
-fn part_at(part: Where, laid: LaidLevel, address: Option<u32>) -> Operand
+fn part_at(part: Where, laid: LaidLevel, address: Option<usize>) -> Operand
     ensures value { (begin : ℕ) (values : List ℤ) → operands.spot_at begin values result
         ≡ act.spot_of (begins_behind address (address_value address values)
         (begins_in part begin (laid_tree laid.entry))) }
@@ -125,7 +125,7 @@ pub(crate) fn operand_at(walk: Walk) -> Operand
 }
 
 /// The node of a walk's address: one of 0 where it has none yet.
-pub(crate) fn address_of(nodes: &mut Vec<Node>, walk: Walk) -> Result<u32, ResolveFault>
+pub(crate) fn address_of(nodes: &mut Vec<Node>, walk: Walk) -> Result<usize, ResolveFault>
     requires ordered { AreNodes nodes.old.items }
     requires address { IfSome walk.address (λ n. n < length nodes.old.items) }
     ensures grows { OnOk result (Grows nodes.old.items nodes.new.items) }
@@ -193,8 +193,8 @@ impl<'p> Context<'p> {
         part: Where,
         laid: LaidLevel<'p>,
         bounds: Bounds<'p>,
-        from: u32,
-        index: u32,
+        from: usize,
+        index: usize,
         place: Place,
     ) -> Result<Walk<'p>, ResolveFault>
         requires ordered { AreNodes nodes.old.items }
@@ -240,8 +240,8 @@ impl<'p> Context<'p> {
         nodes: &mut Vec<Node>,
         part: Where,
         laid: LaidLevel<'p>,
-        from: u32,
-        index: u32,
+        from: usize,
+        index: usize,
         place: Place,
     ) -> Result<Walk<'p>, ResolveFault>
         requires ordered { AreNodes nodes.old.items }
@@ -287,8 +287,8 @@ impl<'p> Context<'p> {
         &self,
         nodes: &mut Vec<Node>,
         begin: Begin<'p>,
-        from: u32,
-        index: u32,
+        from: usize,
+        index: usize,
         place: Place,
     ) -> Result<Walk<'p>, ResolveFault>
         requires ordered { AreNodes nodes.old.items }

@@ -1,3 +1,4 @@
+mod AddressLaws
 mod KeptRules
 pub mod NamedTypes
 mod ToldCalls

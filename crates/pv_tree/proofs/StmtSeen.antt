@@ -1,9 +1,9 @@
 -- Statements of the code as plain data, form by form.
-use Rattle.std.proofs.Common.{◌≡◌, sym, ap, ◌∙◌, map, Option, None, Some}
+use Rattle.std.proofs.Common.{◌≡◌, sym, ap, ◌∙◌, map, None, Some}
 use Rattle.std.specs.Prelude.{option_map}
 use Rattle.std.proofs.lemmas.Simd.{map-map}
 use Rattle.pv_place.specs.declared.place.Place.{Place}
-use Rattle.pv_tree.specs.declared.stmt.Stmt.{Stmt, fold-roll-Stmt}
+use Rattle.pv_tree.specs.declared.stmt.Stmt.{fold-roll-Stmt}
 use Rattle.pv_tree.specs.declared.stmt.Stmt.TheViews as form
 use Rattle.pv_tree.specs.declared.stmt.Stmt.TheVariants.{rolls-If, rolls-Case, rolls-For}
 use Rattle.pv_tree.specs.declared.stmt.Stmt.TheOpen.{Stmt-F}

@@ -10,7 +10,7 @@ use Rattle.pv_lex.specs.declared.token.Kind.TheVariants as k
 use Rattle.pv_lex.specs.declared.class.Class.TheVariants as c
 use Rattle.pv_lex.specs.Classes.{is_word_byte}
 use Rattle.pv_lex.specs.Shapes.{begins, is_one_of}
-use Rattle.pv_lex.specs.Values.{value_behind}
+use Rattle.pv_lex.specs.Values.{fitting_value}
 use Rattle.pv_tree.specs.declared.expr.Area.{Area}
 use Rattle.pv_tree.specs.declared.expr.Area.TheVariants as area
 use Rattle.pv_tree.specs.Lexemes.{Lexeme, Form, ◌∣◌, ◌⨾◌, one, IsAt, IsWord, sign, sign_at}
@@ -129,12 +129,13 @@ leading_digits text = take (prefix_len is_ascii_digit text) text
 abbrev pub behind_digits : List ℕ → List ℕ
 behind_digits text = drop (prefix_len is_ascii_digit text) text
 
--- the number of the byte, and that of the bit behind the dot, 0 where there is none
+-- the number of the byte, and that of the bit behind the dot, 0 where there is none; no token has one of
+-- more than 64 bits
 abbrev pub address_byte : List ℕ → ℕ
-address_byte text = value_behind 10 0 (leading_digits (from_digit text))
+address_byte text = fitting_value (leading_digits (from_digit text))
 
 abbrev pub address_bit : List ℕ → ℕ
-address_bit text = value_behind 10 0 (drop 1 (behind_digits (from_digit text)))
+address_bit text = fitting_value (drop 1 (behind_digits (from_digit text)))
 
 -- an address of this part of an area
 pub record IsAddress (its_area : Area) (bits byte bit : ℕ) (t : Lexeme) : Type 0 where

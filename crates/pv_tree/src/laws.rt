@@ -1,10 +1,15 @@
-//! Laws of spelling, nesting and words outside the profile.
-ghost use Rattle.std.specs.Prelude.{◌≡◌, ◌⊎◌, ◌↔◌, ℕ, List, Some};
+//! Laws of addresses, spelling, nesting and words outside the profile.
+ghost use Rattle.std.specs.Prelude.{◌≡◌, ◌⊎◌, ◌↔◌, ℕ, List, Some, drop};
 ghost use Rattle.pv_types.specs.declared.declaration.Section.{Section};
 ghost use Rattle.pv_types.specs.Tree.{VarTrees};
+ghost use Rattle.pv_lex.specs.declared.context.Context.{Context};
+ghost use Rattle.pv_lex.specs.declared.token.Kind.TheVariants.{Address};
 ghost use Rattle.pv_lex.specs.declared.token.Language.{Language};
+ghost use Rattle.pv_lex.specs.Tokens.{IsNext};
+ghost use Rattle.pv_lex.specs.Values.{value_behind};
 ghost use Rattle.pv_tree.specs.Tree.{ExprTree, OperandTree, CallPlain, StmtTree, StmtTrees, BlockTree};
 ghost use Rattle.pv_tree.specs.Lexemes.{Lexeme, first_place, ◌⨾◌};
+ghost use Rattle.pv_tree.specs.Literals.{bare_address, from_digit, leading_digits, behind_digits, address_byte, address_bit};
 ghost use Rattle.pv_tree.specs.Expressions.{SpellsExpr, SpellsOperand};
 ghost use Rattle.pv_tree.specs.Calls.{SpellsCall};
 ghost use Rattle.pv_tree.specs.Statements.{SpellsStmt, SpellsEnd, SpellsStmts};
@@ -16,6 +21,19 @@ ghost use Rattle.pv_tree.specs.Depth.{levels_of_vars, levels_of_block, levels_of
 ghost use Rattle.pv_tree.specs.Order.{Along, HasAbove, IsAmong};
 ghost use Rattle.pv_tree.specs.Reading.{IsSyntaxFault, ReadAsBlocks, ReadAsExpression};
 ghost use Rattle.pv_tree.specs.Outside.{IsFirstOutside, IsWithin};
+
+/// A law: the numbers of a token that is an address are those that its digits make, since each of
+/// them has at most 64 bits.
+pub fn addresses_say_their_digits()
+    ensures byte { (language : Language) (context : Context) (bytes rest : List ℕ)
+        → IsNext language context (Some Address) bytes rest
+        → address_byte (bare_address bytes)
+        ≡ value_behind 10 0 (leading_digits (from_digit (bare_address bytes))) }
+    ensures bit { (language : Language) (context : Context) (bytes rest : List ℕ)
+        → IsNext language context (Some Address) bytes rest
+        → address_bit (bare_address bytes)
+        ≡ value_behind 10 0 (drop 1 (behind_digits (from_digit (bare_address bytes)))) }
+{}
 
 /// A law: the first of the tokens that spell an expression, an operand, a call or a statement with
 /// its `;` stands at the place that the tree says.

@@ -23,8 +23,8 @@ pub use expr::{Area, BinaryOp, Expr, Operand, Root, StdFunction, Step, UnaryOp};
 pub use instr::{Behind, Instr, Op};
 pub use kept::Project;
 pub use laws::{
-    deepest_place_is_one, first_outside_is_one, first_tokens_are_kept, levels_and_parts_agree,
-    parts_keep_the_order_of_tokens, syntax_fault_is_one,
+    addresses_say_their_digits, deepest_place_is_one, first_outside_is_one, first_tokens_are_kept,
+    levels_and_parts_agree, parts_keep_the_order_of_tokens, syntax_fault_is_one,
 };
 pub use making::project;
 pub use named_operand::operand_of_instruction;

@@ -1,4 +1,4 @@
-use Rattle.std.proofs.Common.{ap, ◌∙◌, sym, slice_get, length, refl}
+use Rattle.std.proofs.Common.{ap, ◌∙◌, sym, slice_get}
 use Rattle.pv_tree.specs.Scopes.{ProjectTree}
 use Rattle.pv_names.specs.Entries.{block_of}
 use Rattle.pv_resolve.proofs.Tabling.{got_at, none_at}

@@ -1,4 +1,4 @@
-use Rattle.std.proofs.Common.{◌≡◌, ap, ◌∙◌, option_map, subst, arith}
+use Rattle.std.proofs.Common.{◌≡◌, option_map, subst, arith}
 use Rattle.pv_mean.specs.Layout as layout
 use Rattle.pv_mean.specs.LaidOut.{laid_tree, capped_laid}
 use Rattle.pv_resolve.proofs.Tabling.{laid_moved, none_moved}

@@ -1,4 +1,4 @@
-use Rattle.std.proofs.Common.{◌≡◌, ap, ◌∙◌, sym}
+use Rattle.std.proofs.Common.{ap, ◌∙◌, sym}
 use Rattle.pv_mean.specs.Activations.{root_begins}
 use Rattle.pv_eval.specs.Means.{activation}
 use Rattle.pv_resolve.specs.Contexts.{block_in}

@@ -1,4 +1,4 @@
-use Rattle.std.proofs.Common.{ap, ◌∙◌, sym, refl, option_map, subst}
+use Rattle.std.proofs.Common.{ap, sym, refl, option_map, subst}
 use Rattle.std.specs.Prelude.{IfSome}
 use Rattle.std.proofs.lemmas.Result.{IfOk-weaker}
 use Rattle.pv_names.specs.Views.{held_tree}

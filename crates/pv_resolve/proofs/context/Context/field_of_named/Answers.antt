@@ -1,4 +1,4 @@
-use Rattle.std.proofs.Common.{ap, option_map, refl, sym, subst}
+use Rattle.std.proofs.Common.{option_map, refl, sym, subst}
 use Rattle.std.proofs.lemmas.Result.{IfOk-weaker}
 use Rattle.std.specs.Prelude.{IfSome}
 use Rattle.pv_names.specs.Entries.{block_of}

@@ -1,4 +1,4 @@
-use Rattle.std.proofs.Common.{ap, ◌∙◌, option_map, sym, refl}
+use Rattle.std.proofs.Common.{ap, option_map, sym, refl}
 use Rattle.pv_names.specs.Entries.{block_of}
 use Rattle.pv_mean.specs.LaidOut.{capped_laid, laid_tree, test_of}
 use Rattle.pv_resolve.proofs.Tabling.{nth_found, none_laid}

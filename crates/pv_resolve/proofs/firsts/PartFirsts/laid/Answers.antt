@@ -1,10 +1,7 @@
-use Rattle.std.proofs.Common.{length, sym, ap, ◌∙◌, subst, slice_get, Some}
+use Rattle.std.proofs.Common.{length, sym, ap, ◌∙◌, slice_get, Some}
 use Rattle.std.proofs.lemmas.Bool.{ltb-true}
 use Rattle.std.proofs.lemmas.Option.{slice_get-get_or}
-use Rattle.pv_types.specs.View.{var_tree}
-use Rattle.pv_types.proofs.ForCallers.{var_seen}
 use Rattle.pv_mean.specs.LaidOut.{test_of}
-use Rattle.pv_resolve.proofs.Naming.{section_seen}
 use Rattle.pv_resolve.proofs.Tabling.{var_laid}
 use Rattle.pv_resolve.proofs.firsts.PartFirsts.laid.Goals as goal
 

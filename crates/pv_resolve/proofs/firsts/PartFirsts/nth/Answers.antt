@@ -1,4 +1,3 @@
-use Rattle.std.proofs.Common.{sym}
 use Rattle.pv_types.specs.View.{var_tree}
 use Rattle.pv_resolve.proofs.Tabling.{got_at}
 use Rattle.pv_resolve.proofs.firsts.PartFirsts.nth.Goals as goal

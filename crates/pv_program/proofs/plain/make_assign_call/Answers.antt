@@ -3,7 +3,7 @@ use Rattle.pv_resolve.proofs.ForCallers.{failed}
 use Rattle.pv_program.proofs.Leading.{led_same}
 use Rattle.pv_program.proofs.Growing.{extends-then}
 use Rattle.pv_program.proofs.Keeping.{call-kept}
-use Rattle.pv_program.proofs.stmt.make_assign_call.Goals as goal
+use Rattle.pv_program.proofs.plain.make_assign_call.Goals as goal
 
 pub returns : goal.returns
 returns c = record {

@@ -3,7 +3,7 @@ use Rattle.pv_run.specs.Code.{assigns}
 use Rattle.pv_resolve.proofs.ForCallers.{failed}
 use Rattle.pv_program.proofs.Growing.{extends-then}
 use Rattle.pv_program.proofs.Keeping.{value-kept}
-use Rattle.pv_program.proofs.stmt.make_assign.Goals as goal
+use Rattle.pv_program.proofs.plain.make_assign.Goals as goal
 
 pub returns : goal.returns
 returns c = record {

@@ -6,7 +6,7 @@ use Rattle.pv_resolve.proofs.ForCallers.{failed}
 use Rattle.pv_resolve.specs.Contexts.{block_in}
 use Rattle.pv_program.proofs.Slots.{parameter_slotted}
 use Rattle.pv_program.proofs.Passing.{taken-one}
-use Rattle.pv_program.proofs.call.take.Goals as goal
+use Rattle.pv_program.proofs.handing.take.Goals as goal
 
 pub returns : goal.returns
 returns c = record {

@@ -5,7 +5,7 @@ use Rattle.pv_resolve.proofs.ForCallers.{failed}
 use Rattle.pv_tree.specs.View.{expr_tree, operand_tree}
 use Rattle.pv_program.proofs.Parameters.{operand_fits}
 use Rattle.pv_program.proofs.Growing.{extends-same}
-use Rattle.pv_program.proofs.call.add_taker.Goals as goal
+use Rattle.pv_program.proofs.handing.add_taker.Goals as goal
 
 pub returns-in_ok-to-in-Some : goal.returns-in_ok-to-in-Some
 returns-in_ok-to-in-Some c = record {

@@ -9,7 +9,7 @@ use Rattle.pv_program.specs.Handed.{goes_out, handed_one}
 use Rattle.pv_program.proofs.Growing.{extends-same}
 use Rattle.pv_program.proofs.Parameters.{argument_fits, parameter_declared, out_varies}
 use Rattle.pv_program.proofs.Passing.{taken-none, taken-passed, taken-handed, argument-seen, spot-seen}
-use Rattle.pv_program.proofs.call.hand_out.Goals as goal
+use Rattle.pv_program.proofs.handing.hand_out.Goals as goal
 
 pub returns-then-not-goes_out : goal.returns-then-not-goes_out
 returns-then-not-goes_out c = record {

@@ -9,7 +9,7 @@ use Rattle.pv_program.specs.Handed.{goes_in, handed_one}
 use Rattle.pv_program.proofs.Growing.{extends-same}
 use Rattle.pv_program.proofs.Parameters.{argument_fits, parameter_declared, in_varies}
 use Rattle.pv_program.proofs.Passing.{given-none, given-passed, given-handed, argument-seen, spot-seen}
-use Rattle.pv_program.proofs.call.hand_in.Goals as goal
+use Rattle.pv_program.proofs.handing.hand_in.Goals as goal
 
 pub returns-then-not-goes_in : goal.returns-then-not-goes_in
 returns-then-not-goes_in c = record {
