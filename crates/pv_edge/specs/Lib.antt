@@ -3,3 +3,4 @@ pub mod Calls
 pub mod Files
 pub mod Entries
 pub mod Sink
+pub mod Held

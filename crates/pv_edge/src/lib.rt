@@ -5,7 +5,8 @@
 #![tactic(auto)]
 
 mod counts;
-pub mod host;
+pub mod held;
+mod host;
 pub mod made;
 pub mod memory;
 pub mod offer;

@@ -8,8 +8,7 @@ use std::alloc::{AllocError, Global};
 pub fn text(alloc: Global, bytes: &[u8]) -> Result<Text, AllocError>
     ensures { IfOk result (λ text. text ≡ bytes.now) }
 {
-    let bytes = Vec::from_slice(alloc, bytes)?;
-    Ok(Text::from(bytes))
+    Text::of(alloc, bytes)
 }
 
 /// A copy of a name, none where memory ends.

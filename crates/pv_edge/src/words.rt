@@ -1,7 +1,9 @@
 //! Texts: lists of bytes with an owner.
-ghost use Rattle.std.specs.Prelude.{◌≡◌};
+ghost use Rattle.std.specs.Prelude.{◌≡◌, IfOk};
+ghost use Rattle.std.specs.Str.{str_to_ascii_lowercase};
 
-use std::alloc::AllocError;
+use crate::held::Held;
+use std::alloc::{AllocError, Global};
 use std::cmp::Ordering;
 use std::fmt;
 use std::hash::{Hash, Hasher};
@@ -11,7 +13,7 @@ use std::marker::Model;
 /// their bytes are, and the order is that of their bytes, the first difference deciding.
 #[derive(Drop)]
 pub struct Text {
-    bytes: Vec<u8>,
+    held: Held,
 }
 
 impl Model for Text {
@@ -19,15 +21,32 @@ impl Model for Text {
 
     ghost Value = { List ℕ };
 
-    ghost view = { λ text. text.bytes.items };
+    ghost use Rattle.pv_edge.specs.Held.{held_bytes};
+
+    ghost view = { λ text. held_bytes text.held };
 }
 
 impl Text {
+    /// The text of these bytes. It takes no memory where there are at most 30 of them.
+    pub fn of(alloc: Global, bytes: &[u8]) -> Result<Text, AllocError>
+        ensures { IfOk result (λ text. text ≡ bytes.now) }
+    {
+        let held = Held::of(alloc, bytes)?;
+        Ok(Text { held })
+    }
+
     /// Its bytes.
     pub fn bytes(&self) -> &[u8]
         ensures { result.now ≡ self.now }
     {
-        self.bytes.as_slice()
+        self.held.bytes()
+    }
+
+    /// Brings each ASCII letter to lower case, and leaves all other bytes.
+    pub fn make_ascii_lowercase(&mut self)
+        ensures { self.new ≡ str_to_ascii_lowercase self.old }
+    {
+        self.held.make_ascii_lowercase();
     }
 }
 
@@ -36,7 +55,9 @@ impl From<Vec<u8>> for Text {
     ghost from_gives = { λ bytes text. text ≡ bytes.items };
 
     fn from(bytes: Vec<u8>) -> Text {
-        Text { bytes }
+        Text {
+            held: Held::Long(bytes),
+        }
     }
 }
 
@@ -44,9 +65,8 @@ impl Clone for Text {
     ghost is_clone = { λ text copy. copy ≡ text };
 
     fn clone(&self) -> Result<Text, AllocError> {
-        let alloc = self.bytes.allocator().clone()?;
-        let bytes = Vec::from_slice(alloc, self.bytes.as_slice())?;
-        Ok(Text { bytes })
+        let held = self.held.clone()?;
+        Ok(Text { held })
     }
 }
 
@@ -60,7 +80,7 @@ impl PartialEq for Text {
     ghost laws = { partial_equiv_from_equiv nat_list_eq_equiv };
 
     fn eq(&self, other: &Text) -> bool {
-        self.bytes.as_slice() == other.bytes.as_slice()
+        self.bytes() == other.bytes()
     }
 }
 
@@ -98,7 +118,7 @@ impl Ord for Text {
     ghost matches_eq = { texts_ties };
 
     fn cmp(&self, other: &Text) -> Ordering {
-        self.bytes.as_slice().cmp(other.bytes.as_slice())
+        self.bytes().cmp(other.bytes())
     }
 }
 
@@ -112,12 +132,12 @@ impl Hash for Text {
     ghost respects_eq = { λ x y same. ap (fed.slice fed.u8) ((bytes_eq-Decides x y).0 same) };
 
     fn hash<H: Hasher>(&self, state: &mut H) {
-        self.bytes.as_slice().hash(state);
+        self.bytes().hash(state);
     }
 }
 
 impl fmt::Debug for Text {
     fn fmt<W: fmt::Write>(&self, f: &mut fmt::Formatter<W>) -> fmt::Result {
-        fmt::Debug::fmt(&self.bytes, f)
+        fmt::Debug::fmt(self.bytes(), f)
     }
 }

@@ -17,11 +17,12 @@ AreLed g roots marks = (a : ℕ) → slice_index_or marks a false ≡ true → L
 abbrev pub AreLeading : List (List ℕ) → List ℕ → List Truth → Type 0
 AreLeading g roots marks = (a : ℕ) → slice_index_or marks a false ≡ true → Leads g a (slice_index_or roots a 0)
 
--- and what is still to be left was seen
+-- what was seen is led to by its root, and what is still to be left was seen
 pub record IsSpread (g : List (List ℕ)) (roots : List ℕ) (m : Marks) : Type 0 where
   pub led : AreLed g roots m.seen
   pub queued : (a : ℕ) → Has m.work a → slice_index_or m.seen a false ≡ true
 
+-- both marks of a graph
 pub record AreAround (g : List (List ℕ)) (roots : List ℕ) (around : Around) : Type 0 where
   pub led : AreLed g roots around.led.items
   pub leading : AreLeading g roots around.leading.items

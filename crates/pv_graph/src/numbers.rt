@@ -1,4 +1,5 @@
-//! Numbered for the nodes of a graph that no step raises, and that are the same only for nodes that lead to one another.
+//! Numbers for the nodes of a graph that no step raises, and that are the same only for nodes that lead to one another, with a root
+//! for each, the same for nodes with the same number.
 //!
 //! By the walk of R. Tarjan ("Depth-first search and linear graph algorithms", 1972), with a list in place of recursion. No clause says that
 //! they are so: whoever takes them tests it (`graph`), and is only slower where they aren't.

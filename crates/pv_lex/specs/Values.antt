@@ -77,7 +77,7 @@ abbrev pub token_value : Kind → List ℕ → ℤ
 token_value k.Number bytes = if nat_lt (magnitude bytes) (2 ^ 64) then number_value bytes else pos 0
 token_value _ bytes = pos 0
 
--- the number of these decimal digits where it has at most 64 bits, else 0; no token has a greater one
+-- the number that these decimal digits make where it has at most 64 bits, else 0; no token has a greater one
 abbrev pub fitting_value : List ℕ → ℕ
 fitting_value digits =
     if nat_lt (value_behind 10 0 digits) (2 ^ 64) then value_behind 10 0 digits else 0

@@ -11,6 +11,7 @@ use Rattle.pv_names.specs.declared.doubled.Part.{Part}
 use Rattle.pv_names.specs.declared.doubled.Part.TheVariants.{Params, Fields}
 use Rattle.pv_names.specs.declared.doubled.Doubled.{Doubled}
 
+-- whether variables of a section are of a part
 abbrev pub is_of : Part → Section → Truth
 is_of Params section = is_param section
 is_of Fields section = is_of_instance section
@@ -19,6 +20,7 @@ is_of Fields section = is_of_instance section
 abbrev pub is_sought : Part → List ℕ → VarTree → Truth
 is_sought part key v = is_of part (section_of v) && has_key key (name_of v)
 
+-- the table of a part
 abbrev pub table : Doubled → Part → Firsts
 table d Params = d.params
 table d Fields = d.fields

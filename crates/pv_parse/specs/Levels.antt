@@ -57,6 +57,13 @@ level_by actions k s = sink (shading_of (slice_index_or actions k Keep)) s
 abbrev pub level_making : List Action → Making Kinded ℕ
 level_making actions = kinded_making (λ (t : Lexeme). 0) (level_by actions)
 
+-- the same from a table of what the alternatives do
+abbrev pub sink_by : List Shading → ℕ → List ℕ → Option (List ℕ)
+sink_by table k s = sink (slice_index_or table k (Take 0)) s
+
+abbrev pub table_making : List Shading → Making Kinded ℕ
+table_making table = kinded_making (λ (t : Lexeme). 0) (sink_by table)
+
 -- the code's stack, its top first
 abbrev pub levels_in : Vec ℕ Global → List ℕ
 levels_in v = reverse v.items

@@ -3,12 +3,13 @@
 //! Each loop is the one of the tree's, over another making of values: what is left of the turns makes of what is left of the
 //! tokens, on the stack as it is, what all of them make of all tokens. The first makes numbers alone; only where these tell that
 //! something is too deep does the second one look for its place.
-ghost use Rattle.std.specs.Prelude.{◌≡◌, [], ℕ, List, slice_get};
+ghost use Rattle.std.specs.Prelude.{◌≡◌, [], ℕ, List, map, slice_get, IfOk};
 ghost use Rattle.pv_tree.specs.Lexemes.{lexeme_of, lexemes_of};
 ghost use Rattle.pv_tree.specs.Nesting.{most_levels};
 ghost use Rattle.pv_parse.specs.Shades.{Shade, shade_of_token, shade_in, shades_of, place_at};
 ghost use Rattle.pv_parse.specs.ItemShades.{shading_of, shade_making};
-ghost use Rattle.pv_parse.specs.Levels.{level_making, levels_in, level_at};
+ghost use Rattle.pv_parse.specs.Items.{Leaves};
+ghost use Rattle.pv_parse.specs.Levels.{level_making, table_making, sink_by, levels_in, level_at};
 ghost use Rattle.pv_parse.specs.Building.{Plays, Taken, Makes, Turned, Built};
 
 use crate::action::{Action, action_at};
@@ -18,7 +19,7 @@ use crate::{decl_shades, expr_shades, instr_shades, levels, stmt_shades};
 use pv_lex::Token;
 use pv_ll::Turn;
 use pv_place::Place;
-use std::alloc::Global;
+use std::alloc::{AllocError, Global};
 
 /// How many parts are above one that is too deep.
 const MOST_LEVELS: usize = 64;
@@ -113,28 +114,57 @@ fn find_place(
     Ok(too_deep(&mut stack))
 }
 
+/// Of each alternative, by its number, what it does with what is known of the values on the stack.
+fn shadings(alloc: Global, actions: &[Action]) -> Result<Vec<Shading>, AllocError>
+    ensures { IfOk result (λ table. table.items ≡ map shading_of actions.now) }
+{
+    let mut table = Vec::with_capacity(alloc, actions.len())?;
+    for action in actions {
+        table.push(shading(*action))?;
+    }
+    Ok(table)
+}
+
+/// What the alternative with this number does with the levels of the values on the stack.
+fn sink_by(table: &[Shading], k: u16, stack: &mut Vec<u8>) -> Result<(), Stop>
+    ensures { Leaves result (levels_in stack.new) (sink_by table.now k (levels_in stack.old)) }
+{
+    match table.get(k as usize) {
+        Some(shading) => levels::sink(shading, stack),
+        None => Ok(()),
+    }
+}
+
 /// What a turn does with the levels of the values on the stack.
-fn take_levels(actions: &[Action], turn: Turn, stack: &mut Vec<u8>) -> Result<(), Stop>
-    ensures { Turned (level_making actions.now) turn result (levels_in stack.old) (levels_in stack.new) }
+fn take_levels(table: &[Shading], turn: Turn, stack: &mut Vec<u8>) -> Result<(), Stop>
+    ensures { Turned (table_making table.now) turn result (levels_in stack.old) (levels_in stack.new) }
 {
     match turn {
         Turn::Pass => {
             levels::push(stack, 0)?;
             Ok(())
         }
-        Turn::Leave(k) => levels::sink(shading(action_at(actions, k)), stack),
+        Turn::Leave(k) => sink_by(table, k, stack),
     }
+}
+
+/// How many levels the whole has by such a table.
+fn count_by(alloc: Global, table: &[Shading], turns: &[Turn]) -> Result<u8, Stop>
+    ensures { (behind : List ℕ) → Makes (table_making table.now) turns.now [] behind → Built (λ levels. levels) result (level_at behind) }
+{
+    let mut stack = Vec::new(alloc);
+    for turn in turns {
+        take_levels(table, *turn, &mut stack)?;
+    }
+    Ok(levels::top(&mut stack))
 }
 
 /// How many levels the whole has, where more than are too deep count as so many.
 fn count_levels(alloc: Global, actions: &[Action], turns: &[Turn]) -> Result<u8, Stop>
     ensures { (behind : List ℕ) → Makes (level_making actions.now) turns.now [] behind → Built (λ levels. levels) result (level_at behind) }
 {
-    let mut stack = Vec::new(alloc);
-    for turn in turns {
-        take_levels(actions, *turn, &mut stack)?;
-    }
-    Ok(levels::top(&mut stack))
+    let table = shadings(alloc, actions)?;
+    count_by(alloc, table.as_slice(), turns)
 }
 
 /// Where the first part begins that has 64 parts above it, by the turns of the tokens' walk; none where no part has. The error is

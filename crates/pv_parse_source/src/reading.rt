@@ -15,8 +15,7 @@ use std::alloc::{AllocError, Global};
 
 /// The one expression that the tokens of a text spell, without the end behind them; else where no expression reads, and else
 /// where it nests too deep. How deep it nests is found before the tree is built, so that no tree is deeper than 64 levels. What an
-/// alternative takes lies on the stack at each step of a derivation, so the error is want of memory, or an address with digits of
-/// 2^64 or more, of which `pv_lex` makes no token.
+/// alternative takes lies on the stack at each step of a derivation, so the error is want of memory alone.
 pub fn read_expression(
     alloc: Global,
     language: &Language,

@@ -17,8 +17,7 @@ use std::alloc::{AllocError, Global};
 
 /// The blocks that the tokens of a source spell, without the end behind them; else where no list of blocks reads, and else where
 /// one nests too deep. How deep they nest is found before a block is built, so that no tree is deeper than 64 levels. What an
-/// alternative takes lies on the stack at each step of a derivation, so the error is want of memory, or an address with digits of
-/// 2^64 or more, of which `pv_lex` makes no token.
+/// alternative takes lies on the stack at each step of a derivation, so the error is want of memory alone.
 pub fn read_source(
     alloc: Global,
     language: &Language,

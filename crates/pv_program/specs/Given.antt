@@ -6,7 +6,7 @@ use Rattle.pv_program.specs.declared.given.Given.{Given}
 use Rattle.pv_program.specs.Handed.{FindsArguments}
 use Rattle.pv_program.specs.Sought.{AreSought}
 
--- the arguments are found by name, and their variables by number, if each has its own name
+-- the arguments are found by name, and, where there are numbers, these are those of their variables
 pub record FindsGiven (how : How) (block : BlockTree) (args : List ArgTree) (given : Given) : Type 0 where
   pub named : FindsArguments how block args given.named
   pub sought : IfSome given.sought (λ v. AreSought how block args v.items)

@@ -1,6 +1,7 @@
 //! Calls: which block one runs, on which instance, and what is handed in and out in the order of the declarations.
 //!
-//! The arguments of a call are gone along once, for the parameters that they are for; then each parameter that has one finds it by its name.
+//! The arguments of a call are gone along for the variables that they may be for, and for the parameters that they are for; then each
+//! parameter that has one finds it by its name.
 ghost use Rattle.std.specs.Prelude.{◌≡◌, ◌++◌, ◌∷◌, [], List, slice_get, is_some, IfOk, IfErr, IfSome, OnOk, None, Some, true};
 ghost use Rattle.pv_tree.specs.View.{arg_tree, call_tree};
 ghost use Rattle.pv_tree.specs.Tree.{BlockTree};

@@ -49,7 +49,7 @@ pub fn tell_entry(bytes: &[u8], told: &mut Told) {
 
 fn cell(alloc: Global, path: &[u8], ty: Ty, role: Role) -> Result<Cell, AllocError> {
     Ok(Cell {
-        path: Text::from(Vec::from_slice(alloc, path)?),
+        path: Text::of(alloc, path)?,
         ty,
         start: 0,
         role,

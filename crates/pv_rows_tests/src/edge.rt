@@ -25,6 +25,15 @@ fn texts_compare_by_bytes(rt: HostRuntime) -> Result<(), Fail> {
 }
 
 #[test]
+fn long_texts_are_copied(rt: HostRuntime) -> Result<(), Fail> {
+    let mut name = text(rt.alloc(), b"More than 30 bytes, in A vector.")?;
+    name.make_ascii_lowercase();
+    let copy = name.clone()?;
+    assert!(rt; copy.bytes() == b"more than 30 bytes, in a vector.".as_slice());
+    Ok(())
+}
+
+#[test]
 fn the_host_keeps_files(rt: HostRuntime) -> Result<(), Fail> {
     let alloc = rt.alloc();
     let mut files = HostFiles {

@@ -21,6 +21,7 @@ LeadToTheSame [] (y ∷ ys) = ⊥
 LeadToTheSame (x ∷ xs) [] = ⊥
 LeadToTheSame (x ∷ xs) (y ∷ ys) = HaveTheSame x y × LeadToTheSame xs ys
 
+-- the types of these blocks by name, and which of them lead to themselves
 pub record AreTypesOf (types : DeclaredTypes) (bs : List BlockTree) : Type 0 where
   pub names : NumbersTypes types.names bs
   pub endless : AreOnCycles (types_graph bs) types.endless.items

@@ -122,9 +122,9 @@ fn name_of(alloc: Global, text: &[u8], spelled: &[u8], paired: bool) -> Result<N
     ensures spelled { IfOk result (λ name. name.spelled ≡ spelled.now) }
     ensures paired { IfOk result (λ name. name.paired ≡ paired) }
 {
-    let mut key = Vec::from_slice(alloc, text)?;
-    key.as_mut_slice().make_ascii_lowercase();
-    name_of_key(alloc, Text::from(key), spelled, paired)
+    let mut key = Text::of(alloc, text)?;
+    key.make_ascii_lowercase();
+    name_of_key(alloc, key, spelled, paired)
 }
 
 impl Clone for Name {

@@ -270,7 +270,7 @@ impl<'p> Walk<'p> {
         if self.leaves.len() >= MAX_LEAVES {
             return Err(FlattenFault::TooLarge);
         }
-        let path = Text::from(Vec::from_slice(alloc, self.path.as_slice())?);
+        let path = Text::of(alloc, self.path.as_slice())?;
         let start = start_value_of(start);
         self.leaves.push(Leaf {
             path,

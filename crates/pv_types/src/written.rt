@@ -55,7 +55,7 @@ pub(crate) fn written_of(
     if key == spelled {
         return Ok(as_key(paired));
     }
-    let text = Text::from(Vec::from_slice(alloc, spelled)?);
+    let text = Text::of(alloc, spelled)?;
     let text = Box::new(alloc, text)?;
     Ok(as_text(text, paired))
 }
