@@ -1,8 +1,8 @@
 -- A search from nodes: what it has seen leads from them, and once nothing is left to be left it has seen all that does.
-use Rattle.std.proofs.Common.{◌≡◌, ℕ, suc, zero, ◌+◌, ◌<◌, ◌≤◌, List, [], ◌∷◌, ◌++◌, Bool, true, false, ◌&&◌, length, refl, ap, sym, subst, ◌∙◌, arith, inl, inr, get_or, replicate}
+use Rattle.std.proofs.Common.{◌≡◌, ℕ, suc, zero, ◌+◌, ◌<◌, ◌≤◌, List, [], ◌∷◌, ◌++◌, Bool, true, false, length, refl, ap, sym, subst, ◌∙◌, arith, inl, inr, get_or, replicate}
 use Rattle.std.specs.Prelude.{◌⊎◌, ◌↔◌, slice_index_or, nat_le, nat_lt, Result, IfOk}
 use Rattle.std.specs.List.{list_all}
-use Rattle.std.proofs.lemmas.Bool.{true≢false, leb-true, ltb-true}
+use Rattle.std.proofs.lemmas.Bool.{and_parts, true≢false, leb-true, ltb-true}
 use Rattle.pv_graph.specs.declared.targets.Targets.{Targets}
 use Rattle.pv_graph.specs.Members.{HasSome, Has}
 use Rattle.pv_graph.specs.Graphs.{lists_of, next_of, Leads, here, by, LeadFrom}
@@ -185,14 +185,10 @@ ended_at ts starts m to search empty lt b is =
 
 -- ---- tests of numbers
 
-both_true : (a b : Bool) → (a && b) ≡ true → (a ≡ true) × (b ≡ true)
-both_true true b e = (refl, e)
-both_true false b e = absurd (true≢false (sym e))
-
 passing : {X : Type 0} (test : X → Bool) (xs : List X) → list_all test xs ≡ true → (x : X) → Has xs x → test x ≡ true
 passing test [] all x h = absurd h
-passing test (y ∷ ys) all x (inl same) = subst (λ z. test z ≡ true) same (both_true (test y) (list_all test ys) all).0
-passing test (y ∷ ys) all x (inr h) = passing test ys (both_true (test y) (list_all test ys) all).1 x h
+passing test (y ∷ ys) all x (inl same) = subst (λ z. test z ≡ true) same (and_parts (test y) (list_all test ys) all).0
+passing test (y ∷ ys) all x (inr h) = passing test ys (and_parts (test y) (list_all test ys) all).1 x h
 
 targets_there : (ts : List Targets) (i : ℕ) (t : Targets) → i < length ts → t ≡ get_or ts i t → next_of (lists_of ts) i ≡ t.list.items
 targets_there [] i t lt is = absurd (omega (arith, lt))

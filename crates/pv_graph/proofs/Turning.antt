@@ -2,7 +2,7 @@
 use Rattle.std.proofs.Common.{◌≡◌, ℕ, zero, suc, ◌<◌, List, [], ◌∷◌, ◌++◌, Bool, true, false, ◌&&◌, ◌||◌, length, refl, ap, sym, subst, ◌∙◌, arith, inl, inr, get_or}
 use Rattle.std.specs.Prelude.{◌⊎◌, Vec, Result, Ok, Err, IfOk, slice_index_or, slice_set, nat_eq}
 use Rattle.std.specs.List.{list_any}
-use Rattle.std.proofs.lemmas.Bool.{cases_Bool, true≢false, eqb-true}
+use Rattle.std.proofs.lemmas.Bool.{and_parts, cases_Bool, true≢false, eqb-true}
 use Rattle.pv_graph.specs.declared.targets.Targets.{Targets}
 use Rattle.pv_graph.specs.Members.{Has}
 use Rattle.pv_graph.specs.Graphs.{lists_of, next_of, Leads, here, by, LeadFrom}
@@ -54,10 +54,6 @@ turned g ts us roots (Ok v) same are led =
 
 -- ---- a way from a node to itself
 
-both_true : (a b : Bool) → (a && b) ≡ true → (a ≡ true) × (b ≡ true)
-both_true true b e = (refl, e)
-both_true false b e = absurd (true≢false (sym e))
-
 passing : (test : ℕ → Bool) (xs : List ℕ) → list_any test xs ≡ true → (x : ℕ) × Has xs x × (test x ≡ true)
 passing test [] any = absurd (true≢false (sym any))
 passing test (x ∷ xs) any = elim (cases_Bool (test x)) [
@@ -72,7 +68,7 @@ pub shown : (g : List (List ℕ)) (roots : List ℕ) (led leading l m : List Boo
     → LeadFrom g (next_of g node) node
 shown g roots led leading l m nodes node root f r are to el ef f_true em er en any r_true =
     let one = passing (λ b. nat_eq (slice_index_or roots b 0) root && slice_index_or m b false) nodes (sym any ∙ r_true) in
-    let its = both_true (nat_eq (slice_index_or roots one.0 0) root) (slice_index_or m one.0 false) one.2 in
+    let its = and_parts (nat_eq (slice_index_or roots one.0 0) root) (slice_index_or m one.0 false) one.2 in
     let same : slice_index_or roots node 0 ≡ slice_index_or roots one.0 0 =
     sym er ∙ sym (eqb-true (slice_index_or roots one.0 0) root its.0) in
     let from : Leads g (slice_index_or roots node 0) node = are node (sym (ap (λ x. slice_index_or x node false) el) ∙ sym ef ∙ f_true) in

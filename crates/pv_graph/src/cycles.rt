@@ -14,7 +14,7 @@ use crate::targets::{Targets, number_at, targets_of};
 use std::alloc::{AllocError, Global};
 
 /// The flag at an index, and false past the end.
-fn flag_at(flags: &[bool], index: usize) -> bool
+pub fn flag_at(flags: &[bool], index: usize) -> bool
     ensures { result ≡ slice_index_or flags.now index false }
 {
     if index < flags.len() {

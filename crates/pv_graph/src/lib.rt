@@ -11,5 +11,6 @@ mod search;
 mod targets;
 
 pub use chains::chain_ends;
+pub use cycles::flag_at;
 pub use graph::Graph;
 pub use targets::Targets;

@@ -2,6 +2,7 @@
 -- are unique there is no other.
 use Rattle.std.proofs.Common.{◌≡◌, ℕ, suc, refl, sym, ap, subst, ◌∙◌, List, [], ◌∷◌, Option, Some, None, Bool, true, false, cond, map, option_map, slice_get, true≢false, ◌&&◌, is_some}
 use Rattle.std.specs.Prelude.{find, unwrap_or}
+use Rattle.std.proofs.lemmas.Bool.{and_parts}
 use Rattle.std.proofs.lemmas.Option.{none-some, same_Some, slice_get-map}
 use Rattle.std.proofs.lemmas.Slice.Eq.{bytes_eq-Decides}
 use Rattle.pv_types.specs.Tree.{VarTree}
@@ -22,10 +23,6 @@ found_at p (x ∷ xs) w e = by (p x) refl e (found_at p xs w)
         → (n : ℕ) × IsAt p (x ∷ xs) w n
     by true is e later = (0, (e, subst (λ (y : VarTree). p y ≡ true) (same_Some x w e) is))
     by false is e later = let at = later e in (suc at.0, (at.1.0, at.1.1))
-
-both : (a b : Bool) → (a && b) ≡ true → (a ≡ true) × (b ≡ true)
-both true b e = (refl, e)
-both false b e = absurd (true≢false (sym e))
 
 module _ (may_be : VarTree → Bool) (key : List ℕ) where
   abbrev is_named : VarTree → Bool
@@ -78,7 +75,7 @@ module _ (may_be : VarTree → Bool) (key : List ℕ) where
       by (Some w) is =
           let a = found_at is_named xs v first in
           let b = found_at is_sought xs w is in
-          let two = both (may_be w) (is_named w) b.1.1 in
+          let two = and_parts (may_be w) (is_named w) b.1.1 in
           absurd (true≢false (sym two.0 ∙ ap may_be (sym (same_var xs v w a.0 b.0 unique a.1.0 a.1.1 b.1.0 two.1)) ∙ lacks))
 
   -- what the tables find behind the first of the name

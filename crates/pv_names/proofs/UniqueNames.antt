@@ -1,7 +1,6 @@
 -- Names of which none stands twice: each has its own number.
-use Rattle.std.proofs.Common.{◌≡◌, ◌↔◌, ◌<◌, ◌+◌, ℕ, zero, suc, Bool, true, false, cond, IsTrue, refl, sym, ap, subst, ◌∙◌, List, [], ◌∷◌, Option, Some, length, get_or, map, option_map, slice_get, bytes_eq}
-use Rattle.std.proofs.lemmas.Option.{none-some, same_Some, slice_get-map, slice_get_read}
-use Rattle.std.proofs.lemmas.Slice.Eq.{bytes_eq-Decides}
+use Rattle.std.proofs.Common.{◌≡◌, ◌↔◌, ◌<◌, ◌+◌, ℕ, Bool, IsTrue, refl, sym, ap, subst, ◌∙◌, List, Option, Some, length, get_or, map, option_map, slice_get, bytes_eq}
+use Rattle.std.proofs.lemmas.Option.{same_Some, slice_get-map, slice_get_read}
 use borrow.Author.Count.{below_more}
 use Rattle.pv_types.specs.Tree.{VarTree}
 use Rattle.pv_types.specs.View.{name_of}
@@ -25,29 +24,6 @@ one_further found keys i key at is before n q less here =
 pub one_number : (keys : List (List ℕ)) → AreUnique keys → (i j : ℕ) (key : List ℕ)
     → slice_get keys i ≡ Some key → slice_get keys j ≡ Some key → i ≡ j
 one_number keys each i j key h k = same_Some i j (sym (each i key h) ∙ each j key k)
-
--- where that is so of all of them, each is the first of its name
-abbrev IsOfKey : List (List ℕ) → List ℕ → ℕ → Type 0
-IsOfKey keys key m = (first_number (bytes_eq key) keys ≡ Some m) × (slice_get keys m ≡ Some key)
-
-here : (keys : List (List ℕ)) (key k : List ℕ) (b : Bool) → bytes_eq key k ≡ b
-    → first_number (bytes_eq key) (k ∷ keys) ≡ cond b (Some 0) (option_map (λ n. suc n) (first_number (bytes_eq key) keys))
-here keys key k b is = ap (λ b. cond b (Some 0) (option_map (λ n. suc n) (first_number (bytes_eq key) keys))) is
-
-some_number : (keys : List (List ℕ)) (n : ℕ) (key : List ℕ) → slice_get keys n ≡ Some key → (m : ℕ) × IsOfKey keys key m
-some_number [] n key at = absurd (none-some key at)
-some_number (k ∷ keys) zero key at = (0, (here keys key k true ((bytes_eq-Decides key k).1 (sym (same_Some k key at))), at))
-some_number (k ∷ keys) (suc n) key at = by (bytes_eq key k) refl (some_number keys n key at)
-  where
-    by : (b : Bool) → bytes_eq key k ≡ b → (m : ℕ) × IsOfKey keys key m → (m : ℕ) × IsOfKey (k ∷ keys) key m
-    by true is later = (0, (here keys key k true is, ap Some (sym ((bytes_eq-Decides key k).0 is))))
-    by false is later = (suc later.0, (here keys key k false is ∙ ap (option_map (λ n. suc n)) later.1.0, later.1.1))
-
-pub by_numbers : (keys : List (List ℕ))
-    → ((i j : ℕ) (key : List ℕ) → slice_get keys i ≡ Some key → slice_get keys j ≡ Some key → i ≡ j) → AreUnique keys
-by_numbers keys one n key at =
-    let first = some_number keys n key at in
-    first.1.0 ∙ ap Some (one first.0 n key first.1.1 at)
 
 -- each variable is the first of its name
 pub first_of_its_name : (vars : List VarTree) → HaveUniqueNames vars → (n : ℕ) (v : VarTree) → slice_get vars n ≡ Some v

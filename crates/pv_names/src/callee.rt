@@ -62,7 +62,7 @@ pub enum Callee<'p> {
 }
 
 /// Whether a call is one of STL.
-pub(crate) fn is_by_stl(how: How) -> bool
+pub fn is_by_stl(how: How) -> bool
     ensures { result ≡ callees.is_by_stl (how_tree how) }
 {
     match how {

@@ -21,7 +21,7 @@ mod thing;
 mod typing;
 
 pub use blocks::entries;
-pub use callee::{Called, Callee, How, how_of, is_word};
+pub use callee::{Called, Callee, How, how_of, is_by_stl, is_word};
 pub use entry::Entry;
 pub use firsts::Firsts;
 pub use function::result_of_function;

@@ -12,7 +12,6 @@ use Rattle.pv_mean.specs.Instructions.{effect}
 use Rattle.pv_eval.specs.Means.{activation}
 use Rattle.pv_eval.specs.declared.target.Target.{Target}
 use Rattle.pv_stl_run.specs.declared.registers.Junction.{Junction}
-use Rattle.pv_stl_run.specs.declared.instr.Change.TheVariants.{Load}
 use Rattle.pv_stl_run.specs.declared.instr.Written.{Written}
 use Rattle.pv_stl_run.specs.declared.instr.When.{When}
 use Rattle.pv_stl_run.specs.declared.instr.Goal.{Goal}

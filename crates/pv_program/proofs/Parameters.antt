@@ -1,6 +1,6 @@
 -- Arguments fit where their call does, and parameters are variables of the called block.
 use Rattle.std.proofs.Common.{◌≡◌, ℕ, zero, suc, ◌<◌, List, [], ◌∷◌, map, get_or, length, Bool, true, false, cond, Option, Some, None, Contains, refl, sym, ap, subst, ◌∙◌, arith}
-use Rattle.std.specs.Prelude.{find, if◌then◌else◌}
+use Rattle.std.specs.Prelude.{find}
 use Rattle.std.specs.List.{AllByRecursion}
 use Rattle.std.proofs.lemmas.Bool.{false≢true}
 use Rattle.std.proofs.lemmas.Option.{same_Some, none-some}
@@ -18,7 +18,7 @@ use Rattle.pv_tree.specs.Callees.{How}
 use Rattle.pv_tree.specs.Parts.{operand_of, site}
 use Rattle.pv_mean.specs.Sources.{Source}
 use Rattle.pv_mean.specs.Placed.{placed, all_placed, placed_operand, step_placed, steps_placed, arg_placed, call_placed}
-use Rattle.pv_resolve.specs.Rooms.{FitsWhere, FitsRoot, FitsExpr, FitsArgs, FitsOperand, FitsSteps, FitsStep, HasRoom}
+use Rattle.pv_resolve.specs.Rooms.{FitsWhere, FitsExpr, FitsArgs, FitsOperand, FitsSteps, FitsStep, HasRoom}
 use Rattle.pv_laws_room.specs.Bodies.{FitsCall}
 use Rattle.pv_program.specs.Handed.{goes_in, goes_out}
 use Rattle.pv_program.specs.Led.{RunsLed, IsVariable}

@@ -2,6 +2,7 @@
 use Rattle.std.proofs.Common.{◌≡◌, ℕ, ◌+◌, ◌<◌, ◌≤◌, List, [], ◌∷◌, ◌++◌, map, filter, length, take, get_or, Option, Some, None, Bool, true, false, refl, sym, ap, ◌∙◌, subst, append_assoc}
 use Rattle.std.specs.Prelude.{find, ◌&&◌, is_none, if◌then◌else◌}
 use Rattle.pv_word.specs.declared.types.Ty.{Ty}
+use Rattle.std.proofs.lemmas.Bool.{true≢false}
 use Rattle.std.proofs.lemmas.List.{append-nil, take_all}
 use Rattle.pv_types.specs.declared.declaration.Section.{Section}
 use Rattle.pv_types.specs.declared.declaration.Section.TheVariants.{Input, Output, InOut, Static, Temp, Const}
@@ -11,7 +12,7 @@ use Rattle.pv_types.specs.View.{var_tree, name_of, section_of}
 use Rattle.pv_types.proofs.ForCallers.{var_seen}
 use Rattle.pv_tree.specs.Tree.{ExprTree, ArgTree, BlockTree}
 use Rattle.pv_tree.specs.Scopes.{first_var, value_key}
-use Rattle.pv_tree.specs.Callees.{How, CallSite, params_of_vars, value_param, is_by_stl}
+use Rattle.pv_tree.specs.Callees.{How, as_statement, as_value, by_call, by_uc, CallSite, params_of_vars, value_param, is_by_stl}
 use Rattle.pv_tree.specs.Parts.{operand_of}
 use Rattle.pv_mean.specs.Sources.{Source}
 use Rattle.pv_mean.specs.Activations.{word_begins, spot_of, value_number}
@@ -295,6 +296,18 @@ pub values-handed-none : {source : Source} {block : BlockTree} {p : Program} {si
 values-handed-none {source} {block} {p} {site} {callee} how cs hs e are =
     subst (λ l. AreTaken source block p site callee cs (hs ++ map (λ p. record { param = p; spot = λ first. value_spot source callee }) l)) e
     (subst (λ l. AreTaken source block p site callee cs l) (sym (append-nil hs)) are)
+
+-- by a call of SCL
+pub values-of-scl : {source : Source} {block : BlockTree} {p : Program} {site : CallSite} {callee : BlockTree} (how : How)
+    (cs : List Outward) (hs : List Handed) → is_by_stl how ≡ false
+    → AreTaken source block p site callee cs hs → AreTaken source block p site callee cs (hs ++ values_handed source how callee)
+values-of-scl {callee = callee} how cs hs e before = values-handed-none how cs hs (without how e) before
+  where
+    without : (how : How) → is_by_stl how ≡ false → [] ≡ value_param how callee
+    without as_statement e = refl
+    without as_value e = refl
+    without by_call e = absurd (true≢false e)
+    without by_uc e = absurd (true≢false e)
 
 -- without an argument for it
 pub values-passed : {source : Source} {block : BlockTree} {p : Program} {site : CallSite} {callee : BlockTree} (how : How)

@@ -1,12 +1,12 @@
 -- Calls lead to the blocks that a reached block calls, and so each of them has room and a body that fits.
-use Rattle.std.proofs.Common.{◌≡◌, ◌⊎◌, inl, inr, ℕ, zero, suc, ◌<◌, ◌≤◌, ◌+◌, List, [], ◌∷◌, ◌++◌, length, map, Some, Contains, refl, sym, ap, subst, ◌∙◌, arith}
+use Rattle.std.proofs.Common.{◌≡◌, zero, suc, ◌≤◌, ◌+◌, List, [], ◌∷◌, ◌++◌, map, Some, Contains, refl, sym, ap, subst, ◌∙◌, arith}
 use Rattle.std.specs.Prelude.{flat_map, option_to_list}
 use Rattle.pv_tree.specs.Tree.{StmtTree, assign, assign_call, if_, case_, for_, while_, repeat_, exit_, continue_, return_, call_, empty_, StmtTrees, no_stmts, stmts, ArmTrees, no_arms, arms, BranchTrees, no_branches, branches, ElseTree, no_else, else_, CallPlain, InstrTree, BodyTree, scl, stl, starts, BlockTree}
 use Rattle.pv_tree.specs.Scopes.{ProjectTree}
-use Rattle.pv_tree.specs.Callees.{CallSite, as_statement, as_value, runs, callee_of}
+use Rattle.pv_tree.specs.Callees.{CallSite, as_statement, as_value}
 use Rattle.pv_tree.specs.Parts.{Loop, a_for, another, Spot, how_of, site, calls_of_stmt, calls_of_instruction, calls_of, spots_of, spots_of_stmts, spots_of_arms, spots_of_branches, spots_of_else, spots_of_body, instructions_of}
 use Rattle.pv_tree.specs.Rules.{KeepsRules}
-use Rattle.pv_tree.specs.Rules.Chains.{Runs, Calls, LeadsTo, here, by}
+use Rattle.pv_tree.specs.Rules.Chains.{Calls, LeadsTo, here, by}
 use Rattle.pv_mean.specs.declared.count.TheConstants.{BEYOND}
 use Rattle.pv_mean.specs.Layout.{entry_size, data_size}
 use Rattle.pv_mean.specs.Sources.{Source}

@@ -1,12 +1,11 @@
 -- By the rules the instructions of a block are ready, where tokens spell them and calls lead to the block.
 use Rattle.std.proofs.Common.{◌≡◌, inl, inr, ℕ, zero, suc, ◌<◌, List, [], ◌∷◌, ◌++◌, map, take, Bool, true, false, Option, Some, None, Contains, refl, sym, ap, subst, ◌∙◌, arith}
-use Rattle.std.specs.Prelude.{slice_get, flat_map, not, is_some, option_to_list, option_and_then, if◌then◌else◌}
+use Rattle.std.specs.Prelude.{slice_get, not, is_some, option_to_list, option_and_then, if◌then◌else◌}
 use Rattle.std.specs.List.{AllByRecursion, cons_option}
-use Rattle.std.proofs.lemmas.Bool.{true≢false, false≢true}
+use Rattle.std.proofs.lemmas.Bool.{false≢true}
 use Rattle.std.proofs.lemmas.Option.{none-some, same_Some}
 use Rattle.std.proofs.lemmas.Slice.Eq.{bytes_eq-Decides}
 use Rattle.pv_place.specs.declared.place.Place.{Place}
-use Rattle.pv_types.specs.declared.declaration.Literal.{Literal}
 use Rattle.pv_tree.specs.Tree.{PlacedName, OperandTree, CallPlain, InstrTree, BlockTree, stl}
 use Rattle.pv_tree.specs.Scopes.{Scope}
 use Rattle.pv_tree.specs.Things.{place_of_operand}
@@ -14,10 +13,9 @@ use Rattle.pv_tree.specs.Lexemes.{Lexeme}
 use Rattle.pv_tree.specs.Instructions.{sort_of, shape_of, SpellsInstr}
 use Rattle.pv_tree.specs.InstructionGroups.{jump, group_of, is_jump, label_of_operand, label_of_jump, operand_of_instruction}
 use Rattle.pv_tree.specs.Interfaces.{IsLater}
-use Rattle.pv_tree.specs.Parts.{how_of, site, spots_of_body, calls_of_stmt, calls_of_instruction, instructions_of}
+use Rattle.pv_tree.specs.Parts.{how_of, site, instructions_of}
 use Rattle.pv_tree.specs.Rules.{KeepsRules, wrong_label, wrong_nesting, refused_operand}
 use Rattle.pv_tree.specs.Rules.Behind.{takes_literal, refuses_operand}
-use Rattle.pv_tree.specs.Rules.Chains.{LeadsTo}
 use Rattle.pv_tree.specs.Rules.Jumps.{labels_of}
 use Rattle.pv_tree.specs.Rules.OpenNestings.{NestsWrong}
 use Rattle.pv_mean.specs.Sources.{Source}
@@ -26,7 +24,7 @@ use Rattle.pv_resolve.specs.Rooms.{FitsOperand}
 use Rattle.pv_laws_room.specs.Bodies.{FitsOption, FitsInstr}
 use Rattle.pv_program.specs.Labels.{IsUnmet}
 use Rattle.pv_program.specs.Led.{RunsLed}
-use Rattle.pv_program.specs.Ready.{IsReady, AreReady}
+use Rattle.pv_program.specs.Ready.{AreReady}
 use Rattle.pv_program.proofs.Nestings.{stands}
 use Rattle.pv_program.proofs.Words.{Has, Takes, instr_has, works_of, label_of_jump_op, calling_of, count_of, jumps_so}
 

@@ -1,9 +1,9 @@
 -- Numbers of variables that have arguments: one variable and one argument more, and that none lies between two numbers.
-use Rattle.std.proofs.Common.{◌≡◌, ◌⊎◌, inl, inr, ℕ, suc, ◌+◌, ◌<◌, List, [], ◌∷◌, ◌++◌, length, map, get_or, slice_get, Option, Some, None, option_map, Bool, true, false, cond, refl, sym, ap, ◌∙◌, arith}
+use Rattle.std.proofs.Common.{◌≡◌, ℕ, suc, ◌<◌, List, [], ◌∷◌, ◌++◌, length, map, get_or, slice_get, Option, Some, None, option_map, Bool, true, false, cond, refl, sym, ap, ◌∙◌}
 use Rattle.std.specs.Prelude.{find, bytes_eq, nat_eq, ◌||◌, is_some, if◌then◌else◌}
 use Rattle.std.specs.Option.{option_or}
 use Rattle.std.specs.List.Sorted.{IsPermutation}
-use Rattle.std.proofs.lemmas.Bool.{true≢false, false≢true, cases_eq, eq-eqb}
+use Rattle.std.proofs.lemmas.Bool.{true≢false, false≢true, eq-eqb, or_parts}
 use Rattle.std.proofs.lemmas.List.Folds.{list_any-append, find-append}
 use Rattle.std.proofs.lemmas.List.Sorted.{list_any-IsPermutation}
 use Rattle.std.proofs.lemmas.Option.{same_Some, none-some, slice_get-map, slice_get-get_or}
@@ -11,21 +11,14 @@ use Rattle.std.proofs.lemmas.Slice.Eq.{bytes_eq-Decides}
 use Rattle.pv_types.specs.Tree.{VarTree}
 use Rattle.pv_types.specs.declared.var.Var.{Var}
 use Rattle.pv_types.specs.View.{name_of, var_tree}
-use Rattle.pv_types.proofs.ForCallers.{var_seen}
 use Rattle.pv_tree.specs.Tree.{ArgTree, PlacedName, BlockTree}
 use Rattle.pv_tree.specs.Scopes.{first_var}
 use Rattle.pv_tree.specs.Callees.{How, Param, params_of, first_param, only_input}
 use Rattle.pv_names.specs.Firsts.{first_number}
 use Rattle.pv_names.specs.Unique.{HaveUniqueNames}
-use Rattle.pv_names.proofs.ForCallers.{for_none, for_some}
+use Rattle.pv_names.proofs.ForCallers.{first_of_its_name, for_none, for_some}
 use Rattle.pv_mean.specs.Calls.{is_for}
-use Rattle.pv_program.specs.Sought.{keys_of, AreUnique, has_number, HaveAll}
-
--- a variable of a block whose names are unique is the first of its name
-pub unique_at : (vars : List VarTree) → HaveUniqueNames vars → (n : ℕ) (v : VarTree) → slice_get vars n ≡ Some v
-    → first_number (bytes_eq (name_of v).key) (keys_of vars) ≡ Some n
-unique_at vars unique n v e =
-    unique n (name_of v).key (slice_get-map (λ w. (name_of w).key) vars n ∙ ap (λ (o : Option VarTree). option_map (λ w. (name_of w).key) o) e)
+use Rattle.pv_program.specs.Sought.{keys_of, has_number, HaveAll}
 
 -- ---- the number that an argument leads to
 
@@ -80,30 +73,13 @@ found-passes test (x ∷ args) arg e = lead (test x) refl e (λ f. found-passes 
     lead true h f later = ap test (same_Some arg x f) ∙ h
     lead false h f later = later f
 
--- ---- variables that are the first of their names
+-- ---- a variable of the code by its number
 
--- a variable of the code by its number
 pub var-at : (vars : List VarTree) (xs : List Var) (i : ℕ) (x : Var) → map var_tree xs ≡ vars → i < length xs → x ≡ get_or xs i x
     → slice_get vars i ≡ Some (var_tree x)
 var-at vars xs i x seen inside at =
     ap (λ l. slice_get l i) (sym seen) ∙ slice_get-map var_tree xs i ∙ ap (option_map var_tree) (slice_get-get_or xs i x inside)
     ∙ ap (λ y. Some (var_tree y)) (sym at)
-
-pub unique-more : (vars : List VarTree) (xs : List Var) (i : ℕ) (x : Var) → map var_tree xs ≡ vars → i < length xs → x ≡ get_or xs i x
-    → first_number (bytes_eq x.name.now.key) (keys_of vars) ≡ Some i
-    → ((n : ℕ) (v : VarTree) → n < i → slice_get vars n ≡ Some v → first_number (bytes_eq (name_of v).key) (keys_of vars) ≡ Some n)
-    → (n : ℕ) (v : VarTree) → n < i + 1 → slice_get vars n ≡ Some v → first_number (bytes_eq (name_of v).key) (keys_of vars) ≡ Some n
-unique-more vars xs i x seen inside at here before n v below is = lead (cases_eq n i)
-  where
-    itself : n ≡ i → var_tree x ≡ v
-    itself e = same_Some (var_tree x) v
-        (sym (var-at vars xs i x seen inside at) ∙ ap (slice_get vars) (sym e) ∙ is)
-
-    lead : (n ≡ i) ⊎ (n ≡ i → ⊥) → first_number (bytes_eq (name_of v).key) (keys_of vars) ≡ Some n
-    lead (inl e) =
-        ap (λ (w : VarTree). first_number (bytes_eq (name_of w).key) (keys_of vars)) (sym (itself e))
-        ∙ ap (λ (w : VarTree). first_number (bytes_eq (name_of w).key) (keys_of vars)) (var_seen x) ∙ here ∙ ap Some (sym e)
-    lead (inr e) = before n v (omega (arith, below, e)) is
 
 -- ---- one argument more
 
@@ -117,29 +93,22 @@ misses test args arg e not_it = find-append test args (arg ∷ []) ∙ ap (λ o.
 
 pub sought-more : (how : How) (block : BlockTree) (args : List ArgTree) (arg : ArgTree) (m : ℕ) (numbers new : List ℕ)
     → ((key : List ℕ) → is_for how block key arg ≡ true → Some m ≡ first_number (bytes_eq key) (keys_of block.vars))
-    → new ≡ numbers ++ m ∷ [] → AreUnique block.vars → HaveAll how block args 0 numbers → HaveAll how block (args ++ arg ∷ []) 0 new
+    → new ≡ numbers ++ m ∷ [] → HaveUniqueNames block.vars → HaveAll how block args 0 numbers → HaveAll how block (args ++ arg ∷ []) 0 new
 sought-more how block args arg m numbers new leads grown unique all n v from is without =
-    misses (is_for how block (name_of v).key) args arg (all n v from is (or-left (has_number numbers n) (nat_eq n m || false) split)) (λ e.
-    true≢false (sym (eq-eqb n m (sym (same_Some m n (leads (name_of v).key e ∙ unique n v is)))) ∙ or-right (has_number numbers n) (nat_eq n m) split))
+    misses (is_for how block (name_of v).key) args arg (all n v from is none.0) (λ e.
+    true≢false (sym (eq-eqb n m (sym (same_Some m n (leads (name_of v).key e ∙ first_of_its_name block.vars unique n v is))))
+    ∙ (or_parts (nat_eq n m) false none.1).0))
   where
-    split : (has_number numbers n || (nat_eq n m || false)) ≡ false
-    split = sym (list_any-append (nat_eq n) numbers (m ∷ [])) ∙ ap (λ l. has_number l n) (sym grown) ∙ without
-
-    or-left : (a b : Bool) → (a || b) ≡ false → a ≡ false
-    or-left false b e = refl
-    or-left true b e = e
-
-    or-right : (a b : Bool) → (a || (b || false)) ≡ false → b ≡ false
-    or-right false false e = refl
-    or-right false true e = e
-    or-right true b e = absurd (true≢false e)
+    none : (has_number numbers n ≡ false) × ((nat_eq n m || false) ≡ false)
+    none = or_parts (has_number numbers n) (nat_eq n m || false)
+        (sym (list_any-append (nat_eq n) numbers (m ∷ [])) ∙ ap (λ l. has_number l n) (sym grown) ∙ without)
 
 pub sought-none : (how : How) (block : BlockTree) (args : List ArgTree) (arg : ArgTree) (numbers : List ℕ)
     → ((key : List ℕ) → is_for how block key arg ≡ true → None ≡ first_number (bytes_eq key) (keys_of block.vars))
-    → AreUnique block.vars → HaveAll how block args 0 numbers → HaveAll how block (args ++ arg ∷ []) 0 numbers
+    → HaveUniqueNames block.vars → HaveAll how block args 0 numbers → HaveAll how block (args ++ arg ∷ []) 0 numbers
 sought-none how block args arg numbers leads unique all n v from is without =
     misses (is_for how block (name_of v).key) args arg (all n v from is without) (λ e.
-    none-some n (leads (name_of v).key e ∙ unique n v is))
+    none-some n (leads (name_of v).key e ∙ first_of_its_name block.vars unique n v is))
 
 -- ---- in their order
 

@@ -1,14 +1,14 @@
 -- Parameters have slots, and instances begin among the cells of the table.
-use Rattle.std.proofs.Common.{◌≡◌, ◌⊎◌, inl, inr, ℕ, zero, suc, ◌+◌, ◌<◌, ◌≤◌, ◌^◌, List, [], ◌∷◌, ◌++◌, map, Bool, true, false, cond, Option, Some, None, option_map, Contains, refl, sym, ap, subst, ◌∙◌, arith}
+use Rattle.std.proofs.Common.{◌≡◌, ◌⊎◌, inl, inr, ℕ, zero, suc, ◌≤◌, List, [], ◌∷◌, ◌++◌, map, Bool, true, false, cond, Option, Some, None, option_map, Contains, refl, sym, ap, ◌∙◌, arith}
 use Rattle.std.specs.Prelude.{bytes_eq, if◌then◌else◌}
 use Rattle.std.proofs.lemmas.Slice.Eq.{bytes_eq-Decides}
 use Rattle.pv_place.specs.declared.place.Place.{Place}
 use Rattle.pv_types.specs.declared.name.Name.{Name}
-use Rattle.pv_types.specs.Tree.{VarTree, var}
+use Rattle.pv_types.specs.Tree.{VarTree}
 use Rattle.pv_types.specs.View.{name_of, place_of, section_of, start_of}
 use Rattle.pv_types.specs.Leaves.{start_value}
 use Rattle.pv_tree.specs.Tree.{PlacedName, BlockTree}
-use Rattle.pv_tree.specs.Scopes.{ProjectTree, first_var, is_const, is_of_instance, own_value, first_block}
+use Rattle.pv_tree.specs.Scopes.{ProjectTree, first_var, is_of_instance, own_value}
 use Rattle.pv_tree.specs.Interfaces.{IsLater, names_of_vars}
 use Rattle.pv_tree.specs.Rules.{KeepsRules, doubled_name}
 use Rattle.pv_mean.specs.declared.count.TheConstants.{BEYOND}
@@ -16,9 +16,8 @@ use Rattle.pv_mean.specs.Counts.{capped}
 use Rattle.pv_mean.specs.Layout.{Laid, laid_among, is_brief_in, size_among}
 use Rattle.pv_mean.specs.Sized.{sized_project}
 use Rattle.pv_mean.specs.Sources.{Source}
-use Rattle.pv_mean.specs.Spots as m
 use Rattle.pv_mean.specs.Spots.{nowhere, fixed}
-use Rattle.pv_mean.specs.Activations.{Begins, in_visible, in_brief, at, visible_where, brief_where, variable_begins, variable_or, value_or, block_or, word_begins, name_begins}
+use Rattle.pv_mean.specs.Activations.{Begins, in_visible, in_brief, at, visible_where, brief_where, variable_or, value_or, word_begins, name_begins}
 use Rattle.pv_mean.specs.Calls.{called_begins}
 use Rattle.pv_tree.specs.Callees.{is_word}
 use Rattle.pv_tree.specs.declared.expr.Root.TheVariants.{Local, Named}
@@ -30,13 +29,12 @@ use Rattle.pv_resolve.specs.declared.context.Context.{Context}
 use Rattle.pv_resolve.specs.Contexts.{IsContext, block_in}
 use Rattle.pv_resolve.specs.declared.begin.Begin.{Begin}
 use Rattle.pv_resolve.specs.declared.begin.Begin.TheVariants.{In, At}
-use Rattle.pv_resolve.specs.declared.begin.Where.{Where}
 use Rattle.pv_resolve.specs.declared.begin.Where.TheVariants.{Own, Visible, Brief}
 use Rattle.pv_resolve.specs.Begins.{further, begin_at}
 use Rattle.pv_resolve.specs.Rooms.{HasRoom, BeginsRoomy}
 use Rattle.pv_resolve.specs.Laying.{laid_tree}
 use Rattle.pv_resolve.proofs.ForCallers.{laid-shifted, root_roomy}
-use Rattle.pv_program.specs.Led.{IsSlotted, HasSlot, IsVariable}
+use Rattle.pv_program.specs.Led.{HasSlot, IsVariable}
 
 -- ---- where a parameter begins
 

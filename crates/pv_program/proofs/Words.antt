@@ -1,7 +1,7 @@
 -- Words of STL by their table: what each one has by its shape and the rules, and what its code does with that.
 use Rattle.std.proofs.Common.{◌≡◌, ◌<◌, ◌^◌, ℕ, ℤ, Bool, true, false, Option, Some, None, List, refl, sym, ap, ◌∙◌, arith}
-use Rattle.std.specs.Prelude.{⊤, pos, int_le, unsigned_abs, ◌&&◌, ◌||◌}
-use Rattle.std.proofs.lemmas.Bool.{true≢false, false≢true}
+use Rattle.std.specs.Prelude.{⊤, pos, int_le, unsigned_abs, ◌||◌}
+use Rattle.std.proofs.lemmas.Bool.{true≢false, false≢true, and_parts, or_right}
 use Rattle.std.proofs.lemmas.Int.{ints}
 use Rattle.std.proofs.lemmas.Option.{none-some}
 use Rattle.pv_word.specs.declared.types.Ty.{Ty}
@@ -345,12 +345,8 @@ count_within : (low high : ℕ) (ty : Option Ty) (value : ℤ) → high < 2 ^ 32
     → unsigned_abs value < 2 ^ 32
 count_within low high (Some ty) value few e = absurd (false≢true e)
 count_within low high None value few e =
-    let t = both (int_le (pos low) value) (int_le value (pos high)) e in within value few t.0 t.1
+    let t = and_parts (int_le (pos low) value) (int_le value (pos high)) e in within value few t.0 t.1
   where
-    both : (a b : Bool) → (a && b) ≡ true → (a ≡ true) × (b ≡ true)
-    both true b e = (refl, e)
-    both false b e = absurd (false≢true e)
-
     within : (v : ℤ) → high < 2 ^ 32 → int_le (pos low) v ≡ true → int_le v (pos high) ≡ true → unsigned_abs v < 2 ^ 32
     within v few from to = omega (arith, ints, from, to, few)
 
@@ -532,11 +528,7 @@ pub taken_stays : (o : Op) → is_taken o ≡ true → is_nesting (group_of o) �
 taken_stays o e = written_stays o (ap (λ b. b || is_edge o) e)
 
 pub edge_stays : (o : Op) → is_edge o ≡ true → is_nesting (group_of o) ≡ false
-edge_stays o e = written_stays o (behind (is_taken o) (is_edge o) e)
-  where
-    behind : (a b : Bool) → b ≡ true → (a || b) ≡ true
-    behind true b e = refl
-    behind false b e = e
+edge_stays o e = written_stays o (or_right (is_taken o) (is_edge o) e)
 
 -- what works on its operand and is none of these moves it
 or_left : (a b : Bool) → false ≡ a → (a || b) ≡ true → b ≡ true

@@ -1,6 +1,6 @@
 -- Instructions of which nothing is too large: each word has what it works on, no label is there twice, and nestings are as the rules
 -- have them.
-use Rattle.std.specs.Prelude.{◌≡◌, ⊤, ℕ, ◌+◌, ◌<◌, ◌^◌, unsigned_abs, List, length, take, slice_get, Bool as Truth, true, false, ◌||◌, Option, Some, None}
+use Rattle.std.specs.Prelude.{◌≡◌, ⊤, ℕ, ◌<◌, ◌^◌, unsigned_abs, List, length, take, slice_get, Bool as Truth, true, false, ◌||◌, Option, Some, None}
 use Rattle.pv_types.specs.declared.declaration.Literal.{Literal}
 use Rattle.pv_tree.specs.declared.instr.Op.{Op}
 use Rattle.pv_tree.specs.declared.instr.Op.TheVariants.{O, L, T}

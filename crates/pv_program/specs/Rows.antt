@@ -1,5 +1,5 @@
 -- Words of STL by the rows of the table that they have.
-use Rattle.std.specs.Prelude.{◌≡◌, ℕ, List, Option, Some, None}
+use Rattle.std.specs.Prelude.{◌≡◌, ℕ, List, Some}
 use Rattle.pv_tree.specs.declared.instr.Op.{Op}
 use Rattle.pv_tree.specs.declared.instr.Op.TheVariants.{Assign, S, R, Fp, Fn}
 use Rattle.pv_tree.specs.InstructionGroups.{Group, bit_read, opening, closing, alone, no_operation, display, word_logic, double_logic, word_shift, double_shift, block_end}

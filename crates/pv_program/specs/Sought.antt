@@ -1,21 +1,15 @@
 -- Variables by their numbers, and the numbers of those that arguments are for.
-use Rattle.std.specs.Prelude.{◌≡◌, ◌≤◌, ℕ, List, map, find, slice_get, bytes_eq, nat_eq, Bool as Truth, false, Some, None}
+use Rattle.std.specs.Prelude.{◌≡◌, ◌≤◌, ℕ, List, map, find, slice_get, nat_eq, Bool as Truth, false, Some, None}
 use Rattle.std.specs.List.{list_any}
 use Rattle.std.specs.List.Sorted.{IsNonDecreasing}
 use Rattle.pv_types.specs.Tree.{VarTree}
 use Rattle.pv_types.specs.View.{name_of}
 use Rattle.pv_tree.specs.Tree.{ArgTree, BlockTree}
 use Rattle.pv_tree.specs.Callees.{How}
-use Rattle.pv_names.specs.Firsts.{first_number}
 use Rattle.pv_mean.specs.Calls.{is_for}
 
 abbrev pub keys_of : List VarTree → List (List ℕ)
 keys_of vars = map (λ v. (name_of v).key) vars
-
--- each variable is the first of its name
-abbrev pub AreUnique : List VarTree → Type 0
-AreUnique vars = (n : ℕ) (v : VarTree) → slice_get vars n ≡ Some v
-    → first_number (bytes_eq (name_of v).key) (keys_of vars) ≡ Some n
 
 abbrev pub has_number : List ℕ → ℕ → Truth
 has_number numbers n = list_any (nat_eq n) numbers

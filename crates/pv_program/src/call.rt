@@ -16,9 +16,9 @@ ghost use Rattle.pv_mean.specs.Calls as calls;
 ghost use Rattle.pv_mean.specs.Sources.{Source};
 ghost use Rattle.pv_mean.specs.Placed.{call_placed};
 ghost use Rattle.pv_run.specs.Code.{AreInward, AreOutward, IsCall};
-ghost use Rattle.pv_run.specs.Handing.{Handed, handed_in, handed_out};
+ghost use Rattle.pv_run.specs.Handing.{Handed, argument_of, handed_in, handed_out};
 ghost use Rattle.pv_resolve.specs.Contexts.{IsContext, block_in};
-ghost use Rattle.pv_resolve.specs.Rooms.{HasRoom};
+ghost use Rattle.pv_resolve.specs.Rooms.{HasRoom, FitsExpr};
 ghost use Rattle.pv_resolve.specs.declared.fault.ResolveFault.TheVariants.{NoMemory};
 ghost use Rattle.pv_laws_room.specs.Bodies.{FitsCall};
 ghost use Rattle.pv_program.specs.Growth.{Extends};
@@ -34,7 +34,7 @@ use crate::grow::{append_inward, append_outward, push_call, see_code};
 use crate::handing::add_taker;
 use crate::instance::instance_of;
 use crate::placed::call_placed;
-use pv_names::{Callee, Entry, How};
+use pv_names::{Callee, Entry, How, is_by_stl};
 use pv_place::Place;
 use pv_resolve::{Context, ResolveFault, context_in};
 use pv_run::{Called, First, Outward, Program, Slot, Span};
@@ -70,15 +70,6 @@ fn add_inward(
     Ok(span)
 }
 
-fn is_by_stl(how: How) -> bool
-    ensures { result ≡ callees.is_by_stl (how_tree how) }
-{
-    match how {
-        How::Call | How::Uc => true,
-        How::Statement | How::Value => false,
-    }
-}
-
 /// Whether a variable has the name of a function's value, which this argument is for.
 fn names_value(how: How, callee: &Entry, arg: &Arg) -> bool
     requires { calls.is_for (how_tree how) (block_of callee.now) value_key (arg_tree arg.now)
@@ -88,59 +79,55 @@ fn names_value(how: How, callee: &Entry, arg: &Arg) -> bool
     number_for(callee, arg).is_some()
 }
 
-/// The type of a function's value, where a call hands it out to this argument, which is for that name.
+/// The type of a function's value, where a call of STL hands it out to this argument, which is for that name.
 fn value_out(how: How, callee: &Entry, arg: &Arg) -> Option<Ty>
-    requires { calls.is_for (how_tree how) (block_of callee.now) value_key (arg_tree arg.now)
+    requires stl { callees.is_by_stl (how_tree how) ≡ true }
+    requires named { calls.is_for (how_tree how) (block_of callee.now) value_key (arg_tree arg.now)
         ≡ true }
     ensures params { value_params result
         ≡ callees.value_param (how_tree how) (block_of callee.now) }
     ensures is { IfSome result (λ ty. (block_of callee.now).value ≡ Some ty) }
 {
-    if !is_by_stl(how) || names_value(how, callee, arg) {
+    if names_value(how, callee, arg) {
         return None;
     }
     callee.block().interface.value
 }
 
-/// Hands the value of a function out to its argument, if it has one.
+/// Hands the value of a function out to the argument that is for it.
 fn hand_value_out(
     alloc: Global,
     context: &Context,
     inner: &Context,
-    how: How,
-    call: &CallTree,
     program: &mut Program,
     made: &mut Vec<Outward>,
     ty: Ty,
+    arg: &Arg,
 ) -> Result<(), ResolveFault>
     ensures grows { OnOk result (Extends program.old program.new) }
-    ensures taken { (source : Source) (hs : List Handed)
+    ensures taken { (source : Source) (at : CallSite) (hs : List Handed)
         → IsContext context.now source → IsContext inner.now source
         → (block_in inner.now).value ≡ Some ty
-        → AreTaken source (block_in context.now) program.old
-        (site (how_tree how) (call_tree call.now)) (block_in inner.now) made.old.items hs
-        → OnOk result (AreTaken source (block_in context.now) program.new
-        (site (how_tree how) (call_tree call.now)) (block_in inner.now) made.new.items
-        (hs ++ handed_value source (block_in inner.now) ty ∷ [])) }
+        → argument_of at (block_in inner.now) (handed_value source (block_in inner.now) ty)
+        ≡ Some (arg_tree arg.now)
+        → AreTaken source (block_in context.now) program.old at (block_in inner.now)
+        made.old.items hs
+        → OnOk result (AreTaken source (block_in context.now) program.new at (block_in inner.now)
+        made.new.items (hs ++ handed_value source (block_in inner.now) ty ∷ [])) }
     ensures calls { OnOk result (program.new.calls ≡ program.old.calls) }
     ensures room { (source : Source)
         → IsContext context.now source → IsContext inner.now source
         → HasRoom source (block_in context.now) → HasRoom source (block_in inner.now)
-        → FitsCall (call_tree call.now) → IfErr result (λ e. e ≡ NoMemory) }
+        → FitsExpr (arg_tree arg.now).value → IfErr result (λ e. e ≡ NoMemory) }
 {
-    match argument_for_value(how, inner.scope.entry, call) {
-        Some(arg) => {
-            let to = add_taker(alloc, context, program, &arg.value)?;
-            let n = value_number(inner)?;
-            let from = Slot::Brief(ty, n);
-            made.push(Outward { from, to })?;
-            Ok(())
-        }
-        None => Ok(()),
-    }
+    let to = add_taker(alloc, context, program, &arg.value)?;
+    let n = value_number(inner)?;
+    let from = Slot::Brief(ty, n);
+    made.push(Outward { from, to })?;
+    Ok(())
 }
 
-/// Hands what a function gives out, if a call does.
+/// Hands what a function gives out, if a call of STL does.
 fn hand_any_value(
     alloc: Global,
     context: &Context,
@@ -164,9 +151,12 @@ fn hand_any_value(
         → HasRoom source (block_in context.now) → HasRoom source (block_in inner.now)
         → FitsCall (call_tree call.now) → IfErr result (λ e. e ≡ NoMemory) }
 {
+    if !is_by_stl(how) {
+        return Ok(());
+    }
     match argument_for_value(how, inner.scope.entry, call) {
         Some(arg) => match value_out(how, inner.scope.entry, arg) {
-            Some(ty) => hand_value_out(alloc, context, inner, how, call, program, made, ty),
+            Some(ty) => hand_value_out(alloc, context, inner, program, made, ty, arg),
             None => Ok(()),
         },
         None => Ok(()),

@@ -6,8 +6,9 @@ ghost use Rattle.pv_tree.specs.Callees as callees;
 ghost use Rattle.pv_names.specs.Callees.{how_tree};
 ghost use Rattle.pv_names.specs.Entries.{block_of};
 ghost use Rattle.pv_names.specs.Firsts.{first_number};
+ghost use Rattle.pv_names.specs.Unique.{HaveUniqueNames};
 ghost use Rattle.pv_mean.specs.Calls as calls;
-ghost use Rattle.pv_program.specs.Sought.{keys_of, AreUnique, HaveAll, AreSought};
+ghost use Rattle.pv_program.specs.Sought.{keys_of, HaveAll, AreSought};
 ghost use Rattle.pv_program.specs.Given.{FindsGiven};
 
 use crate::argument::arguments_of;
@@ -22,13 +23,6 @@ pub(crate) struct Given {
     pub named: Firsts,
     /// The numbers of the variables that they may be for, in their order, where each variable has its own name.
     pub sought: Option<Vec<usize>>,
-}
-
-/// Whether each variable of a block has its own name.
-fn are_unique(callee: &Entry) -> bool
-    ensures { result ≡ true → AreUnique (block_of callee.now).vars }
-{
-    callee.has_unique_names()
 }
 
 /// The number of a function's only input.
@@ -58,7 +52,7 @@ pub(crate) fn number_for(callee: &Entry, arg: &Arg) -> Option<usize>
 /// Puts the number of the variable that an argument may be for behind the others.
 fn add_sought(numbers: &mut Vec<usize>, callee: &Entry, arg: &Arg) -> Result<(), AllocError>
     ensures { OnOk result ((how : callees.How) (args : List ArgTree)
-        → AreUnique (block_of callee.now).vars
+        → HaveUniqueNames (block_of callee.now).vars
         → HaveAll how (block_of callee.now) args 0 numbers.old.items
         → HaveAll how (block_of callee.now) (args ++ arg_tree arg.now ∷ []) 0 numbers.new.items) }
 {
@@ -73,7 +67,7 @@ fn add_sought(numbers: &mut Vec<usize>, callee: &Entry, arg: &Arg) -> Result<(),
 
 /// The numbers of the variables that the arguments of a call may be for, in their order.
 fn numbers_of(alloc: Global, callee: &Entry, call: &CallTree) -> Result<Vec<usize>, AllocError>
-    ensures { (how : callees.How) → AreUnique (block_of callee.now).vars
+    ensures { (how : callees.How) → HaveUniqueNames (block_of callee.now).vars
         → IfOk result (λ v. AreSought how (block_of callee.now) (call_tree call.now).args v.items) }
 {
     let mut numbers = Vec::new(alloc);
@@ -89,7 +83,7 @@ fn sought(alloc: Global, callee: &Entry, call: &CallTree) -> Result<Option<Vec<u
     ensures { (how : callees.How)
         → IfOk result (λ o. IfSome o (λ v. AreSought how (block_of callee.now) (call_tree call.now).args v.items)) }
 {
-    if !are_unique(callee) {
+    if !callee.has_unique_names() {
         return Ok(None);
     }
     let numbers = numbers_of(alloc, callee, call)?;

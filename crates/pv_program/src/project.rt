@@ -159,6 +159,41 @@ fn program_in<'p>(
     program_with(alloc, &context, entry, cells, bound)
 }
 
+/// The program of a project whose tables and sizes these are.
+fn program_sized<'p>(
+    alloc: Global,
+    tables: &'p Tables<'p>,
+    sizes: &'p Sizes<'p>,
+    entry: u32,
+    bytes: AreaBytes<'p>,
+    cells: &[Cell],
+    bound: u32,
+) -> Result<Program, ProgramFault>
+    ensures bound { IfOk result (λ p. p.bound ≡ bound) }
+    ensures entry { IfOk result (λ p. p.entry ≡ entry) }
+    ensures is { (source : Source) → project_of tables.now ≡ source.project
+        → sized_project sizes.now ≡ source.project
+        → slice_get source.project.blocks entry ≡ Some source.entry
+        → bytes_tree bytes.entry ≡ source.bytes → cells.now ≡ source.cells → bound ≡ source.bound
+        → IfOk result (IsProgram source) }
+    ensures room { (source : Source) → project_of tables.now ≡ source.project
+        → sized_project sizes.now ≡ source.project
+        → slice_get source.project.blocks entry ≡ Some source.entry
+        → bytes_tree bytes.entry ≡ source.bytes → IsReached source
+        → IfErr result (λ e. e ≡ NoMemory) }
+{
+    match tables.entries().get(entry as usize) {
+        Some(entered) => {
+            let scope = Scope {
+                tables,
+                entry: entered,
+            };
+            program_in(alloc, scope, sizes, entry, bytes, cells, bound)
+        }
+        None => Err(ProgramFault::TooLarge),
+    }
+}
+
 /// The program of a project whose tables these are.
 fn program_by(
     alloc: Global,
@@ -184,16 +219,7 @@ fn program_by(
     reached_blocks_have_room();
     bodies_fit();
     let sizes = Sizes::of(alloc, project)?;
-    match tables.entries().get(entry as usize) {
-        Some(entered) => {
-            let scope = Scope {
-                tables,
-                entry: entered,
-            };
-            program_in(alloc, scope, &sizes, entry, bytes, cells, bound)
-        }
-        None => Err(ProgramFault::TooLarge),
-    }
+    program_sized(alloc, tables, &sizes, entry, bytes, cells, bound)
 }
 
 /// The program of a project whose blocks these are, with their tables of variables.

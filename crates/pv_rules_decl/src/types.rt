@@ -2,7 +2,7 @@
 //!
 //! The types are numbered as the blocks are, and each leads to those that it names (`pv_graph`): one that leads to itself contains
 //! itself, through however many others. Which ones do is found once for all of them.
-ghost use Rattle.std.specs.Prelude.{◌≡◌, ◌↔◌, ◌++◌, List, map, flat_map, IfOk, OnOk, IsTrue, slice_index_or, false};
+ghost use Rattle.std.specs.Prelude.{◌≡◌, ◌↔◌, ◌++◌, List, map, flat_map, IfOk, OnOk, IsTrue};
 ghost use Rattle.pv_types.specs.View.{type_tree};
 ghost use Rattle.pv_tree.specs.Tree.{BlockTree};
 ghost use Rattle.pv_tree.specs.View.{block_tree};
@@ -16,7 +16,7 @@ ghost use Rattle.pv_rules_decl.specs.Declarations.{HaveTheSame};
 ghost use Rattle.pv_rules_decl.specs.TypeNames.{NumbersTypes, LeadToTheSame, AreTypesOf};
 
 use crate::gathered::Gathered;
-use pv_graph::{Graph, Targets};
+use pv_graph::{Graph, Targets, flag_at};
 use pv_names::Firsts;
 use pv_place::Place;
 use pv_rules_expr::is_nearer;
@@ -36,17 +36,6 @@ fn is_type(kind: &BlockKind) -> bool
     ensures { result ≡ is_type kind.now }
 {
     matches!(kind, BlockKind::Fb | BlockKind::Udt)
-}
-
-/// The flag at an index, and false past the end.
-fn flag_at(flags: &[bool], index: usize) -> bool
-    ensures { result ≡ slice_index_or flags.now index false }
-{
-    if index < flags.len() {
-        flags[index]
-    } else {
-        false
-    }
 }
 
 impl TypeNames {

@@ -1,4 +1,4 @@
-use Rattle.std.proofs.Common.{arith, refl}
+use Rattle.std.proofs.Common.{arith}
 use Rattle.pv_program.proofs.Labelled.{goal-ahead, goal-back, goal-nowhere}
 use Rattle.pv_program.proofs.label.goal_of.Goals as goal
 

@@ -1,25 +1,14 @@
-use Rattle.std.proofs.Common.{◌∙◌, ap, rules}
-use Rattle.std.specs.Prelude.{slice_get}
-use Rattle.pv_tree.specs.Scopes.{ProjectTree}
-use Rattle.pv_names.specs.Entries.{block_of}
-use Rattle.pv_program.proofs.Making.{entered-is}
+use Rattle.std.proofs.Common.{◌∙◌}
 use Rattle.pv_program.proofs.Reached.{is_reached}
 use Rattle.pv_program.proofs.project.program_by.Goals as goal
 
-pub returns-in-Some : goal.returns-in-Some
-returns-in-Some c = record {
-  bound = c.program_in.ensures.bound;
-  entry = c.program_in.ensures.entry;
+pub returns : goal.returns
+returns c = record {
+  bound = c.program_sized.ensures.bound;
+  entry = c.program_sized.ensures.entry;
   is = λ source project entry bytes cells bound.
-      let made = c.requires ∙ project in
-      c.program_in.ensures.is source made (c.in_ok-sizes.ensures ∙ project)
-      (entered-is block_of c.entries.result.now c.args.entry c.in-Some.entered.now source.entry (search rules) (search rules)
-      (ap (λ l. slice_get l c.args.entry) (c.entries.ensures ∙ ap (λ (p : ProjectTree). p.blocks) made) ∙ entry))
-      entry bytes cells bound;
+      c.program_sized.ensures.is source (c.requires ∙ project) (c.in_ok-sizes.ensures ∙ project) entry bytes cells bound;
   room = λ source project entry bytes run texts.
-      let made = c.requires ∙ project in
-      c.program_in.ensures.room source made (c.in_ok-sizes.ensures ∙ project)
-      (entered-is block_of c.entries.result.now c.args.entry c.in-Some.entered.now source.entry (search rules) (search rules)
-      (ap (λ l. slice_get l c.args.entry) (c.entries.ensures ∙ ap (λ (p : ProjectTree). p.blocks) made) ∙ entry))
-      entry bytes (is_reached source (λ b. c.reached_blocks_have_room.ensures source b) (λ b. c.bodies_fit.ensures source.project b) run texts);
+      c.program_sized.ensures.room source (c.requires ∙ project) (c.in_ok-sizes.ensures ∙ project) entry bytes
+      (is_reached source (λ b. c.reached_blocks_have_room.ensures source b) (λ b. c.bodies_fit.ensures source.project b) run texts);
 }
