@@ -102,10 +102,10 @@ pub fn calls_by_number<'p>(alloc: Global, tables: &'p Tables<'p>) -> Result<Vec<
 }
 
 /// [`pv_rules_call::call_cycle`].
-pub fn call_cycle<'p>(alloc: Global, tables: &'p Tables<'p>) -> Result<Option<Place>, AllocError>
-    ensures { IfOk result (IsNearest (IsCycle (project_of tables.now))) }
+pub fn call_cycle(alloc: Global, links: &[Links]) -> Result<Option<Place>, AllocError>
+    ensures { (project : ProjectTree) → AreLinks project links.now → IfOk result (IsNearest (IsCycle project)) }
 {
-    pv_rules_call::call_cycle(alloc, tables)
+    pv_rules_call::call_cycle(alloc, links)
 }
 
 /// [`pv_rules_decl::doubled_name`].

@@ -12,7 +12,7 @@ use crate::project_rules::{beyond_bounds, misfit, missing_name, out_of_range, wr
 use crate::values::not_callable;
 use pv_names::{Entry, Tables, entries};
 use pv_place::Place;
-use pv_rules_call::{call_cycle, call_too_deep};
+use pv_rules_call::{call_cycle, call_too_deep, calls_by_number};
 use pv_rules_code::{CodeNear, nearest_in_code};
 use pv_rules_decl::{doubled_name, missing_type, nearest_in_values, wrong_array};
 use pv_rules_instr::{refused_operand_or_literal, wrong_label, wrong_nesting, wrong_range};
@@ -110,8 +110,9 @@ fn whole_near<'p>(
 fn chains_near<'p>(alloc: Global, tables: &'p Tables<'p>) -> Result<Chained, AllocError>
     ensures { IfOk result (λ c. AreChained (project_of tables.now) c) }
 {
-    let cycle = call_cycle(alloc, tables)?;
-    let deep = call_too_deep(alloc, tables)?;
+    let links = calls_by_number(alloc, tables)?;
+    let cycle = call_cycle(alloc, links.as_slice())?;
+    let deep = call_too_deep(alloc, links.as_slice())?;
     Ok(Chained { cycle, deep })
 }
 

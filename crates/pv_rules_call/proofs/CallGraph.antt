@@ -404,14 +404,12 @@ module _ (project : ProjectTree) (all : List Links) (are : AreLinks project all)
 
 -- ---- the nearest of them
 
-pub cycle_nearest : (project : ProjectTree) (all items : List Links) (o : Option Place) → all ≡ items → AreLinks project items
+pub cycle_nearest : (project : ProjectTree) (all : List Links) → AreLinks project all → (o : Option Place)
     → IsNearest (HasBackLink (links_graph all) all (length all)) o → IsNearest (IsCycle project) o
-cycle_nearest project all items o same are =
-    let its = subst (AreLinks project) (sym same) are in
+cycle_nearest project all its o =
     nearest_same (HasBackLink (links_graph all) all (length all)) (IsCycle project) o (cycle_is project all its) (is_cycle project all its)
 
-pub deep_nearest : (project : ProjectTree) (all items : List Links) (o : Option Place) → all ≡ items → AreLinks project items
+pub deep_nearest : (project : ProjectTree) (all : List Links) → AreLinks project all → (o : Option Place)
     → IsNearest (HasDeepLink (links_graph all) all 7 (length all)) o → IsNearest (IsTooDeep project) o
-deep_nearest project all items o same are =
-    let its = subst (AreLinks project) (sym same) are in
+deep_nearest project all its o =
     nearest_same (HasDeepLink (links_graph all) all 7 (length all)) (IsTooDeep project) o (deep_is project all its) (is_deep project all its)

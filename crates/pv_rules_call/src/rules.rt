@@ -1,6 +1,7 @@
 //! The rules on chains of calls, over the blocks of a project: each gives the least place at which it is broken.
 ghost use Rattle.std.specs.Prelude.{IfOk};
 ghost use Rattle.pv_tree.specs.Rules.Chains.{IsCycle, IsTooDeep};
+ghost use Rattle.pv_tree.specs.Scopes.{ProjectTree};
 ghost use Rattle.pv_names.specs.Tables.{project_of};
 ghost use Rattle.pv_rules_expr.specs.Nearest.{IsNearest};
 ghost use Rattle.pv_rules_call.specs.Links.{AreLinks};
@@ -19,18 +20,17 @@ pub fn calls_by_number<'p>(alloc: Global, tables: &'p Tables<'p>) -> Result<Vec<
     links_of_all(alloc, tables)
 }
 
-/// The least place of a call from which calls lead back to its block.
-pub fn call_cycle<'p>(alloc: Global, tables: &'p Tables<'p>) -> Result<Option<Place>, AllocError>
-    ensures { IfOk result (IsNearest (IsCycle (project_of tables.now))) }
+/// The least place of a call from which calls lead back to its block, by the calls of each block as [`calls_by_number`] gives them.
+pub fn call_cycle(alloc: Global, links: &[Links]) -> Result<Option<Place>, AllocError>
+    ensures { (project : ProjectTree) → AreLinks project links.now → IfOk result (IsNearest (IsCycle project)) }
 {
-    let all = links_of_all(alloc, tables)?;
-    cycle(alloc, all.as_slice())
+    cycle(alloc, links)
 }
 
-/// The least place of a call in a block that a chain of calls has as its eighth.
-pub fn call_too_deep<'p>(alloc: Global, tables: &'p Tables<'p>) -> Result<Option<Place>, AllocError>
-    ensures { IfOk result (IsNearest (IsTooDeep (project_of tables.now))) }
+/// The least place of a call in a block that a chain of calls has as its eighth, by the calls of each block as [`calls_by_number`] gives
+/// them.
+pub fn call_too_deep(alloc: Global, links: &[Links]) -> Result<Option<Place>, AllocError>
+    ensures { (project : ProjectTree) → AreLinks project links.now → IfOk result (IsNearest (IsTooDeep project)) }
 {
-    let all = links_of_all(alloc, tables)?;
-    deep_call(alloc, all.as_slice())
+    deep_call(alloc, links)
 }

@@ -1,10 +1,6 @@
-use Rattle.pv_names.specs.Tables.{project_of}
 use Rattle.pv_rules_expr.proofs.ForCallers.{if_ok}
 use Rattle.pv_rules_call.proofs.CallGraph.{deep_nearest}
 use Rattle.pv_rules_call.proofs.rules.call_too_deep.Goals as goal
 
 pub returns : goal.returns
-returns c =
-    if_ok c.deep_call.result
-    (λ o is. deep_nearest (project_of c.args.tables.now) c.as_slice.result.now c.in_ok-all.all.items o c.as_slice.ensures.value c.in_ok-all.ensures is)
-    c.deep_call.ensures
+returns c project are = if_ok c.deep_call.result (deep_nearest project c.args.links.now are) c.deep_call.ensures
