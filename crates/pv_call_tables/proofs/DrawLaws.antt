@@ -1,12 +1,14 @@
 -- What drawn edges become, read by the tables of terms and deeds, is what is defined.
-use Rattle.std.proofs.Common.{◌≡◌, ℕ, List, [], ◌∷◌, ◌++◌, map, slice_get, refl, ap}
+use Rattle.std.proofs.Common.{◌≡◌, ℕ, ◌+◌, ◌<◌, ◌≤◌, List, [], ◌∷◌, ◌++◌, length, drop, map, slice_get, refl, sym, subst, ap, ◌∙◌, arith}
+use Rattle.std.specs.Prelude.{slice_index_or}
+use Rattle.std.proofs.lemmas.List.{drop_more}
 use Rattle.pv_flow.specs.declared.parts.Deed.{Deed as CodeDeed}
 use Rattle.pv_flow.specs.declared.parts.TrapEnd.{TrapEnd as CodeTrapEnd}
 use Rattle.pv_flow.specs.declared.parts.OverEnd.{OverEnd as CodeOverEnd}
 use Rattle.pv_flow.specs.Terms.{Term}
 use Rattle.pv_flow.specs.Automata.{Edge, TrapEnd, OverEnd}
 use Rattle.pv_flow.specs.View.{edge_of, guard_of, sets_of, trap_end_of, over_end_of}
-use Rattle.pv_call_copies.specs.Inlined.{location_by, next_by, with_trap, with_over, edges_of as plain_edges, traps_of as plain_traps, overs_of as plain_overs, behind as plain_behind}
+use Rattle.pv_call_copies.specs.Inlined.{Aim as Plain_aim, to_location, to_trap, to_over, location_by, next_by, with_trap, with_over, edges_of as plain_edges, traps_of as plain_traps, overs_of as plain_overs, behind as plain_behind}
 use Rattle.pv_call_tables.specs.declared.drawn.Aim.{Aim}
 use Rattle.pv_call_tables.specs.declared.drawn.Aim.TheVariants as aim
 use Rattle.pv_call_tables.specs.declared.drawn.Drawn.{Drawn}
@@ -53,3 +55,28 @@ pub behind_is : (terms : List Term) (deeds : List CodeDeed) (next : ℕ) (ds : L
     → next_after next ds ≡ plain_behind next (map (drawn_seen terms deeds) ds)
 behind_is terms deeds next [] = refl
 behind_is terms deeds next (d ∷ ds) = behind_is terms deeds (next_by (aim_seen d.aim) next) ds
+
+-- ---- numbers don't fall
+
+pub rises : (next : ℕ) (d : Drawn) (ds : List Drawn) → next_by (aim_seen d.aim) next ≤ next_after next (d ∷ ds)
+rises next d ds = after (next_by (aim_seen d.aim) next) ds
+  where
+    one : (a : Plain_aim) (n : ℕ) → n ≤ next_by a n
+    one (to_location l) n = omega arith
+    one (to_trap kind place) n = omega arith
+    one (to_over place) n = omega arith
+
+    after : (n : ℕ) (all : List Drawn) → n ≤ next_after n all
+    after n [] = omega arith
+    after n (x ∷ xs) =
+        let low = one (aim_seen x.aim) n in
+        let high = after (next_by (aim_seen x.aim) n) xs in
+        omega (arith, low, high)
+
+-- of a loop over them, by what is left
+pub next_within : (next first : ℕ) (ds : List Drawn) (i : ℕ) (d : Drawn) → i < length ds → next_after next (drop i ds) ≡ next_after first ds
+    → next_by (aim_seen (slice_index_or ds i d).aim) next ≤ next_after first ds
+next_within next first ds i d lt same =
+    subst (λ (n : ℕ). next_by (aim_seen (slice_index_or ds i d).aim) next ≤ n)
+    (ap (λ (xs : List Drawn). next_after next xs) (sym (drop_more ds i d lt)) ∙ same)
+    (rises next (slice_index_or ds i d) (drop (i + 1) ds))

@@ -5,3 +5,4 @@ pub mod ChainLaws
 pub mod RankLaws
 pub mod SumLaws
 pub mod DrawLaws
+pub mod Wants

@@ -1,6 +1,6 @@
 -- Edges counted by the locations where they begin are those that begin there.
-use Rattle.std.proofs.Common.{◌≡◌, ℕ, zero, suc, ◌+◌, ◌<◌, List, [], ◌∷◌, map, length, take, slice_get, replicate, Bool, true, false, ◌==◌, cond, Some, refl, sym, subst, ap, ◌∙◌, arith}
-use Rattle.std.specs.Prelude.{slice_index_or}
+use Rattle.std.proofs.Common.{◌≡◌, ℕ, zero, suc, ◌+◌, ◌<◌, ◌≤◌, List, [], ◌∷◌, map, length, take, slice_get, replicate, Bool, true, false, ◌==◌, cond, Some, refl, sym, subst, ap, ◌∙◌, arith}
+use Rattle.std.specs.Prelude.{slice_index_or, slice_set}
 use Rattle.std.proofs.lemmas.Bool.{eqb-true, eq-eqb, both_ways}
 use Rattle.std.proofs.lemmas.List.{length-replicate}
 use Rattle.std.proofs.lemmas.Option.{same_Some, none-some}
@@ -10,8 +10,35 @@ use Rattle.pv_flow.specs.Terms.{Term}
 use Rattle.pv_flow.specs.Automata.{Edge, edges_from}
 use Rattle.pv_flow.specs.View.{edge_of}
 use Rattle.pv_call_tables.specs.Numbers.{raised}
+use Rattle.pv_call_tables.specs.Wanted.{MOST}
 use Rattle.pv_call_tables.specs.Ranks.{counted, ranks_by}
 use Rattle.pv_call_tables.proofs.Lists.{put_length, at_put, at_other, zero_at}
+
+-- ---- a count is no more than the edges that were counted
+
+abbrev pub AreAtMost : ℕ → List ℕ → Type 0
+AreAtMost most counts = (l : ℕ) → slice_index_or counts l 0 ≤ most
+
+put_within : (n x most : ℕ) (xs : List ℕ) → AreAtMost most xs → x ≤ most → AreAtMost most (slice_set xs n x)
+put_within n x most [] all le l = all l
+put_within zero x most (y ∷ ys) all le zero = le
+put_within zero x most (y ∷ ys) all le (suc l) = all (suc l)
+put_within (suc n) x most (y ∷ ys) all le zero = all zero
+put_within (suc n) x most (y ∷ ys) all le (suc l) = put_within n x most ys (λ k. all (suc k)) le l
+
+pub raised_within : (most from : ℕ) (counts : List ℕ) → AreAtMost most counts → AreAtMost (most + 1) (raised counts from)
+raised_within most from counts all =
+    put_within from (slice_index_or counts from 0 + 1) (most + 1) counts (λ l. let h = all l in omega (arith, h)) (let h = all from in omega (arith, h))
+
+pub none_within : (locations : ℕ) → AreAtMost 0 (replicate locations 0)
+none_within locations l = let e = zero_at l locations in omega (arith, e)
+
+pub count_short : (i k from : ℕ) (counts now : List ℕ) → i < k → now ≡ counts → AreAtMost i counts → k ≤ MOST
+    → slice_index_or now from 0 + 1 ≤ MOST
+count_short i k from counts now lt same all short =
+    subst (λ (ns : List ℕ). slice_index_or ns from 0 + 1 ≤ MOST) (sym same) (let h = all from in omega (arith, lt, h, short))
+
+-- ---- counts
 
 raised_here : (counts : List ℕ) (from l : ℕ) → (from == l) ≡ true → l < length counts
     → slice_index_or (raised counts from) l 0 ≡ suc (slice_index_or counts l 0)

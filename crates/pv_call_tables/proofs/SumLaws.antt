@@ -1,9 +1,10 @@
 -- Sums of those before each number.
-use Rattle.std.proofs.Common.{◌≡◌, ℕ, zero, suc, ◌+◌, ◌<◌, ◌≤◌, ◌⊎◌, inl, inr, [], ◌∷◌, length, length-append, refl, sym, ap, ◌∙◌, arith}
+use Rattle.std.proofs.Common.{◌≡◌, ℕ, zero, suc, ◌+◌, ◌<◌, ◌≤◌, ◌⊎◌, inl, inr, [], ◌∷◌, length, length-append, refl, sym, subst, ap, ◌∙◌, arith}
 use Rattle.std.specs.Prelude.{slice_index_or}
 use Rattle.std.proofs.Math.Seq.{get_or-append_seam}
 use Rattle.std.proofs.lemmas.Bool.{cases_lt}
 use Rattle.std.proofs.lemmas.List.{get_or_append_left}
+use Rattle.pv_call_tables.specs.Wanted.{MOST}
 use Rattle.pv_call_tables.specs.Widths.{summed, sums_below}
 
 next : (n : ℕ) → n + 1 ≡ suc n
@@ -40,3 +41,25 @@ summed_alike f g (suc n) same =
   where
     both : {a b c d : ℕ} → a ≡ b → c ≡ d → a + c ≡ b + d
     both {a} {b} {c} {d} e h = omega (arith, e, h)
+
+-- ---- a part is no more than the whole
+
+pub sum_within : (f : ℕ → ℕ) (n l : ℕ) → l < n → summed f l + f l ≤ summed f n
+sum_within f zero l lt = absurd (omega (arith, lt))
+sum_within f (suc n) l lt = by (cases_lt l n) (λ low. sum_within f n l low)
+  where
+    same_le : (k : ℕ) → k ≤ k
+    same_le k = omega arith
+
+    by : (l < n) ⊎ (n ≤ l) → (l < n → summed f l + f l ≤ summed f n) → summed f l + f l ≤ summed f (suc n)
+    by (inl low) go = let h = go low in omega (arith, h)
+    by (inr high) go =
+        let e : l ≡ n = omega (arith, lt, high) in
+        subst (λ (k : ℕ). summed f k + f k ≤ summed f n + f n) (sym e) (same_le (summed f n + f n))
+
+-- of a loop over them, with a total so far
+pub sum_short : (f : ℕ → ℕ) (n l total part : ℕ) → l < n → total ≡ summed f l → part ≡ f l → summed f n ≤ MOST → total + part ≤ MOST
+sum_short f n l total part lt e h short = let le = sum_within f n l lt in omega (arith, le, e, h, short)
+
+pub part_short : (f : ℕ → ℕ) (n l : ℕ) → l < n → summed f n ≤ MOST → f l ≤ MOST
+part_short f n l lt short = let le = sum_within f n l lt in omega (arith, le, short)

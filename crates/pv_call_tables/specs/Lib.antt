@@ -1,5 +1,6 @@
 -- what public clauses cite
 pub mod Numbers
+pub mod Wanted
 pub mod Standings
 pub mod Known
 pub mod Chains

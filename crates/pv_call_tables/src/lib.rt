@@ -6,6 +6,7 @@
 
 mod chains;
 mod drawn;
+mod fault;
 pub mod laws;
 mod marks;
 mod numbers;
@@ -14,6 +15,7 @@ mod widths;
 
 pub use chains::{Chains, edge_chains, loop_chains};
 pub use drawn::{Aim, Drawn, behind, edges_of, overs_of, traps_of};
+pub use fault::Wanting;
 pub use marks::{Standing, call_at, calls_at, standing_at, standings};
 pub use numbers::{add, number_at, number_of};
 pub use ranking::{counts, ranks};

@@ -1,5 +1,5 @@
 -- What the parts of the rows are.
-use Rattle.std.specs.Prelude.{◌≡◌, ℕ, pos, List, [], ◌∷◌, length}
+use Rattle.std.specs.Prelude.{◌≡◌, ℕ, ◌≤◌, pos, List, [], ◌∷◌, length, Option, Some}
 use Rattle.pv_word.specs.declared.types.Ty.TheVariants.{Bool}
 use Rattle.pv_flow.specs.declared.term.Node.TheVariants as node
 use Rattle.pv_flow.specs.declared.parts.Parts.{Parts}
@@ -8,6 +8,7 @@ use Rattle.pv_flow.specs.declared.parts.CallEdge.{CallEdge}
 use Rattle.pv_flow.specs.declared.parts.Deed.{Deed}
 use Rattle.pv_flow.specs.declared.parts.Set.{Set}
 use Rattle.pv_flow.specs.declared.parts.Loop.{Loop}
+use Rattle.pv_call_tables.specs.Wanted.{MOST}
 
 -- so many locations, of which one is the end, and nothing else
 pub record IsBare (n end : ℕ) (p : Parts) : Type 0 where
@@ -23,6 +24,15 @@ pub record IsBare (n end : ℕ) (p : Parts) : Type 0 where
   pub done : p.done ≡ end
   pub traps : p.traps.items ≡ []
   pub overs : p.overs.items ≡ []
+
+-- one block of such parts, with no more locations than 32 bits number
+pub record IsBareBlock (blocks : List (Option Parts)) : Type 0 where
+  pub parts : Parts
+  pub locations : ℕ
+  pub end : ℕ
+  pub block : blocks ≡ Some parts ∷ []
+  pub bare : IsBare locations end parts
+  pub few : locations ≤ MOST
 
 -- a loop from the first location to the last, with an entry turn alone
 pub record IsLoopOf (from to : ℕ) (loop : Loop) : Type 0 where

@@ -10,7 +10,7 @@ ghost use Rattle.pv_flow.specs.AutomatonView.{automaton_of, code_of, attached_of
 ghost use Rattle.pv_flow.specs.MachineView.{acyclic_parts, acyclic_code, attached_in, inlined_parts, inlined_code, bound_of};
 ghost use Rattle.pv_copies.specs.Unrolled.{unrolled, unrolled_size};
 ghost use Rattle.pv_unroll.specs.declared.fault.TheConstants.{MAX_EDGES};
-ghost use Rattle.pv_unroll.specs.Correct.{CanUnroll, IsSizeOf, IsTooLarge, IsForward, KeepsTables};
+ghost use Rattle.pv_unroll.specs.Correct.{CanUnroll, IsSizeOf, IsTooLarge, HasTooManyEdges, IsForward, KeepsTables};
 
 use pv_flow::{Acyclic, Attached, Automaton, FlowFault, Inlined, Parts, acyclic, inlined};
 use pv_unroll::TooLarge;
@@ -64,7 +64,7 @@ pub fn attach(alloc: Global, parts: Parts, attached: Option<Attached>) -> Result
 /// [`pv_unroll::unrolled_size`].
 pub fn unrolled_size(alloc: Global, from: &Inlined) -> Result<u64, TooLarge>
     ensures size { IfOk result (IsSizeOf (inlined_parts from.now) (bound_of from.now)) }
-    ensures large { IfErr result (IsTooLarge (inlined_parts from.now) (bound_of from.now)) }
+    ensures large { IfErr result (HasTooManyEdges (inlined_parts from.now) (bound_of from.now)) }
 {
     pv_unroll::unrolled_size(alloc, from)
 }

@@ -131,6 +131,17 @@ pub fn one_edge(alloc: Global) -> Result<Parts, AllocError>
     Ok(parts)
 }
 
+/// Two locations, and an edge from the one to the other with the last deed that 32 bits number, which isn't there.
+pub fn far_edge(alloc: Global) -> Result<Parts, AllocError> {
+    let mut parts = bare(alloc, 2, 1);
+    parts.edges.push(Edge {
+        from: 0,
+        to: 1,
+        deed: 4_294_967_295,
+    })?;
+    Ok(parts)
+}
+
 /// The fault of parts whose loops cross.
 #[tactic(auto, using(crate::proofs::RowLaws::crossing_refused))]
 pub fn fault_of_crossing(alloc: Global, parts: Parts) -> Option<FlowFault>

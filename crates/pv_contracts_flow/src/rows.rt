@@ -3,9 +3,12 @@ ghost use Rattle.pv_flow.specs.Faults.{IsFaultless};
 ghost use Rattle.pv_flow.specs.View.{parts_of};
 
 use crate::calls::{attached_to, bound_of, build, unroll};
-use crate::copies::{inlined_size, one_call};
-use crate::parts::{edge_past, entered_within, fault_of_crossing, loops_cross, one_edge, set_past};
+use crate::copies::{copy_calls, inlined_size, one_call};
+use crate::parts::{
+    edge_past, entered_within, far_edge, fault_of_crossing, loops_cross, one_edge, set_past,
+};
 use pv_flow::{Automaton, FlowFault, Inlined, Parts, inlined};
+use pv_inline::TooLarge;
 use std::alloc::{AllocError, Global};
 use std::test::Fail;
 
@@ -85,6 +88,13 @@ fn size_at_once(alloc: Global, entry: u32) -> Result<Option<u64>, FlowFault> {
     Ok(inlined_size(blocks.as_slice(), entry).ok())
 }
 
+/// Why the copies of one block aren't made whose edge names a deed that has no number behind others.
+fn of_far(alloc: Global) -> Result<Option<TooLarge>, AllocError> {
+    let mut blocks = Vec::new(alloc);
+    blocks.push(Some(far_edge(alloc)?))?;
+    Ok(copy_calls(alloc, blocks.as_slice(), 0).err())
+}
+
 /// How many edges an automaton has that is unrolled.
 fn edges_unrolled(alloc: Global, from: Inlined) -> usize {
     match unroll(alloc, from) {
@@ -129,5 +139,12 @@ fn a_call_becomes_two_edges_and_its_block(rt: HostRuntime) -> Result<(), Fail> {
     assert_eq!(rt; size_at_once(alloc, 0), Ok(Some(1)));
     assert_eq!(rt; size_at_once(alloc, 1), Ok(Some(3)));
     assert_eq!(rt; size_at_once(alloc, 2), Ok(Some(0)));
+    Ok(())
+}
+
+#[test]
+fn a_number_past_32_bits_is_told(rt: HostRuntime) -> Result<(), Fail> {
+    let alloc = rt.alloc();
+    assert_eq!(rt; of_far(alloc)?, Some(TooLarge::Numbers));
     Ok(())
 }

@@ -90,4 +90,4 @@ pub faults_are_told : (blocks : Blocks) (b counted : ℕ) (r : Result ℕ TooLar
     → IfErr r (IsOver counted) → IfErr r (IsTooLarge blocks b)
 faults_are_told blocks b counted (Ok size) e is = tt
 faults_are_told blocks b counted (Err fault) e is =
-    over_by BEYOND MAX_EDGES (inlined_size blocks b) (subst (λ (m : ℕ). MAX_EDGES < m) e is)
+    (is.0, over_by BEYOND MAX_EDGES (inlined_size blocks b) (subst (λ (m : ℕ). MAX_EDGES < m) e is.1))

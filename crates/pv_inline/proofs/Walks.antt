@@ -248,7 +248,7 @@ called_added blocks vars b c place whole is r inner ds ls adds grows l j call q 
     one : Added m entered (edge_in (blocks_in blocks) (body_of copy h.places) (number c l) ∷ []) []
     one = edge_in_added blocks copy h.places 1 (number c l) m refl h.copy.lies.own
         (are_there q (sound_at (blocks_in blocks) whole.sound call.block (parts_of q) there).faultless) good
-        (fewer (length entered.nodes) (length made.nodes) MOST (grows copy entered) small)
+        (fewer (length entered.nodes) (length made.nodes) MOST (grows copy entered).nodes small)
 
 -- the numbers of what begins at a location
 edges_here : (blocks : List (Option CodeParts)) (c : Copy) (outs l : ℕ) → c.table ≡ table_in blocks c.parts outs → AreThere c.parts
@@ -383,7 +383,7 @@ locations_added : (blocks : List (Option CodeParts)) (vars : List Variable) (b :
 locations_added blocks vars b c place whole is r inner ds ls adds grows zero le m good held small = nothing_added m good
 locations_added blocks vars b c place whole is r inner ds ls adds grows (suc n) le m good held small =
     then_it (locations_added blocks vars b c place whole is r inner ds ls adds grows n (omega (arith, le)) m good held
-    (fewer (length middle.nodes) (length (locations_made blocks inner c (suc n) m).nodes) MOST (location_grows blocks inner grows c n middle) small))
+    (fewer (length middle.nodes) (length (locations_made blocks inner c (suc n) m).nodes) MOST (location_grows blocks inner grows c n middle).nodes small))
   where
     body : Body
     body = body_of c place
@@ -418,7 +418,7 @@ copy_added blocks vars b c place whole is inner ds ls adds grows m good small =
     (locations_added blocks vars b own place whole is_own (ready blocks vars b own place whole is_own) inner ds ls adds grows c.parts.locations
     (same_le c.parts.locations) tables (tables_good c m is.tabled good)
     (tables_held c m is.tabled (fewer (length tables.nodes) (length (copy_made blocks inner c m).nodes) MOST
-    (locations_grow blocks inner grows own c.parts.locations tables) small)) small)
+    (locations_grow blocks inner grows own c.parts.locations tables).nodes small)) small)
   where
     tables : Making
     tables = tables_copied c m

@@ -2,7 +2,7 @@
 use Rattle.std.proofs.Common.{◌≡◌, ℕ, ◌+◌, ◌<◌, ◌≤◌, List, [], ◌∷◌, ◌++◌, map, length, length-append, slice_get, true, nat_lt, MatchOption, Option, Some, None, Result, Ok, Err, IfOk, OnOk, refl, sym, subst, ap, ◌∙◌, arith}
 use Rattle.std.specs.Prelude.{slice_index_or}
 use Rattle.std.specs.List.{list_all}
-use Rattle.std.proofs.lemmas.Bool.{and_parts, and_from}
+use Rattle.std.proofs.lemmas.Bool.{and_parts, and_from, both_ways}
 use Rattle.std.proofs.lemmas.List.{length-map}
 use Rattle.pv_flow.specs.declared.term.Node.{Node}
 use Rattle.pv_flow.specs.declared.parts.Deed.{Deed as CodeDeed}
@@ -19,7 +19,9 @@ use Rattle.pv_flow.specs.Terms.{Term}
 use Rattle.pv_flow.specs.Automata.{Variable, Set, Edge, CallEdge, Loop, TrapEnd, OverEnd, Parts}
 use Rattle.pv_flow.specs.Calls.{Blocks, block_at, Work, entry_work}
 use Rattle.pv_flow.specs.CallMachines.{IsMachineWithCalls}
-use Rattle.pv_flow.specs.Faults.{IsFaultless}
+use Rattle.pv_flow.specs.declared.fault.FlowFault.{FlowFault}
+use Rattle.pv_flow.specs.declared.fault.FlowFault.TheVariants as flow
+use Rattle.pv_flow.specs.Faults.{has_locations, has_variables, has_loops, IsFaultless, IsFaultOf}
 use Rattle.pv_flow.specs.Fitting.{AreFitting}
 use Rattle.pv_flow.specs.MachineView.{inlined_parts, bound_of}
 use Rattle.pv_flow.specs.Machines.{inlined_machine}
@@ -375,3 +377,10 @@ machine_told blocks b n (Ok m) fit some is = by (block_at (blocks_of blocks) b) 
         subst (λ (y : Parts). IsMachineWithCalls (blocks_of blocks) n x (inlined_machine y n)) (sym h.0)
         (inlined_has_the_machine (blocks_of blocks) n b x fit (sound_blocks blocks) some e)
 machine_told blocks b n (Err fault) fit some is = tt
+
+-- parts without a fault have none but want of memory
+pub memory_alone : (p : Parts) (fault : FlowFault) → IsFaultless p → IsFaultOf p fault → fault ≡ flow.NoMemory
+memory_alone p flow.BadLocation sound is = absurd (both_ways (has_locations p) is sound.locations)
+memory_alone p flow.BadVariable sound is = absurd (both_ways (has_variables p) is.1 sound.variables)
+memory_alone p flow.BadLoop sound is = absurd (both_ways (has_loops p) is.2 sound.loops)
+memory_alone p flow.NoMemory sound is = refl

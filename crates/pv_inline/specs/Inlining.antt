@@ -20,9 +20,10 @@ use Rattle.pv_inline.specs.declared.copying.Body.{Body as CodeBody}
 use Rattle.pv_inline.specs.declared.making.Making.{Making as CodeMaking}
 use Rattle.pv_inline.specs.declared.inlining.Ways.{Ways as CodeWays}
 use Rattle.pv_inline.specs.declared.fault.TooLarge.{TooLarge}
-use Rattle.pv_inline.specs.declared.fault.TooLarge.TheVariants.{Edges, NoMemory}
+use Rattle.pv_inline.specs.declared.fault.TooLarge.TheVariants.{Edges, Numbers, NoMemory}
 use Rattle.pv_inline.specs.declared.fault.TheConstants.{MAX_EDGES}
 use Rattle.pv_inline.specs.Blocks.{blocks_in, code_at}
+use Rattle.pv_inline.specs.Short.{HasShortCopies}
 
 -- ---- what public clauses cite
 
@@ -60,9 +61,11 @@ IsInlinedAs blocks b n m = MatchOption (block_at blocks b) ⊥ (λ p. (inlined_p
 abbrev pub HasTheMachine : Blocks → ℕ → ℕ → Inlined → Type 0
 HasTheMachine blocks b n m = MatchOption (block_at blocks b) ⊥ (λ p. IsMachineWithCalls blocks n p (inlined_machine (inlined_parts m) n))
 
-abbrev pub IsTooMany : Blocks → ℕ → TooLarge → Type 0
-IsTooMany blocks b Edges = MAX_EDGES < inlined_size blocks b
-IsTooMany blocks b NoMemory = Unit {0}
+-- numbers may run out only where not each number of the copies has 32 bits
+abbrev pub IsTooMany : Blocks → List (Option CodeParts) → ℕ → TooLarge → Type 0
+IsTooMany blocks codes b Edges = MAX_EDGES < inlined_size blocks b
+IsTooMany blocks codes b Numbers = HasShortCopies codes b → ⊥
+IsTooMany blocks codes b NoMemory = Unit {0}
 
 -- ---- what private clauses cite
 

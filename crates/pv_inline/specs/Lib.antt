@@ -8,6 +8,7 @@ pub mod Inlining
 pub mod Counts
 pub mod Tables
 pub mod Walking
+pub mod Short
 pub mod Seen
 -- what is so of it
 pub mod Reading

@@ -1,6 +1,2 @@
 -- Numbers of 32 bits.
-use Rattle.std.specs.Prelude.{ℕ}
-
--- the greatest
-abbrev pub MOST : ℕ
-MOST = 4294967295
+pub use Rattle.pv_call_tables.specs.Wanted.{MOST}

@@ -1,5 +1,8 @@
 //! What copies of called blocks take: variables and text.
-ghost use Rattle.std.specs.Prelude.{◌≡◌, ℕ, ◌+◌, map, IfOk};
+ghost use Rattle.std.specs.Prelude.{◌≡◌, ℕ, ◌+◌, ◌≤◌, map, IfOk, IfErr};
+ghost use Rattle.pv_call_tables.specs.Wanted.{IsMemory};
+ghost use Rattle.pv_inline.specs.Numbers.{MOST};
+ghost use Rattle.pv_inline.specs.Short.{EachCall, HasShortText, text_of};
 ghost use Rattle.pv_flow.specs.Calls.{own_count, needed_by_calls, needed_within};
 ghost use Rattle.pv_flow.specs.View.{call_edge_of, parts_of};
 ghost use Rattle.pv_call_tables.specs.Standings.{standings_of, calls_of};
@@ -9,21 +12,23 @@ ghost use Rattle.pv_inline.specs.Tables.{spans_of, span_below};
 
 use crate::blocks::Blocks;
 use crate::variables::own_of;
-use pv_call_tables::{Outline, add, calls_at, number_of, standings, text_size};
+use pv_call_tables::{Outline, Wanting, add, calls_at, number_of, standings, text_size};
 use pv_flow::{CallEdge, Parts};
-use std::alloc::{AllocError, Global};
+use std::alloc::Global;
 
 /// How many variables of the block are its own.
-pub(crate) fn own_count(parts: &Parts) -> Result<u32, AllocError>
-    ensures { IfOk result (λ n. n ≡ own_count (parts_of parts.now)) }
+pub(crate) fn own_count(parts: &Parts) -> Result<u32, Wanting>
+    ensures number { IfOk result (λ n. n ≡ own_count (parts_of parts.now)) }
+    ensures short { own_count (parts_of parts.now) ≤ MOST → IfErr result IsMemory }
 {
     number_of(own_of(parts).len())
 }
 
 /// How many variables a call of the block adds, down so many levels of calls.
 #[cycle(needing)]
-pub(crate) fn needed(blocks: &Blocks<'_>, levels: usize, block: u32) -> Result<u32, AllocError>
-    ensures { IfOk result (λ n. n ≡ needed_within (blocks_in (codes_in blocks.now)) levels block) }
+pub(crate) fn needed(blocks: &Blocks<'_>, levels: usize, block: u32) -> Result<u32, Wanting>
+    ensures number { IfOk result (λ n. n ≡ needed_within (blocks_in (codes_in blocks.now)) levels block) }
+    ensures short { needed_within (blocks_in (codes_in blocks.now)) levels block ≤ MOST → IfErr result IsMemory }
 {
     if levels == 0 {
         return Ok(0);
@@ -45,9 +50,10 @@ fn needed_by_calls(
     levels: usize,
     calls: &[CallEdge],
     total: u32,
-) -> Result<u32, AllocError>
-    ensures { IfOk result (λ n. n
+) -> Result<u32, Wanting>
+    ensures number { IfOk result (λ n. n
         ≡ total + needed_by_calls (needed_within (blocks_in (codes_in blocks.now)) levels) (map call_edge_of calls.now)) }
+    ensures short { total + needed_by_calls (needed_within (blocks_in (codes_in blocks.now)) levels) (map call_edge_of calls.now) ≤ MOST → IfErr result IsMemory }
 {
     let mut all = total;
     for call in calls {
@@ -57,8 +63,9 @@ fn needed_by_calls(
 }
 
 /// How much text a block takes whose call edges' blocks take so much.
-fn span_of(alloc: Global, parts: &Parts, texts: &[u32]) -> Result<u32, AllocError>
-    ensures { IfOk result (λ n. n ≡ summed (text_at (standings_of parts.now) (calls_of parts.now) texts.now) parts.now.locations) }
+fn span_of(alloc: Global, parts: &Parts, texts: &[u32]) -> Result<u32, Wanting>
+    ensures number { IfOk result (λ n. n ≡ summed (text_at (standings_of parts.now) (calls_of parts.now) texts.now) parts.now.locations) }
+    ensures short { text_of parts.now texts.now ≤ MOST → IfErr result IsMemory }
 {
     let ends = standings(alloc, parts)?;
     let calls = calls_at(alloc, parts)?;
@@ -71,8 +78,9 @@ fn span_of(alloc: Global, parts: &Parts, texts: &[u32]) -> Result<u32, AllocErro
 
 /// How much text a copy of the block takes, down so many levels of calls.
 #[cycle(spanning)]
-fn span(alloc: Global, blocks: &Blocks<'_>, levels: usize, block: u32) -> Result<u32, AllocError>
-    ensures { IfOk result (λ n. n ≡ span_below (blocks_in (codes_in blocks.now)) levels block) }
+fn span(alloc: Global, blocks: &Blocks<'_>, levels: usize, block: u32) -> Result<u32, Wanting>
+    ensures number { IfOk result (λ n. n ≡ span_below (blocks_in (codes_in blocks.now)) levels block) }
+    ensures short { HasShortText (codes_in blocks.now) levels block → IfErr result IsMemory }
 {
     if levels == 0 {
         return Ok(0);
@@ -95,8 +103,9 @@ pub(crate) fn spans(
     blocks: &Blocks<'_>,
     levels: usize,
     calls: &[CallEdge],
-) -> Result<Vec<u32>, AllocError>
-    ensures { IfOk result (λ made. made.items ≡ spans_of (span_below (blocks_in (codes_in blocks.now)) levels) calls.now) }
+) -> Result<Vec<u32>, Wanting>
+    ensures made { IfOk result (λ made. made.items ≡ spans_of (span_below (blocks_in (codes_in blocks.now)) levels) calls.now) }
+    ensures short { EachCall (HasShortText (codes_in blocks.now) levels) calls.now → IfErr result IsMemory }
 {
     let mut made = Vec::with_capacity(alloc, calls.len())?;
     for call in calls {

@@ -1,5 +1,8 @@
 //! The copies of blocks, each location with what stands behind it.
-ghost use Rattle.std.specs.Prelude.{◌≡◌, IfOk, length, map, slice_get, slice_index_or};
+ghost use Rattle.std.specs.Prelude.{◌≡◌, ◌≤◌, ℕ, IfOk, IfErr, Some, length, map, slice_get, slice_index_or};
+ghost use Rattle.pv_call_tables.specs.Wanted.{IsMemory};
+ghost use Rattle.pv_inline.specs.Numbers.{MOST};
+ghost use Rattle.pv_inline.specs.Short.{IsShort};
 ghost use Rattle.pv_flow.specs.View.{loop_of};
 ghost use Rattle.pv_inline.specs.Walking.{number, aim, edge_drawn, drawn_more, one_drawn, all_drawn, turn, loop_made, looped, one_looped, all_looped, numbers_at, tables_copied, edge_in_made, out_drawn};
 ghost use Rattle.pv_inline.specs.Seen.{copy_seen, making_seen};
@@ -7,11 +10,11 @@ ghost use Rattle.pv_inline.specs.Seen.{copy_seen, making_seen};
 use crate::making::{Making, PLAIN};
 use crate::table::Table;
 use pv_call_tables::{
-    Aim, Drawn, Standing, add, call_at, number_at, number_of, of_call, standing_at,
+    Aim, Drawn, Standing, Wanting, add, call_at, number_at, number_of, of_call, standing_at,
 };
 use pv_call_terms::{Places, add_deeds, add_resets, add_terms};
 use pv_flow::{Edge, Loop, Parts};
-use std::alloc::{AllocError, Global};
+use std::alloc::Global;
 
 /// A copy: where its text begins, where it leads once it is done, and how many deeds and edges stand before its own.
 #[derive(Clone, Copy)]
@@ -34,8 +37,9 @@ pub(crate) struct Copying<'a> {
 }
 
 /// Where location l of the block stands.
-pub(crate) fn number(copy: &Copying, l: u32) -> Result<u32, AllocError>
-    ensures { IfOk result (λ n. n ≡ number (copy_seen copy.now) l) }
+pub(crate) fn number(copy: &Copying, l: u32) -> Result<u32, Wanting>
+    ensures number { IfOk result (λ n. n ≡ number (copy_seen copy.now) l) }
+    ensures short { IsShort (copy_seen copy.now) → IfErr result IsMemory }
 {
     add(
         copy.body.start,
@@ -44,8 +48,9 @@ pub(crate) fn number(copy: &Copying, l: u32) -> Result<u32, AllocError>
 }
 
 /// Of what leads to location l.
-pub(crate) fn aim(copy: &Copying, l: u32) -> Result<Aim, AllocError>
-    ensures { IfOk result (λ a. a ≡ aim (copy_seen copy.now) l) }
+pub(crate) fn aim(copy: &Copying, l: u32) -> Result<Aim, Wanting>
+    ensures aim { IfOk result (λ a. a ≡ aim (copy_seen copy.now) l) }
+    ensures short { IsShort (copy_seen copy.now) → IfErr result IsMemory }
 {
     match standing_at(copy.table.marks.ends.as_slice(), l as usize) {
         Standing::Nothing => Ok(Aim::Location(number(copy, l)?)),
@@ -56,8 +61,10 @@ pub(crate) fn aim(copy: &Copying, l: u32) -> Result<Aim, AllocError>
 }
 
 /// The copy of an edge.
-fn edge_drawn(copy: &Copying, edge: Edge) -> Result<Drawn, AllocError>
-    ensures { IfOk result (λ d. d ≡ edge_drawn (copy_seen copy.now) edge) }
+fn edge_drawn(copy: &Copying, edge: Edge) -> Result<Drawn, Wanting>
+    ensures drawn { IfOk result (λ d. d ≡ edge_drawn (copy_seen copy.now) edge) }
+    ensures short { IsShort (copy_seen copy.now) → (e : ℕ) → slice_get copy.now.parts.now.edges.items e ≡ Some edge
+        → IfErr result IsMemory }
 {
     Ok(Drawn {
         from: number(copy, edge.from)?,
@@ -67,8 +74,9 @@ fn edge_drawn(copy: &Copying, edge: Edge) -> Result<Drawn, AllocError>
 }
 
 /// Draws the edge of this number, if there is one.
-fn draw_one(making: &mut Making, copy: &Copying, e: usize) -> Result<(), AllocError>
-    ensures { IfOk result (λ _. making_seen making.new ≡ one_drawn (copy_seen copy.now) (slice_get copy.now.parts.now.edges.items e) (making_seen making.old)) }
+fn draw_one(making: &mut Making, copy: &Copying, e: usize) -> Result<(), Wanting>
+    ensures drawn { IfOk result (λ _. making_seen making.new ≡ one_drawn (copy_seen copy.now) (slice_get copy.now.parts.now.edges.items e) (making_seen making.old)) }
+    ensures short { IsShort (copy_seen copy.now) → IfErr result IsMemory }
 {
     match copy.parts.edges.as_slice().get(e) {
         Some(edge) => making.draw(edge_drawn(copy, *edge)?),
@@ -77,8 +85,9 @@ fn draw_one(making: &mut Making, copy: &Copying, e: usize) -> Result<(), AllocEr
 }
 
 /// Draws the edges of these numbers.
-fn draw_all(making: &mut Making, copy: &Copying, numbers: &[usize]) -> Result<(), AllocError>
-    ensures { IfOk result (λ _. making_seen making.new ≡ all_drawn (copy_seen copy.now) numbers.now (making_seen making.old)) }
+fn draw_all(making: &mut Making, copy: &Copying, numbers: &[usize]) -> Result<(), Wanting>
+    ensures drawn { IfOk result (λ _. making_seen making.new ≡ all_drawn (copy_seen copy.now) numbers.now (making_seen making.old)) }
+    ensures short { IsShort (copy_seen copy.now) → IfErr result IsMemory }
 {
     for e in numbers {
         draw_one(making, copy, *e)?;
@@ -92,17 +101,19 @@ pub(crate) fn draw_edges(
     making: &mut Making,
     copy: &Copying,
     l: u32,
-) -> Result<(), AllocError>
-    ensures { IfOk result (λ _. making_seen making.new
+) -> Result<(), Wanting>
+    ensures drawn { IfOk result (λ _. making_seen making.new
         ≡ all_drawn (copy_seen copy.now) (numbers_at (copy_seen copy.now).table.edges l) (making_seen making.old)) }
+    ensures short { IsShort (copy_seen copy.now) → IfErr result IsMemory }
 {
     let numbers = copy.table.begins.edges.numbers(alloc, l as usize)?;
     draw_all(making, copy, numbers.as_slice())
 }
 
 /// The number of the copy of edge e.
-fn turn(copy: &Copying, e: u32) -> Result<u32, AllocError>
-    ensures { IfOk result (λ n. n ≡ turn (copy_seen copy.now) e) }
+fn turn(copy: &Copying, e: u32) -> Result<u32, Wanting>
+    ensures number { IfOk result (λ n. n ≡ turn (copy_seen copy.now) e) }
+    ensures short { IsShort (copy_seen copy.now) → IfErr result IsMemory }
 {
     match copy.parts.edges.as_slice().get(e as usize) {
         Some(edge) => {
@@ -117,8 +128,9 @@ fn turn(copy: &Copying, e: u32) -> Result<u32, AllocError>
     }
 }
 
-fn turns(alloc: Global, copy: &Copying, numbers: &[u32]) -> Result<Vec<u32>, AllocError>
-    ensures { IfOk result (λ made. made.items ≡ map (turn (copy_seen copy.now)) numbers.now) }
+fn turns(alloc: Global, copy: &Copying, numbers: &[u32]) -> Result<Vec<u32>, Wanting>
+    ensures made { IfOk result (λ made. made.items ≡ map (turn (copy_seen copy.now)) numbers.now) }
+    ensures short { IsShort (copy_seen copy.now) → IfErr result IsMemory }
 {
     let mut made = Vec::with_capacity(alloc, numbers.len())?;
     for e in numbers {
@@ -128,8 +140,9 @@ fn turns(alloc: Global, copy: &Copying, numbers: &[u32]) -> Result<Vec<u32>, All
 }
 
 /// The copy of a loop, whose range has the text of what is called at its last location.
-fn loop_made(alloc: Global, copy: &Copying, range: &Loop) -> Result<Loop, AllocError>
-    ensures { IfOk result (λ made. loop_of made ≡ loop_made (copy_seen copy.now) (loop_of range.now)) }
+fn loop_made(alloc: Global, copy: &Copying, range: &Loop) -> Result<Loop, Wanting>
+    ensures made { IfOk result (λ made. loop_of made ≡ loop_made (copy_seen copy.now) (loop_of range.now)) }
+    ensures short { IsShort (copy_seen copy.now) → IfErr result IsMemory }
 {
     let called = of_call(
         copy.table.widths.texts.as_slice(),
@@ -148,9 +161,10 @@ fn loop_made(alloc: Global, copy: &Copying, range: &Loop) -> Result<Loop, AllocE
 }
 
 /// Adds the copy of the loop of this number, if there is one.
-fn loop_one(alloc: Global, making: &mut Making, copy: &Copying, i: usize) -> Result<(), AllocError>
-    ensures { IfOk result (λ _. making_seen making.new
+fn loop_one(alloc: Global, making: &mut Making, copy: &Copying, i: usize) -> Result<(), Wanting>
+    ensures added { IfOk result (λ _. making_seen making.new
         ≡ one_looped (copy_seen copy.now) (slice_get (map loop_of copy.now.parts.now.loops.items) i) (making_seen making.old)) }
+    ensures short { IsShort (copy_seen copy.now) → IfErr result IsMemory }
 {
     match copy.parts.loops.as_slice().get(i) {
         Some(range) => making.add_loop(loop_made(alloc, copy, range)?),
@@ -164,8 +178,9 @@ fn loop_all(
     making: &mut Making,
     copy: &Copying,
     numbers: &[usize],
-) -> Result<(), AllocError>
-    ensures { IfOk result (λ _. making_seen making.new ≡ all_looped (copy_seen copy.now) numbers.now (making_seen making.old)) }
+) -> Result<(), Wanting>
+    ensures added { IfOk result (λ _. making_seen making.new ≡ all_looped (copy_seen copy.now) numbers.now (making_seen making.old)) }
+    ensures short { IsShort (copy_seen copy.now) → IfErr result IsMemory }
 {
     for i in numbers {
         loop_one(alloc, making, copy, *i)?;
@@ -179,27 +194,26 @@ pub(crate) fn add_loops(
     making: &mut Making,
     copy: &Copying,
     l: u32,
-) -> Result<(), AllocError>
-    ensures { IfOk result (λ _. making_seen making.new
+) -> Result<(), Wanting>
+    ensures added { IfOk result (λ _. making_seen making.new
         ≡ all_looped (copy_seen copy.now) (numbers_at (copy_seen copy.now).table.loops l) (making_seen making.old)) }
+    ensures short { IsShort (copy_seen copy.now) → IfErr result IsMemory }
 {
     let numbers = copy.table.begins.loops.numbers(alloc, l as usize)?;
     loop_all(alloc, making, copy, numbers.as_slice())
 }
 
 /// Copies the block's terms and deeds.
-pub(crate) fn copy_tables(
-    alloc: Global,
-    making: &mut Making,
-    copy: &Copying,
-) -> Result<(), AllocError>
-    ensures { IfOk result (λ _. making_seen making.new ≡ tables_copied (copy_seen copy.now) (making_seen making.old)) }
+pub(crate) fn copy_tables(alloc: Global, making: &mut Making, copy: &Copying) -> Result<(), Wanting>
+    ensures copied { IfOk result (λ _. making_seen making.new ≡ tables_copied (copy_seen copy.now) (making_seen making.old)) }
+    ensures short { length (making_seen making.old).nodes ≤ MOST → IfErr result IsMemory }
 {
     let after = number_of(making.nodes.len())?;
     let nodes = copy.parts.nodes.as_slice();
     let deeds = copy.parts.deeds.as_slice();
     add_terms(&mut making.nodes, copy.places, after, nodes)?;
-    add_deeds(alloc, &mut making.deeds, copy.places, after, deeds)
+    add_deeds(alloc, &mut making.deeds, copy.places, after, deeds)?;
+    Ok(())
 }
 
 /// Draws the edge into a callee from the location of this number.
@@ -208,8 +222,9 @@ pub(crate) fn draw_in(
     making: &mut Making,
     copy: &Copying,
     from: u32,
-) -> Result<(), AllocError>
-    ensures { IfOk result (λ _. making_seen making.new ≡ edge_in_made (copy_seen copy.now) from (making_seen making.old)) }
+) -> Result<(), Wanting>
+    ensures drawn { IfOk result (λ _. making_seen making.new ≡ edge_in_made (copy_seen copy.now) from (making_seen making.old)) }
+    ensures short { IsShort (copy_seen copy.now) → length (making_seen making.old).deeds ≤ MOST → IfErr result IsMemory }
 {
     let deed = making.next_deed()?;
     let sets = add_resets(alloc, &mut making.nodes, copy.places, copy.parts)?;
@@ -222,8 +237,9 @@ pub(crate) fn draw_in(
 }
 
 /// Draws the edge out of location l, where the block is done, if it leads on.
-pub(crate) fn draw_out(making: &mut Making, copy: &Copying, l: u32) -> Result<(), AllocError>
-    ensures { IfOk result (λ _. making_seen making.new ≡ out_drawn (copy_seen copy.now) l (copy_seen copy.now).out (making_seen making.old)) }
+pub(crate) fn draw_out(making: &mut Making, copy: &Copying, l: u32) -> Result<(), Wanting>
+    ensures drawn { IfOk result (λ _. making_seen making.new ≡ out_drawn (copy_seen copy.now) l (copy_seen copy.now).out (making_seen making.old)) }
+    ensures short { IsShort (copy_seen copy.now) → IfErr result IsMemory }
 {
     match copy.body.out {
         Some(aim) => making.draw(Drawn {

@@ -17,6 +17,10 @@ pub enum TooLarge {
     /// The automaton with copies would have more than [`MAX_EDGES`] edges.
     #[error("an automaton would have too many edges")]
     Edges,
+    /// A number of a copy, a location, variable, term, deed or edge, would have more than 32 bits; or a called block by itself more than
+    /// [`MAX_EDGES`] edges, which can be where blocks call each other in a circle alone.
+    #[error("a number of a copy has more than 32 bits")]
+    Numbers,
     /// The allocator has no memory left.
     #[error("out of memory")]
     NoMemory,

@@ -1,11 +1,13 @@
 //! What is made of copies: terms, deeds, loops, and edges that are drawn, with where they lead before ends have numbers.
-ghost use Rattle.std.specs.Prelude.{◌≡◌, ◌++◌, ◌∷◌, [], length, map, IfOk};
+ghost use Rattle.std.specs.Prelude.{◌≡◌, ◌++◌, ◌∷◌, [], length, map, ◌≤◌, IfOk, IfErr};
+ghost use Rattle.pv_call_tables.specs.Wanted.{IsMemory};
+ghost use Rattle.pv_inline.specs.Numbers.{MOST};
 ghost use Rattle.pv_call_terms.specs.Deeds.{deed_seen};
 ghost use Rattle.pv_inline.specs.Walking.{first_making, drawn_more, looped, deed_put};
 ghost use Rattle.pv_inline.specs.Seen.{making_seen};
 ghost use Rattle.pv_flow.specs.View.{loop_of};
 
-use pv_call_tables::{Drawn, number_of};
+use pv_call_tables::{Drawn, Wanting, number_of};
 use pv_flow::{Deed, Loop, Node, Set};
 use pv_word::Ty;
 use smallvec::SmallVec;
@@ -51,23 +53,26 @@ impl Making {
     }
 
     /// The number of the next deed.
-    pub fn next_deed(&self) -> Result<u32, AllocError>
-        ensures { IfOk result (λ n. n ≡ length (making_seen self.now).deeds) }
+    pub fn next_deed(&self) -> Result<u32, Wanting>
+        ensures number { IfOk result (λ n. n ≡ length (making_seen self.now).deeds) }
+        ensures short { length (making_seen self.now).deeds ≤ MOST → IfErr result IsMemory }
     {
         number_of(self.deeds.len())
     }
 
     /// Draws an edge.
-    pub fn draw(&mut self, drawn: Drawn) -> Result<(), AllocError>
-        ensures { IfOk result (λ _. making_seen self.new ≡ drawn_more drawn (making_seen self.old)) }
+    pub fn draw(&mut self, drawn: Drawn) -> Result<(), Wanting>
+        ensures drawn { IfOk result (λ _. making_seen self.new ≡ drawn_more drawn (making_seen self.old)) }
+        ensures memory { IfErr result IsMemory }
     {
         self.drawn.push(drawn)?;
         Ok(())
     }
 
     /// Adds a loop.
-    pub fn add_loop(&mut self, range: Loop) -> Result<(), AllocError>
-        ensures { IfOk result (λ _. making_seen self.new ≡ looped (loop_of range) (making_seen self.old)) }
+    pub fn add_loop(&mut self, range: Loop) -> Result<(), Wanting>
+        ensures added { IfOk result (λ _. making_seen self.new ≡ looped (loop_of range) (making_seen self.old)) }
+        ensures memory { IfErr result IsMemory }
     {
         self.loops.push(range)?;
         Ok(())

@@ -4,14 +4,15 @@ ghost use Rattle.pv_flow.specs.View.{call_edge_of};
 ghost use Rattle.pv_inline.specs.Blocks.{blocks_of, blocks_in, codes_in};
 ghost use Rattle.pv_inline.specs.Counts.{capped, size_after, calls_after};
 ghost use Rattle.pv_inline.specs.Tables.{copy_size};
-ghost use Rattle.pv_inline.specs.declared.fault.TheConstants.{BEYOND};
+ghost use Rattle.pv_call_copies.specs.Inlined.{inlined_size};
+ghost use Rattle.pv_call_tables.specs.Wanted.{IsMemory};
+ghost use Rattle.pv_inline.specs.declared.fault.TheConstants.{BEYOND, MAX_EDGES};
 ghost use Rattle.pv_inline.specs.Correct.{IsWithin, IsOver, IsSizeOf, IsTooLarge};
 
 use crate::blocks::Blocks;
 use crate::fault::{BEYOND, MAX_EDGES, TooLarge};
-use pv_call_tables::add;
+use pv_call_tables::{Wanting, add};
 use pv_flow::{Automaton, CallEdge};
-use std::alloc::AllocError;
 
 /// The number, as far as is counted.
 fn capped(n: u64) -> u64
@@ -63,20 +64,22 @@ fn calls_after(blocks: &Blocks<'_>, levels: usize, calls: &[CallEdge], total: u6
 }
 
 /// A number of edges that was counted to its end.
-fn counted(size: u64) -> Result<u32, AllocError>
+fn counted(size: u64) -> Result<u32, Wanting>
     ensures number { IfOk result (λ n. n ≡ size) }
     ensures few { OnOk result (size < BEYOND) }
+    ensures large { IfErr result (λ _. BEYOND ≤ size) }
 {
     if size >= BEYOND {
-        Err(AllocError)
+        Err(Wanting::Numbers)
     } else {
         Ok(size as u32)
     }
 }
 
-/// How many edges the copy of a called block has, that out included; more than there may be count as wanting memory.
-pub(crate) fn copy_size(blocks: &Blocks<'_>, block: u32) -> Result<u32, AllocError>
-    ensures { IfOk result (λ n. n ≡ copy_size (blocks_in (codes_in blocks.now)) block) }
+/// How many edges the copy of a called block has, that out included; more than there may be have no number.
+pub(crate) fn copy_size(blocks: &Blocks<'_>, block: u32) -> Result<u32, Wanting>
+    ensures number { IfOk result (λ n. n ≡ copy_size (blocks_in (codes_in blocks.now)) block) }
+    ensures short { inlined_size (blocks_in (codes_in blocks.now)) block ≤ MAX_EDGES → IfErr result IsMemory }
 {
     let size = counted(size_after(blocks, blocks.count(), block, 0))?;
     add(size, 1)

@@ -1,20 +1,24 @@
 //! What is known of a block that is copied: where its locations, edges and variables stand, counted from the copy's beginning.
-ghost use Rattle.std.specs.Prelude.{◌≡◌, ◌+◌, map, replicate, IfOk};
+ghost use Rattle.std.specs.Prelude.{◌≡◌, ◌+◌, ◌≤◌, length, map, replicate, IfOk, IfErr};
+ghost use Rattle.pv_call_tables.specs.Wanted.{IsMemory};
 ghost use Rattle.pv_call_tables.specs.Chains.{chains_of, from_of, first_of};
 ghost use Rattle.pv_call_tables.specs.Ranks.{counted, ranks_by};
 ghost use Rattle.pv_call_tables.specs.Seen.{chains_seen};
 ghost use Rattle.pv_call_tables.specs.Standings.{standings_of, calls_of};
-ghost use Rattle.pv_call_tables.specs.Widths.{drawn_at, sums_below};
+ghost use Rattle.pv_call_tables.specs.Widths.{drawn_at, summed, sums_below};
+ghost use Rattle.pv_flow.specs.Calls.{needed, needed_by_calls};
 ghost use Rattle.pv_flow.specs.View.{call_edge_of};
+ghost use Rattle.pv_inline.specs.Numbers.{MOST};
 ghost use Rattle.pv_inline.specs.Blocks.{blocks_in, codes_in};
 ghost use Rattle.pv_inline.specs.Tables.{copy_size, sizes_of, bases_of, table_in};
 ghost use Rattle.pv_inline.specs.Seen.{table_seen, AreWidths};
+ghost use Rattle.pv_inline.specs.Short.{AreSmall, HasShortTable};
 
 use crate::blocks::Blocks;
 use crate::called::{needed, spans};
 use crate::size::copy_size;
 use pv_call_tables::{
-    Called, Chains, Outline, Standing, add, calls_at, counts, drawn_before, edge_chains,
+    Called, Chains, Outline, Standing, Wanting, add, calls_at, counts, drawn_before, edge_chains,
     loop_chains, ranks, standings, starts,
 };
 use pv_flow::{CallEdge, Parts};
@@ -61,8 +65,9 @@ pub(crate) struct Table {
 }
 
 /// How many edges the copy of each call edge's block has, that out included.
-fn sizes_of(alloc: Global, blocks: &Blocks<'_>, calls: &[CallEdge]) -> Result<Vec<u32>, AllocError>
-    ensures { IfOk result (λ made. made.items ≡ sizes_of (blocks_in (codes_in blocks.now)) calls.now) }
+fn sizes_of(alloc: Global, blocks: &Blocks<'_>, calls: &[CallEdge]) -> Result<Vec<u32>, Wanting>
+    ensures made { IfOk result (λ made. made.items ≡ sizes_of (blocks_in (codes_in blocks.now)) calls.now) }
+    ensures short { AreSmall (codes_in blocks.now) calls.now → IfErr result IsMemory }
 {
     let mut made = Vec::with_capacity(alloc, calls.len())?;
     for call in calls {
@@ -72,8 +77,9 @@ fn sizes_of(alloc: Global, blocks: &Blocks<'_>, calls: &[CallEdge]) -> Result<Ve
 }
 
 /// From where on each call edge's variables lie, behind the block's own; and how many there are.
-fn bases_of(alloc: Global, blocks: &Blocks<'_>, calls: &[CallEdge]) -> Result<Vec<u32>, AllocError>
-    ensures { IfOk result (λ made. made.items ≡ bases_of (blocks_in (codes_in blocks.now)) 0 calls.now) }
+fn bases_of(alloc: Global, blocks: &Blocks<'_>, calls: &[CallEdge]) -> Result<Vec<u32>, Wanting>
+    ensures made { IfOk result (λ made. made.items ≡ bases_of (blocks_in (codes_in blocks.now)) 0 calls.now) }
+    ensures short { needed_by_calls (needed (blocks_in (codes_in blocks.now))) (map call_edge_of calls.now) ≤ MOST → IfErr result IsMemory }
 {
     let mut made = Vec::with_capacity(alloc, calls.len().saturating_add(1))?;
     let mut total = 0;
@@ -92,10 +98,14 @@ fn drawn_of(
     parts: &Parts,
     outline: &Outline,
     outs: u32,
-) -> Result<Vec<u32>, AllocError>
-    ensures { IfOk result (λ made. made.items ≡ sums_below (drawn_at outline.now.ends.now outline.now.calls.now
+) -> Result<Vec<u32>, Wanting>
+    ensures made { IfOk result (λ made. made.items ≡ sums_below (drawn_at outline.now.ends.now outline.now.calls.now
         (sizes_of (blocks_in (codes_in blocks.now)) parts.now.calls.items) (counted (replicate parts.now.locations 0) parts.now.edges.items) outs)
         parts.now.locations) }
+    ensures short { AreSmall (codes_in blocks.now) parts.now.calls.items → length parts.now.edges.items ≤ MOST
+        → summed (drawn_at outline.now.ends.now outline.now.calls.now
+        (sizes_of (blocks_in (codes_in blocks.now)) parts.now.calls.items) (counted (replicate parts.now.locations 0) parts.now.edges.items) outs)
+        parts.now.locations ≤ MOST → IfErr result IsMemory }
 {
     let run = parts.calls.as_slice();
     let all = parts.edges.as_slice();
@@ -139,8 +149,10 @@ fn widths_of(
     parts: &Parts,
     marks: &Marks,
     outs: u32,
-) -> Result<Widths, AllocError>
-    ensures { IfOk result (AreWidths (codes_in blocks.now) parts.now marks.now outs) }
+) -> Result<Widths, Wanting>
+    ensures made { IfOk result (AreWidths (codes_in blocks.now) parts.now marks.now outs) }
+    ensures short { HasShortTable (codes_in blocks.now) parts.now outs → marks.now.ends.items ≡ standings_of parts.now
+        → marks.now.calls.items ≡ calls_of parts.now → IfErr result IsMemory }
 {
     let run = parts.calls.as_slice();
     let outline = marks.outline();
@@ -156,10 +168,11 @@ fn widths_of(
     })
 }
 
-fn begins_of(alloc: Global, parts: &Parts) -> Result<Begins, AllocError>
+fn begins_of(alloc: Global, parts: &Parts) -> Result<Begins, Wanting>
     ensures ranks { IfOk result (λ begins. begins.ranks.items ≡ ranks_by (replicate parts.now.locations 0) parts.now.edges.items) }
     ensures edges { IfOk result (λ begins. chains_seen begins.edges ≡ chains_of parts.now.locations (map from_of parts.now.edges.items)) }
     ensures loops { IfOk result (λ begins. chains_seen begins.loops ≡ chains_of parts.now.locations (map first_of parts.now.loops.items)) }
+    ensures short { length parts.now.edges.items ≤ MOST → IfErr result IsMemory }
 {
     let all = parts.edges.as_slice();
     let ranks = ranks(alloc, all, parts.locations)?;
@@ -178,8 +191,9 @@ pub(crate) fn table_of(
     blocks: &Blocks<'_>,
     parts: &Parts,
     outs: u32,
-) -> Result<Table, AllocError>
-    ensures { IfOk result (λ table. table_seen table ≡ table_in (codes_in blocks.now) parts.now outs) }
+) -> Result<Table, Wanting>
+    ensures made { IfOk result (λ table. table_seen table ≡ table_in (codes_in blocks.now) parts.now outs) }
+    ensures short { HasShortTable (codes_in blocks.now) parts.now outs → IfErr result IsMemory }
 {
     let marks = marks_of(alloc, parts)?;
     let widths = widths_of(alloc, blocks, parts, &marks, outs)?;

@@ -1,7 +1,14 @@
 //! The walk down the text: each location of a block with what stands behind it.
-ghost use Rattle.std.specs.Prelude.{◌≡◌, MatchOption, IfOk, None, Some, length, slice_get};
+ghost use Rattle.std.specs.Prelude.{◌≡◌, ◌+◌, ◌≤◌, suc, MatchOption, IfOk, IfErr, None, Some, length, slice_get, slice_index_or};
+ghost use Rattle.pv_flow.specs.declared.parts.Parts.{Parts as CodeParts};
+ghost use Rattle.pv_flow.specs.Calls.{own_count};
+ghost use Rattle.pv_flow.specs.View.{parts_of};
+ghost use Rattle.pv_call_tables.specs.declared.marks.Standing.TheVariants as standing;
+ghost use Rattle.pv_call_tables.specs.Wanted.{IsMemory};
+ghost use Rattle.pv_inline.specs.Numbers.{MOST};
+ghost use Rattle.pv_inline.specs.Short.{AreShort, IsShort, HasNoMore, IsAtWork};
 ghost use Rattle.pv_inline.specs.Blocks.{codes_in};
-ghost use Rattle.pv_inline.specs.Walking.{below, with_deeds, called_made, call_made, location_made, locations_made, copy_made};
+ghost use Rattle.pv_inline.specs.Walking.{all_made, below, number, with_deeds, called_made, call_made, location_made, locations_made, copy_made};
 ghost use Rattle.pv_inline.specs.Seen.{copy_seen, making_seen, IsCalleeBody};
 
 use crate::blocks::Blocks;
@@ -11,10 +18,10 @@ use crate::copying::{
 };
 use crate::making::Making;
 use crate::table::table_of;
-use pv_call_tables::{Standing, add, call_at, number_at, standing_at};
+use pv_call_tables::{Standing, Wanting, add, call_at, number_at, standing_at};
 use pv_call_terms::Places;
 use pv_flow::{CallEdge, Parts};
-use std::alloc::{AllocError, Global};
+use std::alloc::Global;
 
 /// The copy of what a call edge from location l runs.
 fn callee_body(
@@ -23,8 +30,11 @@ fn callee_body(
     call: &CallEdge,
     callee: &Parts,
     own_at: u32,
-) -> Result<Body, AllocError>
-    ensures { IfOk result (IsCalleeBody (copy_seen copy.now) l call.now callee.now own_at) }
+) -> Result<Body, Wanting>
+    ensures body { IfOk result (IsCalleeBody (copy_seen copy.now) l call.now callee.now own_at) }
+    ensures short { IsShort (copy_seen copy.now) → number (copy_seen copy.now) l + 1 ≤ MOST
+        → ((copy_seen copy.now).edges + slice_index_or (copy_seen copy.now).table.drawn l 0) + 1 ≤ MOST
+        → own_at + own_count (parts_of callee.now) ≤ MOST → IfErr result IsMemory }
 {
     let here = number(copy, l)?;
     let drawn = number_at(copy.table.widths.drawn.as_slice(), l as usize);
@@ -55,9 +65,12 @@ fn add_called(
     levels: usize,
     copy: &Copying,
     from: u32,
-) -> Result<(), AllocError>
-    ensures { IfOk result (λ _. making_seen making.new
+) -> Result<(), Wanting>
+    ensures made { IfOk result (λ _. making_seen making.new
         ≡ called_made (below (codes_in blocks.now) levels) (copy_seen copy.now) from (making_seen making.old)) }
+    ensures short { (p : CodeParts) → AreShort (codes_in blocks.now) p → IsAtWork (codes_in blocks.now) p levels (copy_seen copy.now)
+        → HasNoMore (called_made (below (codes_in blocks.now) levels) (copy_seen copy.now) from (making_seen making.old))
+        (all_made (codes_in blocks.now) p) → IfErr result IsMemory }
 {
     draw_in(alloc, making, copy, from)?;
     if levels == 0 {
@@ -84,9 +97,15 @@ fn add_call(
     copy: &Copying,
     l: u32,
     j: usize,
-) -> Result<(), AllocError>
-    ensures { IfOk result (λ _. making_seen making.new
+) -> Result<(), Wanting>
+    ensures made { IfOk result (λ _. making_seen making.new
         ≡ call_made (codes_in blocks.now) (below (codes_in blocks.now) levels) (copy_seen copy.now) l j (slice_get copy.now.parts.now.calls.items j) (making_seen making.old)) }
+    ensures short { slice_index_or (copy_seen copy.now).table.ends l standing.Nothing ≡ standing.Nothing
+        → slice_index_or (copy_seen copy.now).table.calls l None ≡ Some j
+        → (p : CodeParts) → AreShort (codes_in blocks.now) p → IsAtWork (codes_in blocks.now) p (suc levels) (copy_seen copy.now)
+        → HasNoMore (call_made (codes_in blocks.now) (below (codes_in blocks.now) levels) (copy_seen copy.now) l j
+        (slice_get copy.now.parts.now.calls.items j) (making_seen making.old))
+        (all_made (codes_in blocks.now) p) → IfErr result IsMemory }
 {
     let Some(call) = call_of(copy, j) else {
         return Ok(());
@@ -120,9 +139,12 @@ fn add_location(
     levels: usize,
     copy: &Copying,
     l: u32,
-) -> Result<(), AllocError>
-    ensures { IfOk result (λ _. making_seen making.new
+) -> Result<(), Wanting>
+    ensures made { IfOk result (λ _. making_seen making.new
         ≡ location_made (codes_in blocks.now) (below (codes_in blocks.now) levels) (copy_seen copy.now) l (making_seen making.old)) }
+    ensures short { (p : CodeParts) → AreShort (codes_in blocks.now) p → IsAtWork (codes_in blocks.now) p (suc levels) (copy_seen copy.now)
+        → HasNoMore (location_made (codes_in blocks.now) (below (codes_in blocks.now) levels) (copy_seen copy.now) l (making_seen making.old))
+        (all_made (codes_in blocks.now) p) → IfErr result IsMemory }
 {
     add_loops(alloc, making, copy, l)?;
     match standing_at(copy.table.marks.ends.as_slice(), l as usize) {
@@ -144,9 +166,13 @@ fn add_locations(
     blocks: &Blocks<'_>,
     levels: usize,
     copy: &Copying,
-) -> Result<(), AllocError>
-    ensures { IfOk result (λ _. making_seen making.new
+) -> Result<(), Wanting>
+    ensures made { IfOk result (λ _. making_seen making.new
         ≡ locations_made (codes_in blocks.now) (below (codes_in blocks.now) levels) (copy_seen copy.now) copy.now.parts.now.locations (making_seen making.old)) }
+    ensures short { (p : CodeParts) → AreShort (codes_in blocks.now) p → IsAtWork (codes_in blocks.now) p (suc levels) (copy_seen copy.now)
+        → HasNoMore (locations_made (codes_in blocks.now) (below (codes_in blocks.now) levels) (copy_seen copy.now)
+        copy.now.parts.now.locations (making_seen making.old))
+        (all_made (codes_in blocks.now) p) → IfErr result IsMemory }
 {
     for l in 0..copy.parts.locations {
         add_location(alloc, making, blocks, levels, copy, l)?;
@@ -162,9 +188,12 @@ pub(crate) fn add_copy(
     blocks: &Blocks<'_>,
     levels: usize,
     copy: &Copying,
-) -> Result<(), AllocError>
-    ensures { IfOk result (λ _. making_seen making.new
+) -> Result<(), Wanting>
+    ensures made { IfOk result (λ _. making_seen making.new
         ≡ copy_made (codes_in blocks.now) (below (codes_in blocks.now) levels) (copy_seen copy.now) (making_seen making.old)) }
+    ensures short { (p : CodeParts) → AreShort (codes_in blocks.now) p → IsAtWork (codes_in blocks.now) p (suc levels) (copy_seen copy.now)
+        → HasNoMore (copy_made (codes_in blocks.now) (below (codes_in blocks.now) levels) (copy_seen copy.now) (making_seen making.old))
+        (all_made (codes_in blocks.now) p) → IfErr result IsMemory }
 {
     let deeds = making.next_deed()?;
     copy_tables(alloc, making, copy)?;

@@ -95,6 +95,7 @@ pub fn tell_fault(fault: TooLarge, told: &mut Told) {
             told.text("too many edges: ");
             told.number(size as i128);
         }
+        TooLarge::Copies => told.text("too many copies"),
         TooLarge::NoMemory => told.lose(),
     }
 }
@@ -102,6 +103,7 @@ pub fn tell_fault(fault: TooLarge, told: &mut Told) {
 pub fn tell_large(fault: pv_inline::TooLarge, told: &mut Told) {
     match fault {
         pv_inline::TooLarge::Edges => told.text("too many edges"),
+        pv_inline::TooLarge::Numbers => told.text("numbers too large"),
         pv_inline::TooLarge::NoMemory => told.lose(),
     }
 }

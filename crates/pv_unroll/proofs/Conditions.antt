@@ -1,10 +1,14 @@
 -- What is unrolled meets the conditions, and what is answered by its sizes.
-use Rattle.std.proofs.Common.{◌≡◌, ℕ, ◌<◌, ◌≤◌, min, Option, None, Result, Ok, Err, IfOk, IfErr, sym, subst, ◌∙◌, arith}
+use Rattle.std.proofs.Common.{◌≡◌, ℕ, ◌<◌, ◌≤◌, min, Option, None, Result, Ok, Err, IfOk, IfErr, refl, sym, subst, ◌∙◌, arith}
+use Rattle.std.proofs.lemmas.Bool.{both_ways}
 use Rattle.pv_machine.specs.Same.{IsSame}
 use Rattle.pv_flow.specs.declared.parts.Parts.{Parts as CodeParts}
 use Rattle.pv_flow.specs.declared.inlined_machine.Inlined.{Inlined}
 use Rattle.pv_flow.specs.declared.acyclic_machine.Acyclic.{Acyclic}
+use Rattle.pv_flow.specs.declared.fault.FlowFault.{FlowFault}
+use Rattle.pv_flow.specs.declared.fault.FlowFault.TheVariants as flow
 use Rattle.pv_flow.specs.Automata.{Parts}
+use Rattle.pv_flow.specs.Faults.{has_locations, has_variables, has_loops, IsFaultless, IsFaultOf}
 use Rattle.pv_flow.specs.Machines.{Attached, inlined_machine, acyclic_machine}
 use Rattle.pv_flow.specs.MachineView.{inlined_parts, inlined_code, bound_of, acyclic_parts, acyclic_code, attached_in}
 use Rattle.pv_flow.specs.View.{parts_of}
@@ -14,11 +18,11 @@ use Rattle.pv_copies.proofs.ForCallers.{same_machine}
 use Rattle.pv_unroll.specs.declared.numbers.TheConstants.{MOST}
 use Rattle.pv_unroll.specs.declared.fault.TheConstants.{MAX_EDGES, MAX_COPIES}
 use Rattle.pv_unroll.specs.declared.fault.TooLarge.{TooLarge}
-use Rattle.pv_unroll.specs.declared.fault.TooLarge.TheVariants.{Edges, NoMemory}
+use Rattle.pv_unroll.specs.declared.fault.TooLarge.TheVariants.{Edges, Copies, NoMemory}
 use Rattle.pv_unroll.specs.Counts.{capped}
 use Rattle.pv_unroll.specs.Laying.{Laid}
-use Rattle.pv_unroll.specs.Tables.{edge_sizing, laid_in, IsReplaced}
-use Rattle.pv_unroll.specs.Correct.{CanUnroll, IsSmall, IsFew, IsWithin, IsOver, IsSizeOf, IsTooLarge, IsForward, KeepsTables}
+use Rattle.pv_unroll.specs.Tables.{edge_sizing, copy_sizing, laid_in, IsReplaced}
+use Rattle.pv_unroll.specs.Correct.{CanUnroll, IsSmall, IsFew, IsWithin, IsOver, AreOver, AreBeyond, IsSizeOf, IsTooLarge, HasTooManyEdges, IsForward, IsMemory, KeepsTables}
 use Rattle.pv_unroll.proofs.Weights.{edges_are_sized, copies_are_sized}
 use Rattle.pv_unroll.proofs.Replacing.{most_is, edges_most, copies_most, replaced_are_unrolled, replaced_are_forward}
 use Rattle.pv_unroll.proofs.Walks.{copies_are_laid}
@@ -47,15 +51,16 @@ size_is p n counted size e is =
 over_by : (most bound whole : ℕ) → bound < min whole most → bound < whole
 over_by most bound whole lt = omega (arith, lt)
 
-pub over_is : (p : Parts) (n counted : ℕ) (fault : TooLarge) → counted ≡ capped (unrolled_size p n) → IsOver counted fault → IsTooLarge p n fault
+pub over_is : (p : Parts) (n counted : ℕ) (fault : TooLarge) → counted ≡ capped (unrolled_size p n) → IsOver counted fault → HasTooManyEdges p n fault
 over_is p n counted (Edges size) e is = (is.0 ∙ e, over_by MOST MAX_EDGES (unrolled_size p n) (subst (λ (m : ℕ). MAX_EDGES < m) e is.1))
+over_is p n counted Copies e is = is
 over_is p n counted NoMemory e is = tt
 
 pub sizes_are_told : (p : Parts) (n counted : ℕ) (r : Result ℕ TooLarge) → counted ≡ capped (unrolled_size p n) → IfOk r (IsWithin counted) → IfOk r (IsSizeOf p n)
 sizes_are_told p n counted (Ok size) e is = size_is p n counted size e is
 sizes_are_told p n counted (Err fault) e is = tt
 
-pub faults_are_told : (p : Parts) (n counted : ℕ) (r : Result ℕ TooLarge) → counted ≡ capped (unrolled_size p n) → IfErr r (IsOver counted) → IfErr r (IsTooLarge p n)
+pub faults_are_told : (p : Parts) (n counted : ℕ) (r : Result ℕ TooLarge) → counted ≡ capped (unrolled_size p n) → IfErr r (IsOver counted) → IfErr r (HasTooManyEdges p n)
 faults_are_told p n counted (Ok size) e is = tt
 faults_are_told p n counted (Err fault) e is = over_is p n counted fault e is
 
@@ -86,9 +91,15 @@ pub fits_of : (p : CodeParts) (n : ℕ) → p.locations ≤ 4294967295 → IsFew
 fits_of p n narrow few can = uncapped (unrolled_size (parts_of p) n) MAX_EDGES MOST (omega (arith, most_is, edges_most))
     (subst (λ (m : ℕ). m ≤ MAX_EDGES) (edges_are_sized p n can narrow) few.edges)
 
-pub large_of : (p : CodeParts) (n : ℕ) (fault : TooLarge) → p.locations ≤ 4294967295 → IsOver (edge_sizing p n).here fault → CanUnroll p n
-    → IsTooLarge (parts_of p) n fault
-large_of p n fault narrow over can = over_is (parts_of p) n (edge_sizing p n).here fault (edges_are_sized p n can narrow) over
+pub large_of : (p : CodeParts) (n : ℕ) (fault : TooLarge) → p.locations ≤ 4294967295
+    → AreBeyond (edge_sizing p n).here (copy_sizing p n).here fault → CanUnroll p n → IsTooLarge (parts_of p) n fault
+large_of p n (Edges size) narrow is can = over_is (parts_of p) n (edge_sizing p n).here (Edges size) (edges_are_sized p n can narrow) is
+large_of p n Copies narrow is can = (
+  uncapped (unrolled_size (parts_of p) n) MAX_EDGES MOST (omega (arith, most_is, edges_most))
+      (subst (λ (m : ℕ). m ≤ MAX_EDGES) (edges_are_sized p n can narrow) is.0),
+  over_by MOST MAX_COPIES (text_size (parts_of p) n) (subst (λ (m : ℕ). MAX_COPIES < m) (copies_are_sized p n can narrow) is.1),
+)
+large_of p n NoMemory narrow is can = tt
 
 pub tables_of : (p : CodeParts) (laid : Laid) (q : CodeParts) → IsReplaced p laid q → KeepsTables p q
 tables_of p laid q is = record { nodes = is.nodes; deeds = is.deeds }
@@ -98,9 +109,12 @@ pub tables_kept : (p q : CodeParts) (r : Result Acyclic TooLarge) → KeepsTable
 tables_kept p q (Ok a) keeps e = subst (λ (code : CodeParts). KeepsTables p code) (sym e) keeps
 tables_kept p q (Err fault) keeps e = tt
 
--- memory alone may be wanting
-pub memory_is : (p : Parts) (n : ℕ) (fault : TooLarge) → fault ≡ NoMemory → IsTooLarge p n fault
-memory_is p n fault e = subst (λ (f : TooLarge). IsTooLarge p n f) (sym e) tt
+-- parts without a fault have none but want of memory
+pub memory_alone : (p : Parts) (fault : FlowFault) → IsFaultless p → IsFaultOf p fault → IsMemory fault
+memory_alone p flow.BadLocation sound is = absurd (both_ways (has_locations p) is sound.locations)
+memory_alone p flow.BadVariable sound is = absurd (both_ways (has_variables p) is.1 sound.variables)
+memory_alone p flow.BadLoop sound is = absurd (both_ways (has_loops p) is.2 sound.loops)
+memory_alone p flow.NoMemory sound is = refl
 
 -- ---- the machine
 

@@ -2,6 +2,8 @@
 use Rattle.std.specs.Prelude.{◌≡◌, ℕ, ◌<◌, ◌≤◌, length, map, nat_lt, true}
 use Rattle.std.specs.List.{list_all}
 use Rattle.pv_flow.specs.declared.parts.Parts.{Parts as CodeParts}
+use Rattle.pv_flow.specs.declared.fault.FlowFault.{FlowFault}
+use Rattle.pv_flow.specs.declared.fault.FlowFault.TheVariants as flow
 use Rattle.pv_flow.specs.Faults.{IsFaultless}
 use Rattle.pv_flow.specs.WellMade.{IsWellMade}
 use Rattle.pv_flow.specs.Machines.{IsInlined, IsAcyclic}
@@ -10,7 +12,7 @@ use Rattle.pv_flow.specs.Tables.{AreTabled}
 use Rattle.pv_copies.specs.Unrolled.{copied, whole_text, text_size, edges_of, traps_of, overs_of, unrolled, unrolled_size}
 use Rattle.pv_unroll.specs.declared.fault.TheConstants.{MAX_EDGES, MAX_COPIES}
 use Rattle.pv_unroll.specs.declared.fault.TooLarge.{TooLarge}
-use Rattle.pv_unroll.specs.declared.fault.TooLarge.TheVariants.{Edges, NoMemory}
+use Rattle.pv_unroll.specs.declared.fault.TooLarge.TheVariants.{Edges, Copies, NoMemory}
 use Rattle.pv_flow.specs.Automata.{Parts}
 use Rattle.pv_unroll.specs.Counts.{capped}
 use Rattle.pv_unroll.specs.Laying.{Laid}
@@ -40,10 +42,17 @@ pub record IsFew (p : CodeParts) (n : ℕ) : Type 0 where
   pub edges : (edge_sizing p n).here ≤ MAX_EDGES
   pub copies : (copy_sizing p n).here ≤ MAX_COPIES
 
--- of a number of edges that are too many it is told how many they are, as far as is counted
+-- of a number of edges that are too many it is told how many they are, as far as is counted; copies may be too many where edges aren't
 abbrev pub IsTooLarge : Parts → ℕ → TooLarge → Type 0
 IsTooLarge p n (Edges size) = (size ≡ capped (unrolled_size p n)) × (MAX_EDGES < unrolled_size p n)
+IsTooLarge p n Copies = (unrolled_size p n ≤ MAX_EDGES) × (MAX_COPIES < text_size p n)
 IsTooLarge p n NoMemory = Unit {0}
+
+-- only edges are counted
+abbrev pub HasTooManyEdges : Parts → ℕ → TooLarge → Type 0
+HasTooManyEdges p n (Edges size) = (size ≡ capped (unrolled_size p n)) × (MAX_EDGES < unrolled_size p n)
+HasTooManyEdges p n Copies = ⊥
+HasTooManyEdges p n NoMemory = Unit {0}
 
 -- the size, which is within the limit
 abbrev pub IsSizeOf : Parts → ℕ → ℕ → Type 0
@@ -56,7 +65,20 @@ IsWithin counted size = (size ≡ counted) × (size ≤ MAX_EDGES)
 
 abbrev pub IsOver : ℕ → TooLarge → Type 0
 IsOver counted (Edges size) = (size ≡ counted) × (MAX_EDGES < counted)
+IsOver counted Copies = ⊥
 IsOver counted NoMemory = Unit {0}
+
+-- so many copies
+abbrev pub AreOver : ℕ → TooLarge → Type 0
+AreOver copies (Edges size) = ⊥
+AreOver copies Copies = MAX_COPIES < copies
+AreOver copies NoMemory = Unit {0}
+
+-- the one, or else the other
+abbrev pub AreBeyond : ℕ → ℕ → TooLarge → Type 0
+AreBeyond edges copies (Edges size) = (size ≡ edges) × (MAX_EDGES < edges)
+AreBeyond edges copies Copies = (edges ≤ MAX_EDGES) × (MAX_COPIES < copies)
+AreBeyond edges copies NoMemory = Unit {0}
 
 -- ---- the tables are right
 
@@ -96,3 +118,7 @@ pub record IsForward (q : CodeParts) : Type 0 where
 
 abbrev pub ReplacedAreForward : Type 0
 ReplacedAreForward = (p : CodeParts) (n : ℕ) (q : CodeParts) → CanUnroll p n → IsSmall p n → IsReplaced p (laid_in p n) q → IsForward q
+
+-- a fault of parts that is no fault of theirs
+abbrev pub IsMemory : FlowFault → Type 0
+IsMemory fault = fault ≡ flow.NoMemory

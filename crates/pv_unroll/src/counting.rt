@@ -5,7 +5,7 @@ ghost use Rattle.pv_flow.specs.View.{parts_of};
 ghost use Rattle.pv_copies.specs.Unrolled.{unrolled_size};
 ghost use Rattle.pv_unroll.specs.Counts.{capped};
 ghost use Rattle.pv_unroll.specs.Tables.{edge_sizing};
-ghost use Rattle.pv_unroll.specs.Correct.{CanUnroll, IsWithin, IsOver, IsSizeOf, IsTooLarge};
+ghost use Rattle.pv_unroll.specs.Correct.{CanUnroll, IsWithin, IsOver, IsSizeOf, HasTooManyEdges};
 
 use crate::chains::counts;
 use crate::fault::{MAX_EDGES, TooLarge};
@@ -57,7 +57,7 @@ fn counted_size(alloc: Global, parts: &Parts, bound: u32) -> Result<u64, AllocEr
 fn size_of(alloc: Global, parts: &Parts, bound: u32) -> Result<u64, TooLarge>
     requires { CanUnroll parts.now bound }
     ensures size { IfOk result (IsSizeOf (parts_of parts.now) bound) }
-    ensures large { IfErr result (IsTooLarge (parts_of parts.now) bound) }
+    ensures large { IfErr result (HasTooManyEdges (parts_of parts.now) bound) }
 {
     let size = counted_size(alloc, parts, bound)?;
     within_limit(size)
@@ -66,7 +66,7 @@ fn size_of(alloc: Global, parts: &Parts, bound: u32) -> Result<u64, TooLarge>
 /// How many edges an automaton has once its loops are unrolled, each turn a copy, for as many turns of each as its bound says.
 pub fn unrolled_size(alloc: Global, from: &Inlined) -> Result<u64, TooLarge>
     ensures size { IfOk result (IsSizeOf (inlined_parts from.now) (bound_of from.now)) }
-    ensures large { IfErr result (IsTooLarge (inlined_parts from.now) (bound_of from.now)) }
+    ensures large { IfErr result (HasTooManyEdges (inlined_parts from.now) (bound_of from.now)) }
 {
     size_of(alloc, from.automaton().parts(), from.bound())
 }

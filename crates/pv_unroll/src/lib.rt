@@ -19,5 +19,5 @@ mod unrolling;
 mod walk;
 
 pub use counting::unrolled_size;
-pub use fault::{MAX_EDGES, TooLarge};
+pub use fault::{MAX_COPIES, MAX_EDGES, TooLarge};
 pub use unrolling::{copy_loops, unroll};

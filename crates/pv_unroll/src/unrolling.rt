@@ -11,7 +11,7 @@ ghost use Rattle.pv_unroll.specs.Counts.{capped};
 ghost use Rattle.pv_unroll.specs.Endings.{endings_of};
 ghost use Rattle.pv_unroll.specs.Tables.{edge_sizing, copy_sizing, laid_in, IsReplaced};
 ghost use Rattle.pv_unroll.specs.Known.{IsKnown};
-ghost use Rattle.pv_unroll.specs.Correct.{CanUnroll, IsOver, IsFew, IsTooLarge, IsForward, KeepsTables};
+ghost use Rattle.pv_unroll.specs.Correct.{CanUnroll, AreOver, AreBeyond, IsFew, IsTooLarge, IsForward, IsMemory, KeepsTables};
 ghost use Rattle.pv_unroll.specs.Seen.{sizing_seen, laid_seen};
 
 use crate::chains::{Chains, chains_of};
@@ -24,7 +24,7 @@ use crate::numbers::{narrow, plus, times};
 use crate::sizing::{Sizing, Taking, sized};
 use crate::turning::turns_of;
 use crate::walk::walk_text;
-use pv_flow::{Acyclic, Inlined, Parts, acyclic, build};
+use pv_flow::{Acyclic, FlowFault, Inlined, Parts, acyclic, build};
 use std::alloc::{AllocError, Global};
 
 /// The tables of locations, loops and edges.
@@ -115,10 +115,10 @@ fn lay(alloc: Global, parts: &Parts, known: &Known, bound: u32) -> Result<Laid, 
 /// Whether the copies are so few that their numbers fit.
 fn fits(copies: u64) -> Result<(), TooLarge>
     ensures few { OnOk result (copies ≤ MAX_COPIES) }
-    ensures fault { IfErr result (λ fault. fault ≡ NoMemory) }
+    ensures large { IfErr result (AreOver copies) }
 {
     if copies > MAX_COPIES {
-        Err(TooLarge::NoMemory)
+        Err(TooLarge::Copies)
     } else {
         Ok(())
     }
@@ -128,7 +128,7 @@ fn fits(copies: u64) -> Result<(), TooLarge>
 fn laid_text(alloc: Global, parts: &Parts, bound: u32) -> Result<Laid, TooLarge>
     ensures laid { IfOk result (λ laid. laid_seen laid ≡ laid_in parts.now bound) }
     ensures few { OnOk result ((copy_sizing parts.now bound).here ≤ MAX_COPIES) }
-    ensures fault { IfErr result (λ fault. fault ≡ NoMemory) }
+    ensures large { IfErr result (AreOver (copy_sizing parts.now bound).here) }
 {
     let known = tables_of(alloc, parts, bound)?;
     fits(known.sizing.here)?;
@@ -140,7 +140,7 @@ fn laid_text(alloc: Global, parts: &Parts, bound: u32) -> Result<Laid, TooLarge>
 fn laid_within(alloc: Global, parts: &Parts, bound: u32) -> Result<Laid, TooLarge>
     ensures laid { IfOk result (λ laid. laid_seen laid ≡ laid_in parts.now bound) }
     ensures few { OnOk result (IsFew parts.now bound) }
-    ensures large { IfErr result (IsOver (edge_sizing parts.now bound).here) }
+    ensures large { IfErr result (AreBeyond (edge_sizing parts.now bound).here (copy_sizing parts.now bound).here) }
 {
     let size = edge_count(alloc, parts, bound)?;
     let _ = within_limit(size)?;
@@ -201,6 +201,17 @@ pub fn copy_loops(alloc: Global, parts: Parts, bound: u32) -> Result<Parts, TooL
     }
 }
 
+/// What is answered of a fault that is want of memory.
+fn wanting(fault: FlowFault) -> TooLarge
+    requires { IsMemory fault }
+    ensures { result ≡ NoMemory }
+{
+    match fault {
+        FlowFault::NoMemory => TooLarge::NoMemory,
+        _ => unreachable!(),
+    }
+}
+
 /// The automaton of parts that may be one. They have no fault, so that memory alone may be wanting.
 fn made(alloc: Global, parts: Parts) -> Result<Acyclic, TooLarge>
     requires { IsForward parts }
@@ -211,7 +222,7 @@ fn made(alloc: Global, parts: Parts) -> Result<Acyclic, TooLarge>
 {
     match build(alloc, parts) {
         Ok(automaton) => Ok(acyclic(automaton, None)),
-        Err(_) => Err(TooLarge::NoMemory),
+        Err(fault) => Err(wanting(fault)),
     }
 }
 

@@ -2,6 +2,7 @@ use Rattle.std.proofs.Common.{◌≤◌, subst}
 use Rattle.pv_flow.specs.Calls.{Blocks}
 use Rattle.pv_call_copies.specs.Inlined.{inlined_size}
 use Rattle.pv_inline.specs.declared.fault.TheConstants.{MAX_EDGES}
+use Rattle.pv_inline.specs.Blocks.{codes_of}
 use Rattle.pv_inline.specs.Inlining.{IsTooMany}
 use Rattle.pv_inline.proofs.Coded.{can_copy, same_blocks}
 use Rattle.pv_inline.proofs.Whole.{on_ok, inlined_as, machine_told}
@@ -27,4 +28,4 @@ returns-in-Ok-clause-fits c =
 
 pub returns-in-Err-clause-large : goal.returns-in-Err-clause-large
 returns-in-Err-clause-large c =
-    subst (λ (bs : Blocks). IsTooMany bs c.args.entry c.in-Err.fault) (same_blocks c.args.blocks.now) c.in-Err.ensures.large
+    subst (λ (bs : Blocks). IsTooMany bs (codes_of c.args.blocks.now) c.args.entry c.in-Err.fault) (same_blocks c.args.blocks.now) c.in-Err.ensures.large
