@@ -7,3 +7,4 @@ pub mod Filling
 pub mod Answered
 pub mod Copies
 pub mod Complete
+pub mod Widening

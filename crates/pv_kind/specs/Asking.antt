@@ -1,5 +1,5 @@
 -- What the parts of a decision say of one another: private contracts cite this.
-use Rattle.std.specs.Prelude.{◌≡◌, ℕ, ◌+◌, ◌*◌, ◌≤◌, List, [], ◌∷◌, ◌++◌, Option, Some, None}
+use Rattle.std.specs.Prelude.{◌≡◌, ℕ, ◌+◌, ◌*◌, ◌≤◌, Bool, true, false, List, [], ◌∷◌, ◌++◌, Option, Some, None}
 use Rattle.pv_machine.specs.Machines.{Machine}
 use Rattle.pv_log.specs.declared.line.Line.{Line}
 use Rattle.pv_log.specs.Follows.{Follows, IsAccepted}
@@ -11,6 +11,8 @@ use Rattle.pv_claims.specs.declared.trace.Trace.{Trace}
 use Rattle.pv_cert.specs.declared.proof.Proof.{Proof}
 use Rattle.pv_kind.specs.declared.decision.Limits.{Limits}
 use Rattle.pv_kind.specs.declared.decision.End.{End}
+use Rattle.pv_kind.specs.declared.ask.Outcome.{Outcome}
+use Rattle.pv_kind.specs.declared.ask.Outcome.TheVariants.{PutBack, TooFew, Replied}
 use Rattle.pv_kind.specs.declared.ask.Reply.{Reply}
 use Rattle.pv_kind.specs.declared.ask.Reply.TheVariants.{Met, Refuted, SpentLemmas, SpentRegion}
 use Rattle.pv_kind.specs.Refinements.{Stage, Round, IsRound, put_back}
@@ -61,10 +63,18 @@ abbrev pub TellsOf : Encoding → Query → Stage → Stage → Option Trace →
 TellsOf e q s t None = IsRefinedOnce e q s t
 TellsOf e q s t (Some trace) = (t ≡ s) × e.shows q trace
 
--- what came of asking a query once: cells were put back, or there is a reply
-abbrev pub GoesOn : Machine → Encoding → Limits → Query → Stage → Stage → List Proof → List Proof → Option Reply → Type 0
-GoesOn m e limits q s t old new None = IsRefinedOnce e q s t × (new ≡ old)
-GoesOn m e limits q s t old new (Some reply) = (t ≡ s) × Replies m e s limits q old new reply
+-- no words are told to be spent where there may be more
+abbrev pub IsLast : Bool → Reply → Type 0
+IsLast may_grow (Met trace) = Unit {0}
+IsLast may_grow Refuted = Unit {0}
+IsLast may_grow SpentLemmas = Unit {0}
+IsLast may_grow (SpentRegion need next) = may_grow ≡ false
+
+-- what came of asking a query once in a region that may grow or not: cells were put back, there were too few words, or there is a reply
+abbrev pub GoesOn : Machine → Encoding → Limits → Bool → Query → Stage → Stage → List Proof → List Proof → Outcome → Type 0
+GoesOn m e limits may_grow q s t old new PutBack = IsRefinedOnce e q s t × (new ≡ old)
+GoesOn m e limits may_grow q s t old new TooFew = (t ≡ s) × (new ≡ old) × (may_grow ≡ true)
+GoesOn m e limits may_grow q s t old new (Replied reply) = (t ≡ s) × Replies m e s limits q old new reply × IsLast may_grow reply
 
 -- ---- the turns of a decision
 

@@ -1,4 +1,8 @@
 //! One query, asked until it is refuted, met by a trace of the machine, or a limit is spent.
+//!
+//! A solver takes and clears all words of its region as it is made, and most queries need few of them. So a query is asked in a small
+//! region first, and in one many times as large where that is spent, up to the words that there may be. What a solver finds hangs on its
+//! clauses alone, as long as its words suffice.
 ghost use Rattle.std.specs.Prelude.{◌≡◌, ℕ, ◌+◌, ◌*◌, ◌^◌, ◌<◌, ◌≤◌, true, List, [], ◌∷◌, ◌++◌, IfOk, OnOk, OnErr};
 ghost use Rattle.pv_cnf.specs.Clause.{Holds};
 ghost use Rattle.pv_solver.specs.Answers.{lines_of, values_of, assigned_of, truth_of};
@@ -18,6 +22,12 @@ use pv_log::{Checker, Line, Log, Verdict};
 use pv_solver::{Answer, MakeFault, Solver};
 use std::alloc::{AllocError, Global};
 
+/// The words of the region in which a query is asked first.
+const FIRST: u64 = 65_536;
+
+/// How many times as many words the next region has.
+const TIMES: u64 = 16;
+
 /// What comes of a query.
 #[derive(Drop)]
 pub(crate) enum Reply {
@@ -30,6 +40,17 @@ pub(crate) enum Reply {
     /// So many words would be needed, more than there are, by the variables and clauses alone or by this lemma; the log so far is the
     /// last proof's.
     SpentRegion(u64, Option<Line>),
+}
+
+/// What comes of a query that is asked once.
+#[derive(Drop)]
+enum Outcome {
+    /// Cells were put back, so the query is another one.
+    PutBack,
+    /// The region had too few words, and may have more.
+    TooFew,
+    /// A reply.
+    Replied(Reply),
 }
 
 /// Pushes the query's clauses. Where there is no room for one, the answer is the words that would be needed.
@@ -62,22 +83,26 @@ fn fill<O: Oracle>(
     }
 }
 
-/// A proof with an empty log, where the variables and clauses alone take more words than there are.
+/// A proof with an empty log, where the variables and clauses alone take more words than there are, and no more may be.
 fn full<O: Oracle>(
     alloc: Global,
     oracle: &O,
     q: Query,
     limits: Limits,
+    may_grow: bool,
     need: u64,
     proofs: &mut Proofs,
-) -> Result<Reply, AllocError>
+) -> Result<Outcome, AllocError>
     requires { IsFull (problem_of limits ((O.encoding (O.fixed oracle.now)).variables (O.stage oracle.now).chain q)
         ((O.encoding (O.fixed oracle.now)).clauses (O.stage oracle.now).chain q)) [] need }
-    ensures replies { IfOk result (Replies (O.Source.machine (O.source (O.fixed oracle.now))) (O.encoding (O.fixed oracle.now))
-        (O.stage oracle.now) limits q proofs.old proofs.new) }
+    ensures goes_on { IfOk result (GoesOn (O.Source.machine (O.source (O.fixed oracle.now))) (O.encoding (O.fixed oracle.now)) limits may_grow q
+        (O.stage oracle.now) (O.stage oracle.now) proofs.old proofs.new) }
 {
+    if may_grow {
+        return Ok(Outcome::TooFew);
+    }
     add_proof(alloc, oracle, q, &Log::new(alloc), proofs)?;
-    Ok(Reply::SpentRegion(need, None))
+    Ok(Outcome::Replied(Reply::SpentRegion(need, None)))
 }
 
 /// What the oracle tells of the solver's values: a trace, or none where cells were put back.
@@ -127,16 +152,17 @@ fn decided<O: Oracle>(
     oracle: &mut O,
     q: Query,
     limits: Limits,
+    may_grow: bool,
     solver: &mut Solver,
     proofs: &mut Proofs,
-) -> Result<Option<Reply>, OracleFault>
+) -> Result<Outcome, OracleFault>
     requires asked { IsAsked q }
     requires ready { O.is_ready oracle.old q }
     requires lemmas { 1 ≤ limits.lemmas }
     requires few { (O.encoding (O.fixed oracle.old)).variables (O.stage oracle.old).chain q < 2 ^ 31 }
     requires filled { IsFilled (problem_of limits ((O.encoding (O.fixed oracle.old)).variables (O.stage oracle.old).chain q)
         ((O.encoding (O.fixed oracle.old)).clauses (O.stage oracle.old).chain q)) solver.old }
-    ensures goes_on { IfOk result (GoesOn (O.Source.machine (O.source (O.fixed oracle.old))) (O.encoding (O.fixed oracle.old)) limits q
+    ensures goes_on { IfOk result (GoesOn (O.Source.machine (O.source (O.fixed oracle.old))) (O.encoding (O.fixed oracle.old)) limits may_grow q
         (O.stage oracle.old) (O.stage oracle.new) proofs.old proofs.new) }
     ensures err { OnErr result (O.stage oracle.new ≡ O.stage oracle.old) }
     ensures no_gates { result ≡ Err OracleFault.Gates → ⊥ }
@@ -145,21 +171,24 @@ fn decided<O: Oracle>(
     solver.set_lemmas(limits.lemmas);
     match solver.solve() {
         Answer::Sat => match told(oracle, q, solver)? {
-            Some(trace) => Ok(Some(Reply::Met(trace))),
-            None => Ok(None),
+            Some(trace) => Ok(Outcome::Replied(Reply::Met(trace))),
+            None => Ok(Outcome::PutBack),
         },
         Answer::Unsat => {
             refuted(alloc, oracle, q, solver, proofs)?;
-            Ok(Some(Reply::Refuted))
+            Ok(Outcome::Replied(Reply::Refuted))
         }
         Answer::SpentLemmas => {
             add_proof(alloc, oracle, q, solver, proofs)?;
-            Ok(Some(Reply::SpentLemmas))
+            Ok(Outcome::Replied(Reply::SpentLemmas))
         }
         Answer::SpentRegion { need } => {
+            if may_grow {
+                return Ok(Outcome::TooFew);
+            }
             add_proof(alloc, oracle, q, solver, proofs)?;
             let next = copied_line(alloc, solver.next())?;
-            Ok(Some(Reply::SpentRegion(need, Some(next))))
+            Ok(Outcome::Replied(Reply::SpentRegion(need, Some(next))))
         }
     }
 }
@@ -170,9 +199,10 @@ fn posed<O: Oracle>(
     oracle: &mut O,
     q: Query,
     limits: Limits,
+    may_grow: bool,
     solver: &mut Solver,
     proofs: &mut Proofs,
-) -> Result<Option<Reply>, OracleFault>
+) -> Result<Outcome, OracleFault>
     requires asked { IsAsked q }
     requires ready { O.is_ready oracle.old q }
     requires lemmas { 1 ≤ limits.lemmas }
@@ -182,30 +212,31 @@ fn posed<O: Oracle>(
       outcome = None;
     } }
     requires fit { 2 * (O.encoding (O.fixed oracle.old)).variables (O.stage oracle.old).chain q ≤ limits.words }
-    ensures goes_on { IfOk result (GoesOn (O.Source.machine (O.source (O.fixed oracle.old))) (O.encoding (O.fixed oracle.old)) limits q
+    ensures goes_on { IfOk result (GoesOn (O.Source.machine (O.source (O.fixed oracle.old))) (O.encoding (O.fixed oracle.old)) limits may_grow q
         (O.stage oracle.old) (O.stage oracle.new) proofs.old proofs.new) }
     ensures err { OnErr result (O.stage oracle.new ≡ O.stage oracle.old) }
     ensures no_gates { result ≡ Err OracleFault.Gates → ⊥ }
     ensures fixed_kept { O.fixed oracle.new ≡ O.fixed oracle.old }
 {
     match fill(oracle, q, solver, limits)? {
-        Some(need) => Ok(Some(full(alloc, oracle, q, limits, need, proofs)?)),
-        None => decided(alloc, oracle, q, limits, solver, proofs),
+        Some(need) => Ok(full(alloc, oracle, q, limits, may_grow, need, proofs)?),
+        None => decided(alloc, oracle, q, limits, may_grow, solver, proofs),
     }
 }
 
-/// What comes of the query under the present chain. There is no reply where cells were put back.
+/// What comes of the query under the present chain, in a region of so many words.
 fn ask_once<O: Oracle>(
     alloc: Global,
     oracle: &mut O,
     q: Query,
     limits: Limits,
+    may_grow: bool,
     proofs: &mut Proofs,
-) -> Result<Option<Reply>, OracleFault>
+) -> Result<Outcome, OracleFault>
     requires asked { IsAsked q }
     requires lemmas { 1 ≤ limits.lemmas }
     requires words { limits.words ≤ 250000000 }
-    ensures goes_on { IfOk result (GoesOn (O.Source.machine (O.source (O.fixed oracle.old))) (O.encoding (O.fixed oracle.old)) limits q
+    ensures goes_on { IfOk result (GoesOn (O.Source.machine (O.source (O.fixed oracle.old))) (O.encoding (O.fixed oracle.old)) limits may_grow q
         (O.stage oracle.old) (O.stage oracle.new) proofs.old proofs.new) }
     ensures err { OnErr result (O.stage oracle.new ≡ O.stage oracle.old) }
     ensures gates { result ≡ Err OracleFault.Gates → (O.encoding (O.fixed oracle.old)).passes (O.stage oracle.old).chain ≡ true }
@@ -214,16 +245,28 @@ fn ask_once<O: Oracle>(
     let variables = oracle.variables(q)?;
     match Solver::make(alloc, variables, limits.words, limits.lemmas) {
         Ok(mut solver) => {
-            let reply = posed(alloc, oracle, q, limits, &mut solver, proofs);
+            let outcome = posed(alloc, oracle, q, limits, may_grow, &mut solver, proofs);
             drop(solver);
-            reply
+            outcome
         }
-        Err(MakeFault::Full { need }) => Ok(Some(full(alloc, oracle, q, limits, need, proofs)?)),
+        Err(MakeFault::Full { need }) => Ok(full(
+            alloc, oracle, q, limits, may_grow, need, proofs,
+        )?),
         Err(MakeFault::NoMemory) => Err(OracleFault::NoMemory),
     }
 }
 
-/// What comes of the query: it is asked again after each round in which cells were put back, in a solver of its own.
+/// More words, where there may be more.
+fn more(words: u64, most: u64) -> u64
+    requires { words < most }
+    ensures more { words < result }
+    ensures most { result ≤ most }
+{
+    words.saturating_mul(TIMES).max(words + 1).min(most)
+}
+
+/// What comes of the query: it is asked again after each round in which cells were put back, and with more words where they were too few,
+/// each time in a solver of its own.
 pub(crate) fn ask<O: Oracle>(
     alloc: Global,
     oracle: &mut O,
@@ -240,10 +283,13 @@ pub(crate) fn ask<O: Oracle>(
     ensures gates { result ≡ Err OracleFault.Gates → (O.encoding (O.fixed oracle.old)).passes (O.stage oracle.new).chain ≡ true }
     ensures fixed_kept { O.fixed oracle.new ≡ O.fixed oracle.old }
 {
+    let mut words = limits.words.min(FIRST);
     'rounds: loop {
-        match ask_once(alloc, oracle, q, limits, proofs)? {
-            Some(reply) => return Ok(reply),
-            None => {}
+        let within = Limits { words, ..limits };
+        match ask_once(alloc, oracle, q, within, words < limits.words, proofs)? {
+            Outcome::Replied(reply) => return Ok(reply),
+            Outcome::PutBack => {}
+            Outcome::TooFew => words = more(words, limits.words),
         }
     }
 }

@@ -130,7 +130,7 @@ fn go<O: Oracle>(
 /// Asks step(0), base(1), step(1), base(2), and so on up to step of the depth, each in a solver of its own, until a base query is met,
 /// a step query is refuted or a limit is spent. `Gates` comes where the circuit of the oracle's chain passes the limit on circuits.
 ///
-/// One solver's memory is held at a time, besides the proofs.
+/// One solver's memory is held at a time, besides the proofs. It has 65,536 words first, and more only where a query needs them.
 pub fn decide<O: Oracle>(
     alloc: Global,
     oracle: &mut O,

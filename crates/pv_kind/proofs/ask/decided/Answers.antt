@@ -20,4 +20,5 @@ returns-in_ok-next-in-SpentRegion-clause-goes_on g c =
       refl,
       adds e s c.args.limits c.args.q (λ (x : Problem) (all : List Line). SpendsWords x all need (Some next)) c.args.proofs.now
           c.add_proof-in-SpentRegion.new.proofs lines c.in_ok-add_proof-in-SpentRegion.ensures.ok (posed_region p solved is lines next need spent),
+      c.if-may_grow.false,
     )
