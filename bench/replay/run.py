@@ -6,10 +6,11 @@ Usage: run.py [n [scans]]: blocks of n and 2n variables (10,000) and traces of s
 has at most 20,000 cells, so n is at most 10,000. The script `plcv` at the top builds the program where it is missing.
 `show` is timed on the same traces as `replay`, with inputs that change in each scan and that don't, where it prints two lines a scan.
 The last rows are the blocks of bench/scans, in SCL and STL, by the whole command and beside the same blocks in C (gcc -O1): reading the
-trace counts with the scans."""
+trace counts with the scans. Where `valgrind` is there also the instructions of replays whose cells lie near each other and far."""
 import importlib.util
 import json
 import pathlib
+import shutil
 import subprocess
 import sys
 import tempfile
@@ -17,7 +18,7 @@ import tempfile
 ROOT = pathlib.Path(__file__).resolve().parent.parent.parent
 sys.path.insert(0, str(ROOT / "bench"))
 sys.dont_write_bytecode = True
-from measure import compare, machine, measured  # noqa: E402
+from measure import compare, instructions, machine, measured  # noqa: E402
 
 PROGRAM = ROOT / "crates" / "plcv" / "out" / "plcv"
 MIB = 2**20
@@ -135,19 +136,25 @@ def trace_of(inputs, scans, changing=True):
     return "PLCVTRACE 1\nparams\n" + "".join(rows) * (scans // 2) + rows[0] * (scans % 2) + "end\n"
 
 
-def replay(place, made, scans):
-    """The measured replay of so many scans of a source with so many inputs, and the MiB of source and trace."""
+def write(place, made, scans):
+    """Writes the files of a replay of so many scans of a source with so many inputs; the source and the trace, and the command."""
     source, inputs = made
     trace = trace_of(inputs, scans)
     (place / "source.scl").write_text(source)
     (place / "trace.txt").write_text(trace)
     (place / "case.json").write_text(json.dumps(case_of(place / "source.scl")))
+    return source, trace, [PROGRAM, "replay", place / "case.json", place / "trace.txt"]
+
+
+def replay(place, made, scans):
+    """The measured replay of so many scans of a source with so many inputs, and the MiB of source and trace."""
+    source, trace, command = write(place, made, scans)
     wanted = f"PLCV 1\ncase bench\npattern invariant\nreplay kept\nscans {scans}\n"
     if "((((" in source:
         # None of them is closed where the statement ends.
         before = source[:source.rindex(";")].split("\n")
         wanted = f"plcv: {place / 'source.scl'}:{len(before)}:{len(before[-1]) + 1}: Syntax\n"
-    found = measured([PROGRAM, "replay", place / "case.json", place / "trace.txt"], statuses=(0, 3))
+    found = measured(command, statuses=(0, 3))
     if found[2] != wanted:
         sys.exit(found[2])
     return found, len(source) / MIB, len(trace) / MIB
@@ -160,6 +167,12 @@ def pair(place, name, made, scans):
         found, of_source, of_trace = replay(place, source, count)
         rows.append((f"source {of_source:.2f} MiB, {count} scans in {of_trace:.2f} MiB", found))
     compare(name, *rows)
+
+
+def count(place, name, made):
+    """Compares the instructions of replays of one scan of two sources, which no load changes."""
+    one, two = (instructions(write(place, source, 1)[2]) for source in made)
+    print(f"{name}: {two / one:.2f} times the instructions, {one / 1e6:.0f} and {two / 1e6:.0f} million", flush=True)
 
 
 def shown(place, made, scans, changing):
@@ -224,6 +237,8 @@ def main():
         for name, reads in ("near", lambda k: (k, k + 1, k + 2)), ("far", lambda k: (k * 7919, k * 104729, k * 31)):
             made = [full(n, 2 * MIB, reads), full(2 * n, 4 * MIB, reads)]
             pair(place, f"{n} and {2 * n} cells in 2 and 4 MiB, {name} ones read", made, [1, 1])
+            if shutil.which("valgrind"):
+                count(place, f"{name} ones read", made)
         pair(place, "30 variables and assignments", [mixed(30)] * 2, [scans, 2 * scans])
         for changing in True, False:
             shown(place, mixed(30), scans, changing)
