@@ -28,20 +28,8 @@ EQUATIONS = {"Finds", "Gives", "Leaves", "Pops"}
 NEAREST = "its clause is that of `wrong_label`, the nearest place of a rule; `check` of pv_rules, which is tested, is proved from it"
 READING = "`parse` of pv_scl_parse and of pv_stl_parse and `expression`, which are tested, say the same of their languages and are proved from it"
 COPYING = "it says by equations what stands in the vector after the call, or what each field of the answer is; `inline` of pv_inline, which is tested, is proved from it"
-COUNTING = "equations say what it makes, and a clause where only memory may be wanting; `inline` of pv_inline, which is tested, is proved from it"
 LEARNING = "`solve` of pv_solver, which is tested, is proved from it"
 EXCEPTIONS = {
-    "pv_call_tables::add": COUNTING,
-    "pv_call_tables::behind": COUNTING,
-    "pv_call_tables::counts": COUNTING,
-    "pv_call_tables::drawn_before": COUNTING,
-    "pv_call_tables::edges_of": COUNTING,
-    "pv_call_tables::number_of": COUNTING,
-    "pv_call_tables::overs_of": COUNTING,
-    "pv_call_tables::ranks": COUNTING,
-    "pv_call_tables::starts": COUNTING,
-    "pv_call_tables::text_size": COUNTING,
-    "pv_call_tables::traps_of": COUNTING,
     "pv_call_terms::Places::of_callee": COPYING,
     "pv_call_terms::Places::of_entry": COPYING,
     "pv_call_terms::add_deeds": COPYING,
