@@ -224,7 +224,7 @@ bare_never blocks one (Err fault) large = never
   where
     never : fault ≡ Numbers → ⊥
     never same =
-        (subst (λ (f : TooLarge). IsTooMany (blocks_in blocks) blocks 0 f) same large)
+        (subst (λ (f : TooLarge). IsTooMany (blocks_in blocks) blocks 0 f) same large).1
         (subst (λ (bs : List (Option CodeParts)). HasShortCopies bs 0) (sym one.block) (
           bare_short (Some one.parts ∷ []) one.parts one.locations one.end one.bare one.few,
           bare_variables (blocks_in (Some one.parts ∷ [])) one.parts one.locations one.end one.bare,

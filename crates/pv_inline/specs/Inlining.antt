@@ -1,5 +1,5 @@
 -- The automaton with copies, put together of what was made.
-use Rattle.std.specs.Prelude.{◌≡◌, ℕ, ◌<◌, List, [], length, MatchOption, Option, Some, None}
+use Rattle.std.specs.Prelude.{◌≡◌, ℕ, ◌<◌, ◌≤◌, List, [], length, MatchOption, Option, Some, None}
 use Rattle.pv_flow.specs.declared.parts.Variable.{Variable as CodeVariable}
 use Rattle.pv_flow.specs.declared.parts.Parts.{Parts as CodeParts}
 use Rattle.pv_flow.specs.declared.inlined_machine.Inlined.{Inlined}
@@ -61,10 +61,10 @@ IsInlinedAs blocks b n m = MatchOption (block_at blocks b) ⊥ (λ p. (inlined_p
 abbrev pub HasTheMachine : Blocks → ℕ → ℕ → Inlined → Type 0
 HasTheMachine blocks b n m = MatchOption (block_at blocks b) ⊥ (λ p. IsMachineWithCalls blocks n p (inlined_machine (inlined_parts m) n))
 
--- numbers may run out only where not each number of the copies has 32 bits
+-- numbers may run out only where edges aren't too many and not each number of the copies has 32 bits
 abbrev pub IsTooMany : Blocks → List (Option CodeParts) → ℕ → TooLarge → Type 0
 IsTooMany blocks codes b Edges = MAX_EDGES < inlined_size blocks b
-IsTooMany blocks codes b Numbers = HasShortCopies codes b → ⊥
+IsTooMany blocks codes b Numbers = (inlined_size blocks b ≤ MAX_EDGES) × (HasShortCopies codes b → ⊥)
 IsTooMany blocks codes b NoMemory = Unit {0}
 
 -- ---- what private clauses cite
