@@ -48,10 +48,9 @@ impl<'p> Entry<'p> {
         ensures { IfOk result (λ e. block_of e ≡ block_tree block.now) }
     {
         let vars = one_by_one(alloc, block.interface.vars.as_slice())?;
-        let numbers = Firsts::of_vars(alloc, vars.as_slice())?;
+        let (numbers, unique) = Firsts::of_vars(alloc, vars.as_slice())?;
         let needed = needed_among(alloc, &block.kind, vars.as_slice())?;
         let sole = sole_input(vars.as_slice());
-        let unique = numbers.has_each(vars.as_slice());
         let doubled = Doubled::of(alloc, unique, vars.as_slice())?;
         Ok(Entry {
             block,

@@ -1,5 +1,5 @@
 //! Names with their numbers in a list, of which the first of each name is found.
-ghost use Rattle.std.specs.Prelude.{◌≡◌, ◌↔◌, ℕ, List, None, Some, OnOk, IfOk, IsTrue, map};
+ghost use Rattle.std.specs.Prelude.{◌≡◌, ◌↔◌, ◌&&◌, ℕ, List, None, Some, OnOk, IfOk, IsTrue, map};
 ghost use Rattle.pv_names.specs.Firsts.{number_in, or_number, FindsFirsts, FindsEach};
 ghost use Rattle.std.specs.Prelude.{bytes_eq};
 
@@ -14,6 +14,13 @@ use std::alloc::{AllocError, Global};
 #[derive(Drop)]
 pub struct Firsts {
     numbers: IndexMap<Text, usize>,
+}
+
+/// Whether both are so.
+fn both(a: bool, b: bool) -> bool
+    ensures { result ≡ (a && b) }
+{
+    a && b
 }
 
 impl Firsts {
@@ -31,12 +38,7 @@ impl Firsts {
         ensures { OnOk result ((key : List ℕ) → number_in self.new key
             ≡ or_number (number_in self.old key) (bytes_eq key name.now.key) number) }
     {
-        let own = name.key();
-        if self.numbers.contains_key(own) {
-            return Ok(());
-        }
-        let key = own.clone()?;
-        self.numbers.insert(key, number)?;
+        let _ = self.push_new(name, number)?;
         Ok(())
     }
 
@@ -50,37 +52,35 @@ impl Firsts {
         }
     }
 
-    /// Whether this is the number of a name.
-    fn has_at(&self, name: &Name, number: usize) -> bool
-        ensures { IsTrue result ↔ (number_in self.now name.now.key ≡ Some number) }
+    /// Puts a name with its number behind the others, and tells whether it wasn't there.
+    fn push_new(&mut self, name: &Name, number: usize) -> Result<bool, AllocError>
+        ensures pushed { OnOk result ((key : List ℕ) → number_in self.new key
+            ≡ or_number (number_in self.old key) (bytes_eq key name.now.key) number) }
+        ensures new { IfOk result (λ new. IsTrue new ↔ (number_in self.old name.now.key ≡ None)) }
     {
-        match self.find(name) {
-            Some(first) => first == number,
-            None => false,
+        let own = name.key();
+        if self.numbers.contains_key(own) {
+            return Ok(false);
         }
+        let key = own.clone()?;
+        self.numbers.insert(key, number)?;
+        Ok(true)
     }
 
-    /// Whether each variable's own number is that of its name.
-    pub(crate) fn has_each(&self, vars: &[Var]) -> bool
-        ensures { IsTrue result ↔ FindsEach self.now (map (λ v. v.name.now.key) vars.now) }
+    /// The names of variables, and whether no two are the same.
+    pub(crate) fn of_vars(alloc: Global, vars: &[Var]) -> Result<(Firsts, bool), AllocError>
+        ensures firsts { IfOk result (λ r. FindsFirsts r.0 (map (λ v. v.name.now.key) vars.now)) }
+        ensures unique { IfOk result (λ r. IsTrue r.1 ↔ FindsEach r.0 (map (λ v. v.name.now.key) vars.now)) }
     {
+        let mut firsts = Firsts {
+            numbers: IndexMap::with_capacity(alloc, vars.len())?,
+        };
+        let mut unique = true;
         for (i, var) in vars.iter().enumerate() {
-            if !self.has_at(var.name, i) {
-                return false;
-            }
+            let new = firsts.push_new(var.name, i)?;
+            unique = both(unique, new);
         }
-        true
-    }
-
-    /// The names of variables.
-    pub(crate) fn of_vars(alloc: Global, vars: &[Var]) -> Result<Firsts, AllocError>
-        ensures { IfOk result (λ f. FindsFirsts f (map (λ v. v.name.now.key) vars.now)) }
-    {
-        let mut firsts = Firsts::new(alloc);
-        for (i, var) in vars.iter().enumerate() {
-            firsts.push(var.name, i)?;
-        }
-        Ok(firsts)
+        Ok((firsts, unique))
     }
 
     /// The names of symbols.

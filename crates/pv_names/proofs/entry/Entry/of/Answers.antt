@@ -16,7 +16,7 @@ invariant_of-result-clause-all c = c.in_ok-vars.ensures ∙ ap var_trees c.as_sl
 
 pub invariant_of-result-clause-by_name : goal.invariant_of-result-clause-by_name
 invariant_of-result-clause-by_name c = λ key.
-    c.in_ok-numbers.ensures key ∙ ap (λ vars. first_number (bytes_eq key) (map (λ v. v.name.now.key) vars)) c.as_slice-2.ensures.value
+    c.in_ok-numbers.ensures.firsts key ∙ ap (λ vars. first_number (bytes_eq key) (map (λ v. v.name.now.key) vars)) c.as_slice-2.ensures.value
 
 pub invariant_of-result-clause-all_needed : goal.invariant_of-result-clause-all_needed
 invariant_of-result-clause-all_needed c =
@@ -30,16 +30,14 @@ pub invariant_of-result-clause-apart : goal.invariant_of-result-clause-apart
 invariant_of-result-clause-apart c =
     let key : Var → List ℕ = λ v. v.name.now.key in
     let name : VarTree → List ℕ = λ v. (name_of v).key in
-    let vars = c.as_slice-5.result.now in
+    let vars = c.as_slice-2.result.now in
     told_by_table (number_in c.in_ok-numbers.numbers) (map key vars) (map name (var_trees c.args.block.now.interface.vars.items))
-    c.has_each-unique.result
-    (λ q. c.in_ok-numbers.ensures q
-    ∙ ap (λ vars. first_number (bytes_eq q) (map key vars)) (c.as_slice-2.ensures.value ∙ sym c.as_slice-5.ensures.value))
+    c.in_ok-numbers.unique c.in_ok-numbers.ensures.firsts
     (sym (map-map name var_tree vars)
-    ∙ ap (map name) (ap (map var_tree) c.as_slice-5.ensures.value ∙ c.in_ok-vars.ensures ∙ ap var_trees c.as_slice.ensures.value))
-    c.has_each-unique.ensures
+    ∙ ap (map name) (ap (map var_tree) c.as_slice-2.ensures.value ∙ c.in_ok-vars.ensures ∙ ap var_trees c.as_slice.ensures.value))
+    c.in_ok-numbers.ensures.unique
 
 pub invariant_of-result-clause-by_part : goal.invariant_of-result-clause-by_part
 invariant_of-result-clause-by_part c =
-    subst (λ (vars : List Var). FindsDoubled c.in_ok-doubled.doubled c.has_each-unique.result (map var_tree vars))
-    c.as_slice-6.ensures.value c.in_ok-doubled.ensures
+    subst (λ (vars : List Var). FindsDoubled c.in_ok-doubled.doubled c.in_ok-numbers.unique (map var_tree vars))
+    c.as_slice-5.ensures.value c.in_ok-doubled.ensures
